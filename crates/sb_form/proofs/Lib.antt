@@ -1,0 +1,4 @@
+mod DecimalsAreReadBack
+mod NumbersEndAtTheirPoint
+mod FormHasOneReading
+mod Examples

@@ -1,0 +1,8 @@
+//! The first form of the input: one fixed exchange text (ISO 10303-21) that holds six numbers and
+//! means one box-shaped space. Read `specs/FirstForm.antt` first: it gives the text line by line.
+#![tactic(auto)]
+
+mod matcher;
+mod number;
+
+pub use matcher::{FirstForm, first_form};
