@@ -1,0 +1,3 @@
+-- What contracts of this crate cite, in reading order.
+pub mod Extents
+pub mod BoxList

@@ -1,0 +1,2 @@
+-- What contracts of this crate cite, in reading order.
+pub mod Command

@@ -1,0 +1,46 @@
+// The answers of the program and their statuses.
+ghost use Rattle.std.specs.Prelude.{◌≡◌};
+ghost use Rattle.sb_run.specs.Answers.{status};
+
+use sb_model::Boundaries;
+
+/// Why an input of this length is refused.
+#[derive(Clone, Copy)]
+pub enum Code {
+    /// The program does not read inputs of this form yet.
+    Unbuilt,
+}
+
+/// The answer of a run.
+#[derive(Drop)]
+pub enum Answer {
+    /// The report was written; these are its boundaries.
+    Done(Boundaries),
+    /// The words are no command.
+    Usage,
+    /// Opening or reading the input has failed.
+    ReadFault,
+    /// The input is longer than 67,108,864 bytes.
+    TooLong,
+    /// The input is refused because of the instance with this number, or of the whole where it is 0.
+    Refused(u32, Code),
+    /// Creating or writing an output has failed. A first part of its text may stand on it.
+    WriteFault,
+    /// There was no memory. Nothing was created.
+    NoMemory,
+}
+
+/// The status that the program ends with.
+pub fn status(answer: &Answer) -> u8
+    ensures { result ≡ status answer.now }
+{
+    match answer {
+        Answer::Done(_) => 0,
+        Answer::Usage => 2,
+        Answer::ReadFault => 3,
+        Answer::TooLong => 4,
+        Answer::Refused(_, _) => 6,
+        Answer::WriteFault => 10,
+        Answer::NoMemory => 11,
+    }
+}
