@@ -1,0 +1,7 @@
+-- The laws by topic.
+pub mod Shapes
+pub mod Ring
+pub mod Signs
+pub mod Products
+pub mod Arrows
+pub mod ThreeTerms

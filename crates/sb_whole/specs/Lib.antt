@@ -1,0 +1,5 @@
+-- What the laws speak of, in reading order.
+pub mod Tests
+pub mod Arrows
+pub mod Rationals
+pub mod Reduced
