@@ -5,3 +5,6 @@ pub mod Signs
 pub mod Products
 pub mod Arrows
 pub mod ThreeTerms
+pub mod Folds
+pub mod SignTables
+pub mod Rationals
