@@ -118,3 +118,39 @@ dot-turned a b =
     equal (plus (times (negated (var a.y)) (var b.x)) (times (var a.x) (var b.y)))
     (minus (times (var a.x) (var b.y)) (times (var a.y) (var b.x)))
     (omega arith)
+
+pub opposite-dot : (a b : Arrow) → dot (opposite a) b ≡ neg_ℤ (dot a b)
+unfolding dot
+opposite-dot a b =
+    equal (plus (times (negated (var a.x)) (var b.x)) (times (negated (var a.y)) (var b.y)))
+    (negated (dot_is a b))
+    (omega arith)
+
+-- ---- mirror images
+
+neg-neg : (n : ℤ) → neg_ℤ (neg_ℤ n) ≡ n
+neg-neg n = equal (negated (negated (var n))) (var n) (omega arith)
+
+pub mirror-mirror : (a : Arrow) → mirror (mirror a) ≡ a
+mirror-mirror a = same_arrow (mirror (mirror a)) a refl (neg-neg a.y)
+
+pub mirror-dot : (a b : Arrow) → dot (mirror a) b ≡ dot a (mirror b)
+unfolding dot
+mirror-dot a b =
+    equal (plus (times (var a.x) (var b.x)) (times (negated (var a.y)) (var b.y)))
+    (plus (times (var a.x) (var b.x)) (times (var a.y) (negated (var b.y))))
+    (omega arith)
+
+pub mirror-cross : (a b : Arrow) → cross (mirror a) b ≡ cross (mirror b) a
+unfolding cross
+mirror-cross a b =
+    equal (minus (times (var a.x) (var b.y)) (times (negated (var a.y)) (var b.x)))
+    (minus (times (var b.x) (var a.y)) (times (negated (var b.y)) (var a.x)))
+    (omega arith)
+
+pub cross-mirror_comm : (a b : Arrow) → cross a (mirror b) ≡ cross b (mirror a)
+unfolding cross
+cross-mirror_comm a b =
+    equal (minus (times (var a.x) (negated (var b.y))) (times (var a.y) (var b.x)))
+    (minus (times (var b.x) (negated (var a.y))) (times (var b.y) (var a.x)))
+    (omega arith)

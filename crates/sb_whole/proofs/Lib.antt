@@ -8,3 +8,5 @@ pub mod ThreeTerms
 pub mod Folds
 pub mod SignTables
 pub mod Rationals
+pub mod Clear
+pub mod Avoid

@@ -1,5 +1,5 @@
 -- The order of rational numbers, mediants, and the values of linear forms between two numbers.
-use Rattle.std.proofs.Common.{◌≡◌, ◌⊎◌, ◌↔◌, inl, inr, sym, refl, arith, ap, ◌∙◌}
+use Rattle.std.proofs.Common.{◌≡◌, ◌⊎◌, ◌↔◌, ⊎_elim, inl, inr, sym, refl, arith, ap, ◌∙◌}
 use Rattle.std.proofs.Common.{ℤ, pos, ◌<ℤ◌, ◌≤ℤ◌, ◌+ℤ◌, ◌-ℤ◌, ◌*ℤ◌, neg_ℤ}
 use Rattle.std.proofs.lemmas.Int.{ints, by_lt_z}
 use Rattle.sb_whole.specs.Arrows.{Arrow, arrow, cross, dot, add, mirror, turned}
@@ -8,7 +8,7 @@ use Rattle.sb_whole.specs.Rationals.{value_at, IsZeroForm, form_of}
 use Rattle.sb_whole.proofs.Shapes.{var, num, plus, minus, negated, times, equal, cross_is, dot_is}
 use Rattle.sb_whole.proofs.Products.{positive_product, weak_product, positive_factor}
 use Rattle.sb_whole.proofs.Products.{weak_factor, zero_of_positive, zero_factor, negative_product}
-use Rattle.sb_whole.proofs.Products.{weak_negative_product, negative_factor}
+use Rattle.sb_whole.proofs.Products.{weak_negative_product, negative_factor, zero_product}
 use Rattle.sb_whole.proofs.ThreeTerms.{three_terms_linear, three_terms, cycle_x, cycle_y}
 use Rattle.sb_whole.proofs.Arrows.{cross-turn, cross-self, cross-add, add-cross, dot-add, cross-mirror}
 use Rattle.sb_whole.proofs.Arrows.{dot-mirror, dot-turned}
@@ -149,3 +149,39 @@ between_from_high form r s t low high whole at_low at_high =
     let other = positive_product (cross r s) (dot form t) low at_high in
     let parts = three_terms_linear form r s t in
     positive_factor (cross r t) (dot form s) whole (omega (arith, ints))
+
+-- ---- the zero of a form
+
+-- one form that is not the zero form is 0 at one number at most
+pub one_zero : (form r s : Arrow) → (IsZeroForm form → ⊥)
+    → value_at form r ≡ pos 0 → value_at form s ≡ pos 0 → IsSame r s
+one_zero form r s apart at_r at_s =
+    ⊎_elim (λ zero. zero)
+    (λ zero_y.
+    ⊎_elim (λ zero. zero) (λ zero_x. absurd (apart (zero_x, zero_y)))
+    (zero_product (cross r s) form.x first))
+    (zero_product (cross r s) form.y second)
+  where
+    first : cross r s *ℤ form.x ≡ pos 0
+    first =
+        equal (times (cross_is r s) (var form.x))
+        (minus (times (var s.y) (dot_is form r)) (times (var r.y) (dot_is form s))) (omega arith)
+        ∙ rw (at_r, at_s)
+        (equal (minus (times (var s.y) (num 0)) (times (var r.y) (num 0))) (num 0) (omega arith))
+
+    second : cross r s *ℤ form.y ≡ pos 0
+    second =
+        equal (times (cross_is r s) (var form.y))
+        (minus (times (var r.x) (dot_is form s)) (times (var s.x) (dot_is form r))) (omega arith)
+        ∙ rw (at_r, at_s)
+        (equal (minus (times (var r.x) (num 0)) (times (var s.x) (num 0))) (num 0) (omega arith))
+
+-- the values at two vectors that are one number have one sign
+pub value_at_same : (form r s : Arrow) → IsSame r s
+    → s.x *ℤ value_at form r ≡ r.x *ℤ value_at form s
+value_at_same form r s same =
+    equal (times (var s.x) (dot_is form r))
+    (minus (times (var r.x) (dot_is form s)) (times (var form.y) (cross_is r s))) (omega arith)
+    ∙ rw same
+    (equal (minus (times (var r.x) (var (dot form s))) (times (var form.y) (num 0)))
+    (times (var r.x) (var (dot form s))) (omega arith))

@@ -2,4 +2,5 @@
 pub mod Tests
 pub mod Arrows
 pub mod Rationals
+pub mod Intervals
 pub mod Reduced

@@ -1,5 +1,5 @@
 -- Rational numbers as vectors (denominator, numerator), not reduced, and linear forms on them.
-use Rattle.std.specs.Prelude.{◌≡◌, ℤ, pos, ◌<ℤ◌, ◌≤ℤ◌, Bool}
+use Rattle.std.specs.Prelude.{◌≡◌, ℤ, pos, neg_ℤ, ◌<ℤ◌, ◌≤ℤ◌, Bool, if◌then◌else◌}
 use Rattle.sb_whole.specs.Arrows.{Arrow, arrow, cross, dot, add, turned}
 use Rattle.sb_whole.specs.Tests.{is_positive}
 
@@ -43,3 +43,8 @@ IsZeroForm form = (form.x ≡ pos 0) × (form.y ≡ pos 0)
 -- the form that is 0 at f alone, above 0 at greater numbers and below 0 at smaller ones
 abbrev pub form_of : Arrow → Arrow
 form_of f = turned f
+
+-- the number at which the form a·D + b·N is 0: -a/b, its denominator above 0 where b is not 0
+abbrev pub zero_of : Arrow → Arrow
+zero_of form =
+    if is_positive form.y then rational (neg_ℤ form.x) form.y else rational form.x (neg_ℤ form.y)
