@@ -1,8 +1,7 @@
 -- Products of plane vectors: how they change with their arguments.
-use Rattle.std.proofs.Common.{◌≡◌, refl, arith, ℤ, pos, ◌+ℤ◌, ◌-ℤ◌, ◌*ℤ◌, neg_ℤ, ap₂}
+use Rattle.std.proofs.Common.{◌≡◌, refl, arith, ℤ, pos, ◌+ℤ◌, ◌*ℤ◌, neg_ℤ, ap₂}
 use Rattle.sb_whole.specs.Arrows.{Arrow, arrow, cross, dot, add, scale, opposite, turned, mirror}
 use Rattle.sb_whole.proofs.Shapes.{var, num, plus, minus, negated, times, equal, cross_is, dot_is}
-use Rattle.sb_whole.proofs.Shapes.{cross_eq, dot_eq}
 
 -- two vectors with equal coordinates are equal
 pub same_arrow : (a b : Arrow) → a.x ≡ b.x → a.y ≡ b.y → a ≡ b

@@ -1,15 +1,15 @@
 -- Between two numbers there is one at which finitely many forms are not 0, and one that is none of
 -- a finite list.
-use Rattle.std.proofs.Common.{◌≡◌, ◌⊎◌, inl, inr, arith, List, [], ◌∷◌, map, ℤ, pos, ◌<ℤ◌, neg_ℤ}
+use Rattle.std.proofs.Common.{◌≡◌, inl, inr, arith, List, [], ◌∷◌, map, pos}
 use Rattle.std.proofs.lemmas.Int.{ints}
 use Rattle.std.specs.List.{AllByRecursion}
-use Rattle.sb_whole.specs.Arrows.{Arrow, cross, dot, turned}
+use Rattle.sb_whole.specs.Arrows.{Arrow, cross}
 use Rattle.sb_whole.specs.Rationals.{IsRational, IsBelow, IsSame, mediant, value_at, form_of}
-use Rattle.sb_whole.specs.Rationals.{IsZeroForm}
+use Rattle.sb_whole.specs.Rationals.{IsForm}
 use Rattle.sb_whole.specs.Intervals.{Keeps, AllKeep, clear_end, avoiding, another}
 use Rattle.sb_whole.proofs.Arrows.{dot-turned}
 use Rattle.sb_whole.proofs.Rationals.{mediant-IsRational, mediant_between, below_at_most_trans}
-use Rattle.sb_whole.proofs.Clear.{IsForm, IsClearTo, clear_to}
+use Rattle.sb_whole.proofs.Clear.{clear_to}
 
 -- the form is not 0 at u
 abbrev pub IsOffZero : Arrow → Arrow → Type 0

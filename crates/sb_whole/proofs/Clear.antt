@@ -1,28 +1,27 @@
 -- After each number there is an interval in which finitely many forms keep their sign; and before
 -- each number there is one.
-use Rattle.std.proofs.Common.{◌≡◌, ◌⊎◌, ⊎_elim, inl, inr, refl, sym, ap, ◌∙◌, arith, subst}
+use Rattle.std.proofs.Common.{◌≡◌, inl, inr, refl, ◌∙◌, arith}
 use Rattle.std.proofs.Common.{Bool, true, false, List, [], ◌∷◌, map, cond}
-use Rattle.std.proofs.Common.{ℤ, pos, ◌<ℤ◌, ◌≤ℤ◌, ◌+ℤ◌, ◌-ℤ◌, ◌*ℤ◌, neg_ℤ, int_lt}
+use Rattle.std.proofs.Common.{ℤ, pos, ◌<ℤ◌, ◌≤ℤ◌, ◌-ℤ◌, ◌*ℤ◌, neg_ℤ}
 use Rattle.std.proofs.lemmas.Int.{ints, by_lt_z}
 use Rattle.std.specs.List.{AllByRecursion}
-use Rattle.sb_whole.specs.Tests.{is_positive, is_negative}
 use Rattle.sb_whole.specs.Arrows.{Arrow, arrow, cross, dot, mirror, opposite}
-use Rattle.sb_whole.specs.Rationals.{IsRational, IsBelow, IsAtMost, IsSame, mediant, value_at}
-use Rattle.sb_whole.specs.Rationals.{IsZeroForm, zero_of, rational}
+use Rattle.sb_whole.specs.Rationals.{IsRational, IsBelow, IsAtMost, mediant, value_at}
+use Rattle.sb_whole.specs.Rationals.{IsZeroForm, IsForm, zero_of}
 use Rattle.sb_whole.specs.Intervals.{IsPositiveOn, IsNegativeOn, Keeps, AllKeep, changes_sign}
 use Rattle.sb_whole.specs.Intervals.{stop, clear_end, clear_start}
 use Rattle.sb_whole.proofs.Shapes.{var, num, plus, minus, negated, times, equal, cross_is, dot_is}
 use Rattle.sb_whole.proofs.Shapes.{cross_eq, dot_eq}
 use Rattle.sb_whole.proofs.Signs.{less_from, not_less_from, test_less, test_not_less}
-use Rattle.sb_whole.proofs.Products.{positive_product, positive_factor, weak_factor}
-use Rattle.sb_whole.proofs.Products.{negative_factor, negative_product, product_of_negatives}
-use Rattle.sb_whole.proofs.Products.{weak_product, weak_product_of_negatives}
-use Rattle.sb_whole.proofs.Rationals.{between, between_from_low, between_from_high, one_zero}
+use Rattle.sb_whole.proofs.Products.{positive_product, positive_factor}
+use Rattle.sb_whole.proofs.Products.{negative_factor, negative_product}
+use Rattle.sb_whole.proofs.Products.{weak_product_of_negatives}
+use Rattle.sb_whole.proofs.Rationals.{between_from_low, between_from_high, one_zero}
 use Rattle.sb_whole.proofs.Rationals.{below_trans, below_at_most_trans, at_most_refl}
 use Rattle.sb_whole.proofs.Rationals.{at_most_from_below, at_most_trans}
 use Rattle.sb_whole.proofs.Rationals.{mediant-IsRational, mediant_between}
 use Rattle.sb_whole.proofs.Arrows.{opposite-dot, cross-mirror, dot-mirror, mirror-cross}
-use Rattle.sb_whole.proofs.Arrows.{cross-mirror_comm, mirror-mirror}
+use Rattle.sb_whole.proofs.Arrows.{cross-mirror_comm}
 use Rattle.sb_whole.proofs.Ring.{mul_comm, zero-mul}
 
 -- ---- the sign of a form between two numbers, from its signs at them
@@ -150,10 +149,6 @@ falling_zero form r t r_in t_in low at_r at_t =
         dot_eq form (arrow (neg_ℤ form.y) form.x)
         ∙ equal (plus (times (var form.x) (negated (var form.y))) (times (var form.y) (var form.x)))
         (num 0) (omega arith)
-
--- a form that is not the zero form: its coefficients are not both 0
-abbrev pub IsForm : Arrow → Type 0
-IsForm form = IsZeroForm form → ⊥
 
 -- end lies above r and at most at t, and the form keeps its sign from r to end
 pub record IsStop (form r t end : Arrow) : Type 0 where

@@ -1,7 +1,10 @@
 -- Exclusive or, and the parity of how often a test answers true in a list.
-use Rattle.std.proofs.Common.{◌≡◌, refl, sym, ap, ap₂, ◌∙◌, Bool, true, false, not, ◌&&◌, ◌||◌}
-use Rattle.std.proofs.Common.{List, [], ◌∷◌, ◌++◌, map, reverse}
+use Rattle.std.proofs.Common.{◌≡◌, refl, sym, ap, ap₂, ◌∙◌, Bool, true, false, not}
+use Rattle.std.proofs.Common.{List, [], ◌∷◌, ◌++◌, map}
+use Rattle.std.proofs.Common.{ℕ, zero, suc, ◌+◌, cond, count_by, IsPermutation, one-add, zero-add}
 use Rattle.std.proofs.lemmas.Bool.{or_parts}
+use Rattle.std.proofs.lemmas.List.Sums.{sum_by-cons}
+use Rattle.std.proofs.lemmas.List.Sorted.{sum_by-IsPermutation}
 use Rattle.std.specs.List.{list_any}
 use Rattle.sb_whole.specs.Tests.{differ, is_odd_number}
 
@@ -103,3 +106,30 @@ pub is_odd_number-map : {X Y : Type 0} (test : Y → Bool) (f : X → Y) (xs : L
     → is_odd_number test (map f xs) ≡ is_odd_number (λ x. test (f x)) xs
 is_odd_number-map test f [] = refl
 is_odd_number-map test f (x ∷ xs) = ap (differ (test (f x))) (is_odd_number-map test f xs)
+
+-- ---- the parity of a count
+
+-- odd numbers: 1, 3, 5 and so on
+abbrev pub is_odd : ℕ → Bool
+is_odd zero = false
+is_odd (suc n) = not (is_odd n)
+
+-- the fold of exclusive or says whether the test answers true at an odd number of places
+pub is_odd_number-count : {X : Type 0} (test : X → Bool) (xs : List X)
+    → is_odd_number test xs ≡ is_odd (count_by test xs)
+is_odd_number-count test [] = refl
+is_odd_number-count test (x ∷ xs) =
+    rw (sum_by-cons (λ y. cond (test y) 1 0) x xs, is_odd_number-count test xs)
+    (one_more (test x) (count_by test xs))
+  where
+    one_more : (b : Bool) (n : ℕ) → differ b (is_odd n) ≡ is_odd (cond b 1 0 + n)
+    one_more true n = rw one-add
+    one_more false n = rw zero-add
+
+-- and does not see a permutation
+pub is_odd_number-permuted : {X : Type 0} (test : X → Bool) (xs ys : List X)
+    → IsPermutation xs ys → is_odd_number test ys ≡ is_odd_number test xs
+is_odd_number-permuted test xs ys permuted =
+    is_odd_number-count test ys
+    ∙ ap is_odd (sum_by-IsPermutation (λ y. cond (test y) 1 0) xs ys permuted)
+    ∙ sym (is_odd_number-count test xs)

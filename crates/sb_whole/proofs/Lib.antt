@@ -10,3 +10,5 @@ pub mod SignTables
 pub mod Rationals
 pub mod Clear
 pub mod Avoid
+pub mod Reduced
+mod Examples

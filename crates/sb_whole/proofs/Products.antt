@@ -1,9 +1,9 @@
 -- Signs of products, and how an inequality is scaled by a factor and freed of one.
 -- In a name `weak` stands for "at least 0" and "at most 0".
-use Rattle.std.proofs.Common.{◌≡◌, ◌⊎◌, inl, inr, ⊎_elim, refl, sym, ap, ◌∙◌, arith, mul-pos, ◌<◌}
+use Rattle.std.proofs.Common.{◌≡◌, ◌⊎◌, inl, inr, ⊎_elim, arith, mul-pos, ◌<◌}
 use Rattle.std.proofs.Common.{ℤ, pos, negsuc, ◌<ℤ◌, ◌≤ℤ◌, ◌-ℤ◌, ◌*ℤ◌, neg_ℤ}
 use Rattle.std.proofs.lemmas.Int.{ints, by_lt_z}
-use Rattle.sb_whole.proofs.Ring.{mul-neg, neg-mul, neg-mul-neg, mul-sub, mul-zero, zero-mul}
+use Rattle.sb_whole.proofs.Ring.{mul-neg, neg-mul-neg, mul-sub}
 use Rattle.sb_whole.proofs.Ring.{mul_comm}
 
 -- ---- the sign of a product, from the signs of its factors

@@ -1,17 +1,16 @@
 -- The order of rational numbers, mediants, and the values of linear forms between two numbers.
-use Rattle.std.proofs.Common.{◌≡◌, ◌⊎◌, ◌↔◌, ⊎_elim, inl, inr, sym, refl, arith, ap, ◌∙◌}
-use Rattle.std.proofs.Common.{ℤ, pos, ◌<ℤ◌, ◌≤ℤ◌, ◌+ℤ◌, ◌-ℤ◌, ◌*ℤ◌, neg_ℤ}
+use Rattle.std.proofs.Common.{◌≡◌, ◌⊎◌, ⊎_elim, inl, inr, arith, ◌∙◌}
+use Rattle.std.proofs.Common.{pos, ◌<ℤ◌, ◌≤ℤ◌, ◌+ℤ◌, ◌*ℤ◌}
 use Rattle.std.proofs.lemmas.Int.{ints, by_lt_z}
-use Rattle.sb_whole.specs.Arrows.{Arrow, arrow, cross, dot, add, mirror, turned}
-use Rattle.sb_whole.specs.Rationals.{IsRational, rational, IsBelow, IsAtMost, IsSame, mediant}
-use Rattle.sb_whole.specs.Rationals.{value_at, IsZeroForm, form_of}
-use Rattle.sb_whole.proofs.Shapes.{var, num, plus, minus, negated, times, equal, cross_is, dot_is}
+use Rattle.sb_whole.specs.Arrows.{Arrow, cross, dot}
+use Rattle.sb_whole.specs.Rationals.{IsRational, IsBelow, IsAtMost, IsSame, mediant}
+use Rattle.sb_whole.specs.Rationals.{value_at, IsForm}
+use Rattle.sb_whole.proofs.Shapes.{var, num, plus, minus, times, equal, cross_is, dot_is}
 use Rattle.sb_whole.proofs.Products.{positive_product, weak_product, positive_factor}
-use Rattle.sb_whole.proofs.Products.{weak_factor, zero_of_positive, zero_factor, negative_product}
-use Rattle.sb_whole.proofs.Products.{weak_negative_product, negative_factor, zero_product}
-use Rattle.sb_whole.proofs.ThreeTerms.{three_terms_linear, three_terms, cycle_x, cycle_y}
-use Rattle.sb_whole.proofs.Arrows.{cross-turn, cross-self, cross-add, add-cross, dot-add, cross-mirror}
-use Rattle.sb_whole.proofs.Arrows.{dot-mirror, dot-turned}
+use Rattle.sb_whole.proofs.Products.{weak_factor, zero_of_positive}
+use Rattle.sb_whole.proofs.Products.{zero_product}
+use Rattle.sb_whole.proofs.ThreeTerms.{three_terms_linear}
+use Rattle.sb_whole.proofs.Arrows.{cross-turn, cross-self, cross-add, add-cross, dot-add}
 
 -- the denominators of three numbers and their distances
 denominators : (r s t : Arrow)
@@ -153,7 +152,7 @@ between_from_high form r s t low high whole at_low at_high =
 -- ---- the zero of a form
 
 -- one form that is not the zero form is 0 at one number at most
-pub one_zero : (form r s : Arrow) → (IsZeroForm form → ⊥)
+pub one_zero : (form r s : Arrow) → IsForm form
     → value_at form r ≡ pos 0 → value_at form s ≡ pos 0 → IsSame r s
 one_zero form r s apart at_r at_s =
     ⊎_elim (λ zero. zero)

@@ -1,8 +1,8 @@
 -- Signs as Boolean variables: what equal and different bits say of a product, and tables that
 -- turn such facts into equations of tests.
-use Rattle.std.proofs.Common.{◌≡◌, refl, sym, ◌∙◌, Bool, true, false, not, ◌&&◌, ◌||◌, arith}
-use Rattle.std.proofs.Common.{ℤ, pos, ◌<ℤ◌, ◌≤ℤ◌, ◌*ℤ◌, int_lt, cond}
-use Rattle.std.proofs.lemmas.Int.{ints, by_lt_z}
+use Rattle.std.proofs.Common.{◌≡◌, refl, ◌∙◌, Bool, true, false, not, ◌&&◌, arith}
+use Rattle.std.proofs.Common.{ℤ, pos, ◌≤ℤ◌, ◌*ℤ◌, cond}
+use Rattle.std.proofs.lemmas.Int.{ints}
 use Rattle.sb_whole.specs.Tests.{is_positive, differ}
 use Rattle.sb_whole.proofs.Signs.{less_from, not_less_from}
 use Rattle.sb_whole.proofs.Products.{positive_product, weak_product_of_negatives}

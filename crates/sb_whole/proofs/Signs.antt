@@ -1,8 +1,7 @@
 -- What a test of order tells, how a fact answers a test, and cases on a sign.
-use Rattle.std.proofs.Common.{◌≡◌, refl, ◌⊎◌, Bool, true, false, not, ◌↔◌, inl, inr, sym, arith, ℤ, pos}
-use Rattle.std.proofs.Common.{◌<ℤ◌, ◌≤ℤ◌, ◌+ℤ◌, ◌-ℤ◌, neg_ℤ, int_lt, int_le}
+use Rattle.std.proofs.Common.{◌≡◌, refl, ◌⊎◌, Bool, true, false, ◌↔◌, inl, inr, sym, arith, ℤ, pos}
+use Rattle.std.proofs.Common.{◌<ℤ◌, ◌≤ℤ◌, ◌-ℤ◌, int_lt, int_le}
 use Rattle.std.proofs.lemmas.Int.{ints, by_lt_z}
-use Rattle.sb_whole.specs.Tests.{is_positive, is_negative}
 
 -- ---- a test answers true or false by the facts
 

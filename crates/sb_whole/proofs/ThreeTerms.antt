@@ -1,6 +1,6 @@
 -- The identities on which nearly all geometry rests. All geometry of one point and some edges is
 -- signs of cross products, and these relate the products of three and four vectors.
-use Rattle.std.proofs.Common.{◌≡◌, arith, ℤ, pos, ◌+ℤ◌, ◌-ℤ◌, ◌*ℤ◌}
+use Rattle.std.proofs.Common.{◌≡◌, arith, pos, ◌+ℤ◌, ◌-ℤ◌, ◌*ℤ◌}
 use Rattle.sb_whole.specs.Arrows.{Arrow, cross, dot}
 use Rattle.sb_whole.proofs.Shapes.{var, num, plus, minus, times, equal, cross_is, dot_is}
 

@@ -40,6 +40,10 @@ value_at form r = dot form r
 abbrev pub IsZeroForm : Arrow → Type 0
 IsZeroForm form = (form.x ≡ pos 0) × (form.y ≡ pos 0)
 
+-- the form is 0 at one number at most: its coefficients are not both 0
+abbrev pub IsForm : Arrow → Type 0
+IsForm form = IsZeroForm form → ⊥
+
 -- the form that is 0 at f alone, above 0 at greater numbers and below 0 at smaller ones
 abbrev pub form_of : Arrow → Arrow
 form_of f = turned f

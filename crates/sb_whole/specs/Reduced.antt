@@ -6,7 +6,7 @@ use Rattle.std.specs.Int.{IsGcd}
 abbrev pub HaveNoDivisor : ℤ → ℤ → Type 0
 HaveNoDivisor a b = IsGcd (unsigned_abs a) (unsigned_abs b) 1
 
--- the fraction num/den in lowest terms, its denominator above 0
-pub record IsLowest (num den : ℤ) : Type 0 where
+-- the fraction num/den is reduced: in lowest terms, its denominator above 0
+pub record IsReduced (num den : ℤ) : Type 0 where
   pub positive : pos 0 <ℤ den
   pub no_divisor : HaveNoDivisor num den
