@@ -174,7 +174,9 @@ stop_by form r t apart r_in t_in low true e =
     })
     (λ at_r.
     let at_r' : pos 0 <ℤ value_at form r = own_up at_r in
-    let at_t : value_at form t <ℤ pos 0 = negative_factor (value_at form r) (value_at form t) at_r' product in
+    let at_t : value_at form t <ℤ pos 0 =
+    negative_factor (value_at form r) (value_at form t) at_r' product
+    in
     let z = falling_zero form r t r_in t_in low at_r' at_t in
     record {
       rational = z.rational;
@@ -192,7 +194,8 @@ stop_by form r t apart r_in t_in low true e =
     other_up at_r =
         by_lt_z (pos 0) (value_at form t) (λ above. above)
         (λ none.
-        let above = weak_product_of_negatives (value_at form r) (value_at form t) (omega (arith, ints)) none in
+        let low_r : value_at form r ≤ℤ pos 0 = omega (arith, ints) in
+        let above = weak_product_of_negatives (value_at form r) (value_at form t) low_r none in
         let below = product in
         absurd (omega (arith, ints)))
 
@@ -231,7 +234,8 @@ stop_by form r t apart r_in t_in low false e =
           (λ at_t.
           inr (negative_between form r t low (own_down at_r at_t) (omega (arith, ints))
           (λ zero zero_t. both zero zero_t)))
-          (λ at_t. inl (positive_between form r t low at_r at_t (λ zero zero_t. both zero zero_t))));
+          (λ at_t.
+          inl (positive_between form r t low at_r at_t (λ zero zero_t. both zero zero_t))));
     }
   where
     product : pos 0 ≤ℤ (value_at form r *ℤ value_at form t)
