@@ -1,0 +1,3 @@
+-- The laws by topic.
+pub mod Clearance
+pub mod SameSide
