@@ -24,41 +24,44 @@ pub cross-value_on : (l m : LineSide) (u : Arrow)
 unfolding value_on clearance
 cross-value_on l m u =
     equal
-      (cross_by (value_on l u) (value_on m u) (times (var l.dx) (var u.x))
-        (plus (times (var l.dy) (var u.y)) (times (var l.off) (var u.x)))
-        (times (var m.dx) (var u.x))
-        (plus (times (var m.dy) (var u.y)) (times (var m.off) (var u.x))))
-      (times (var u.x)
-        (dot_by (clearance l m) u
-          (minus (times (var m.off) (var l.dx)) (times (var l.off) (var m.dx)))
-          (minus (times (var m.dy) (var l.dx)) (times (var l.dy) (var m.dx)))
-          (var u.x) (var u.y)))
-      (omega arith)
+    (cross_by (value_on l u) (value_on m u) (times (var l.dx) (var u.x))
+    (plus (times (var l.dy) (var u.y)) (times (var l.off) (var u.x)))
+    (times (var m.dx) (var u.x))
+    (plus (times (var m.dy) (var u.y)) (times (var m.off) (var u.x))))
+    (times (var u.x)
+    (dot_by (clearance l m) u
+    (minus (times (var m.off) (var l.dx)) (times (var l.off) (var m.dx)))
+    (minus (times (var m.dy) (var l.dx)) (times (var l.dy) (var m.dx)))
+    (var u.x) (var u.y)))
+    (omega arith)
 
 -- ---- the sign of the clearance says which side is higher
 
 -- m is above l at u exactly where the clearance is above 0
 pub higher_is : (l m : LineSide) (u : Arrow) → IsRational u
     → IsBelow (value_on l u) (value_on m u) ↔ (pos 0 <ℤ clearance_at l m u)
-higher_is l m u u_in =
-    (λ below. positive_factor u.x (clearance_at l m u) u_in (rw (cross-value_on l m u) at below),
-      λ above. rw (cross-value_on l m u) (positive_product u.x (clearance_at l m u) u_in above))
+higher_is l m u u_in = (
+  λ below. positive_factor u.x (clearance_at l m u) u_in (rw (cross-value_on l m u) at below),
+  λ above. rw (cross-value_on l m u) (positive_product u.x (clearance_at l m u) u_in above),
+)
 
 -- l is nowhere above m at u exactly where it is at least 0
 pub at_least_is : (l m : LineSide) (u : Arrow) → IsRational u
     → IsAtMost (value_on l u) (value_on m u) ↔ (pos 0 ≤ℤ clearance_at l m u)
-at_least_is l m u u_in =
-    (λ below. weak_factor u.x (clearance_at l m u) u_in (rw (cross-value_on l m u) at below),
-      λ above.
-        rw (cross-value_on l m u)
-          (weak_product u.x (clearance_at l m u) (omega (arith, ints)) above))
+at_least_is l m u u_in = (
+  λ below. weak_factor u.x (clearance_at l m u) u_in (rw (cross-value_on l m u) at below),
+  λ above.
+      rw (cross-value_on l m u)
+      (weak_product u.x (clearance_at l m u) (omega (arith, ints)) above),
+)
 
 -- they meet at u exactly where it is 0
 pub meeting_is : (l m : LineSide) (u : Arrow) → IsRational u
     → IsSame (value_on l u) (value_on m u) ↔ (clearance_at l m u ≡ pos 0)
-meeting_is l m u u_in =
-    (λ same. zero_of_positive u.x (clearance_at l m u) u_in (rw (cross-value_on l m u) at same),
-      λ zero. cross-value_on l m u ∙ ap (λ n. u.x *ℤ n) zero ∙ mul-zero u.x)
+meeting_is l m u u_in = (
+  λ same. zero_of_positive u.x (clearance_at l m u) u_in (rw (cross-value_on l m u) at same),
+  λ zero. cross-value_on l m u ∙ ap (λ n. u.x *ℤ n) zero ∙ mul-zero u.x,
+)
 
 -- ---- laws of clearances
 
@@ -67,11 +70,11 @@ pub clearance-self : (l : LineSide) (u : Arrow) → clearance_at l l u ≡ pos 0
 unfolding clearance dot
 clearance-self l u =
     equal
-      (plus
-        (times (minus (times (var l.off) (var l.dx)) (times (var l.off) (var l.dx))) (var u.x))
-        (times (minus (times (var l.dy) (var l.dx)) (times (var l.dy) (var l.dx))) (var u.y)))
-      (num 0)
-      (omega arith)
+    (plus
+    (times (minus (times (var l.off) (var l.dx)) (times (var l.off) (var l.dx))) (var u.x))
+    (times (minus (times (var l.dy) (var l.dx)) (times (var l.dy) (var l.dx))) (var u.y)))
+    (num 0)
+    (omega arith)
 
 -- exchanged, it has the opposite sign
 pub clearance-turn : (l m : LineSide) (u : Arrow)
@@ -79,50 +82,50 @@ pub clearance-turn : (l m : LineSide) (u : Arrow)
 unfolding clearance dot
 clearance-turn l m u =
     equal
-      (plus
-        (times (minus (times (var l.off) (var m.dx)) (times (var m.off) (var l.dx))) (var u.x))
-        (times (minus (times (var l.dy) (var m.dx)) (times (var m.dy) (var l.dx))) (var u.y)))
-      (negated
-        (plus
-          (times (minus (times (var m.off) (var l.dx)) (times (var l.off) (var m.dx))) (var u.x))
-          (times (minus (times (var m.dy) (var l.dx)) (times (var l.dy) (var m.dx))) (var u.y))))
-      (omega arith)
+    (plus
+    (times (minus (times (var l.off) (var m.dx)) (times (var m.off) (var l.dx))) (var u.x))
+    (times (minus (times (var l.dy) (var m.dx)) (times (var m.dy) (var l.dx))) (var u.y)))
+    (negated
+    (plus
+    (times (minus (times (var m.off) (var l.dx)) (times (var l.off) (var m.dx))) (var u.x))
+    (times (minus (times (var m.dy) (var l.dx)) (times (var l.dy) (var m.dx))) (var u.y))))
+    (omega arith)
 
 -- of three sides
 pub clearance_three : (l m n : LineSide) (u : Arrow)
     → m.dx *ℤ clearance_at l n u
-        ≡ (n.dx *ℤ clearance_at l m u) +ℤ (l.dx *ℤ clearance_at m n u)
+    ≡ (n.dx *ℤ clearance_at l m u) +ℤ (l.dx *ℤ clearance_at m n u)
 unfolding clearance dot
 clearance_three l m n u =
     equal
-      (times (var m.dx)
-        (plus
-          (times (minus (times (var n.off) (var l.dx)) (times (var l.off) (var n.dx))) (var u.x))
-          (times (minus (times (var n.dy) (var l.dx)) (times (var l.dy) (var n.dx))) (var u.y))))
-      (plus
-        (times (var n.dx)
-          (plus
-            (times (minus (times (var m.off) (var l.dx)) (times (var l.off) (var m.dx))) (var u.x))
-            (times (minus (times (var m.dy) (var l.dx)) (times (var l.dy) (var m.dx))) (var u.y))))
-        (times (var l.dx)
-          (plus
-            (times (minus (times (var n.off) (var m.dx)) (times (var m.off) (var n.dx))) (var u.x))
-            (times (minus (times (var n.dy) (var m.dx)) (times (var m.dy) (var n.dx))) (var u.y)))))
-      (omega arith)
+    (times (var m.dx)
+    (plus
+    (times (minus (times (var n.off) (var l.dx)) (times (var l.off) (var n.dx))) (var u.x))
+    (times (minus (times (var n.dy) (var l.dx)) (times (var l.dy) (var n.dx))) (var u.y))))
+    (plus
+    (times (var n.dx)
+    (plus
+    (times (minus (times (var m.off) (var l.dx)) (times (var l.off) (var m.dx))) (var u.x))
+    (times (minus (times (var m.dy) (var l.dx)) (times (var l.dy) (var m.dx))) (var u.y))))
+    (times (var l.dx)
+    (plus
+    (times (minus (times (var n.off) (var m.dx)) (times (var m.off) (var n.dx))) (var u.x))
+    (times (minus (times (var n.dy) (var m.dx)) (times (var m.dy) (var n.dx))) (var u.y)))))
+    (omega arith)
 
 -- the clearance of two heights is their difference, at every u
 pub clearance-level : (g h : ℤ) → clearance (level g) (level h) ≡ arrow (h -ℤ g) (pos 0)
 unfolding clearance
 clearance-level g h =
     same_arrow (clearance (level g) (level h)) (arrow (h -ℤ g) (pos 0))
-      (equal (minus (times (var h) (num 1)) (times (var g) (num 1))) (minus (var h) (var g))
-        (omega arith))
-      refl
+    (equal (minus (times (var h) (num 1)) (times (var g) (num 1))) (minus (var h) (var g))
+    (omega arith))
+    refl
 
 -- ---- the order of sides at one u
 
 module _ (l m n : LineSide) (u : Arrow)
-  (l_in : IsLineSide l) (m_in : IsLineSide m) (n_in : IsLineSide n) where
+    (l_in : IsLineSide l) (m_in : IsLineSide m) (n_in : IsLineSide n) where
   -- not above, and not above
   pub at_most_trans : pos 0 ≤ℤ clearance_at l m u → pos 0 ≤ℤ clearance_at m n u
       → pos 0 ≤ℤ clearance_at l n u

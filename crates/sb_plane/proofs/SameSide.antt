@@ -27,18 +27,19 @@ same_side_decides l m = (to, from)
     to : is_same_side l m ≡ true → l ≡ m
     to e =
         let first =
-          and_parts (int_eq l.dx m.dx) (int_eq l.dy m.dy && int_eq l.off m.off) e
+        and_parts (int_eq l.dx m.dx) (int_eq l.dy m.dy && int_eq l.off m.off) e
         in
         let rest = and_parts (int_eq l.dy m.dy) (int_eq l.off m.off) first.1 in
         same_line l m ((signed_Decides l.dx m.dx).0 first.0)
-          ((signed_Decides l.dy m.dy).0 rest.0) ((signed_Decides l.off m.off).0 rest.1)
+        ((signed_Decides l.dy m.dy).0 rest.0) ((signed_Decides l.off m.off).0 rest.1)
+
     from : l ≡ m → is_same_side l m ≡ true
     from e =
         and_from (int_eq l.dx m.dx) (int_eq l.dy m.dy && int_eq l.off m.off)
-          ((signed_Decides l.dx m.dx).1 (ap (λ (s : LineSide). s.dx) e))
-          (and_from (int_eq l.dy m.dy) (int_eq l.off m.off)
-            ((signed_Decides l.dy m.dy).1 (ap (λ (s : LineSide). s.dy) e))
-            ((signed_Decides l.off m.off).1 (ap (λ (s : LineSide). s.off) e)))
+        ((signed_Decides l.dx m.dx).1 (ap (λ (s : LineSide). s.dx) e))
+        (and_from (int_eq l.dy m.dy) (int_eq l.off m.off)
+        ((signed_Decides l.dy m.dy).1 (ap (λ (s : LineSide). s.dy) e))
+        ((signed_Decides l.off m.off).1 (ap (λ (s : LineSide). s.off) e)))
 
 -- two reduced sides whose clearance is the zero form are equal
 pub same_side : (l m : LineSide) → IsReducedSide l → IsReducedSide m
@@ -52,14 +53,15 @@ same_side l m l_in m_in zero =
   where
     equal_from : (a b : ℤ) → a -ℤ b ≡ pos 0 → b ≡ a
     equal_from a b e = omega (arith, ints)
+
     offsets : l.dx ≡ m.dx → l.off ≡ m.off
     offsets same =
         let above = l_in.positive in
         let equal : l.off *ℤ m.dx ≡ m.off *ℤ l.dx =
-          equal_from (m.off *ℤ l.dx) (l.off *ℤ m.dx) zero.0
+        equal_from (m.off *ℤ l.dx) (l.off *ℤ m.dx) zero.0
         in
         unscale_equal l.dx l.off m.off (λ none. omega (arith, ints))
-          (mul_comm l.dx l.off ∙ ap (λ n. l.off *ℤ n) same ∙ equal ∙ mul_comm m.off l.dx)
+        (mul_comm l.dx l.off ∙ ap (λ n. l.off *ℤ n) same ∙ equal ∙ mul_comm m.off l.dx)
 
 -- the clearance of two different reduced sides is a form, so they meet at one u at most
 pub other_side_is_form : (l m : LineSide) → IsReducedSide l → IsReducedSide m

@@ -39,7 +39,7 @@ value_on l u = arrow (l.dx *ℤ u.x) ((l.dy *ℤ u.y) +ℤ (l.off *ℤ u.x))
 -- compared
 unfoldable pub clearance : LineSide → LineSide → Arrow
 clearance l m =
-  arrow ((m.off *ℤ l.dx) -ℤ (l.off *ℤ m.dx)) ((m.dy *ℤ l.dx) -ℤ (l.dy *ℤ m.dx))
+    arrow ((m.off *ℤ l.dx) -ℤ (l.off *ℤ m.dx)) ((m.dy *ℤ l.dx) -ℤ (l.dy *ℤ m.dx))
 
 -- its value at u
 abbrev pub clearance_at : LineSide → LineSide → Arrow → ℤ
