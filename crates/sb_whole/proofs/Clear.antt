@@ -2,10 +2,11 @@
 -- each number there is one.
 use Rattle.std.proofs.Common.{◌≡◌, inl, inr, refl, ◌∙◌, arith}
 use Rattle.std.proofs.Common.{Bool, true, false, List, [], ◌∷◌, map, cond}
-use Rattle.std.proofs.Common.{ℤ, pos, ◌<ℤ◌, ◌≤ℤ◌, ◌-ℤ◌, ◌*ℤ◌, neg_ℤ}
+use Rattle.std.proofs.Common.{ℤ, pos, ◌<ℤ◌, ◌≤ℤ◌, ◌+ℤ◌, ◌-ℤ◌, ◌*ℤ◌, neg_ℤ, negsuc, ◌+◌}
+use Rattle.std.proofs.Common.{unsigned_abs, ap}
 use Rattle.std.proofs.lemmas.Int.{ints, by_lt_z}
 use Rattle.std.specs.List.{AllByRecursion}
-use Rattle.sb_whole.specs.Arrows.{Arrow, arrow, cross, dot, mirror, opposite}
+use Rattle.sb_whole.specs.Arrows.{Arrow, arrow, cross, dot, add, scale, mirror, opposite}
 use Rattle.sb_whole.specs.Rationals.{IsRational, IsBelow, IsAtMost, mediant, value_at}
 use Rattle.sb_whole.specs.Rationals.{IsZeroForm, IsForm, zero_of}
 use Rattle.sb_whole.specs.Intervals.{IsPositiveOn, IsNegativeOn, Keeps, AllKeep, changes_sign}
@@ -22,7 +23,10 @@ use Rattle.sb_whole.proofs.Rationals.{at_most_from_below, at_most_trans}
 use Rattle.sb_whole.proofs.Rationals.{mediant-IsRational, mediant_between}
 use Rattle.sb_whole.proofs.Arrows.{opposite-dot, cross-mirror, dot-mirror, mirror-cross}
 use Rattle.sb_whole.proofs.Arrows.{cross-mirror_comm}
-use Rattle.sb_whole.proofs.Ring.{mul_comm, zero-mul}
+use Rattle.sb_whole.proofs.Ring.{mul_comm, zero-mul, mul-zero, mul-one, mul-neg}
+use Rattle.sb_whole.proofs.Arrows.{cross-add, add-cross, cross-scale, scale-cross, cross-self}
+use Rattle.sb_whole.proofs.Arrows.{dot-add, dot-scale, mirror-dot}
+use Rattle.sb_whole.proofs.Products.{scale_at_most}
 
 -- ---- the sign of a form between two numbers, from its signs at them
 
@@ -174,7 +178,9 @@ stop_by form r t apart r_in t_in low true e =
     })
     (λ at_r.
     let at_r' : pos 0 <ℤ value_at form r = own_up at_r in
-    let at_t : value_at form t <ℤ pos 0 = negative_factor (value_at form r) (value_at form t) at_r' product in
+    let at_t : value_at form t <ℤ pos 0 =
+    negative_factor (value_at form r) (value_at form t) at_r' product
+    in
     let z = falling_zero form r t r_in t_in low at_r' at_t in
     record {
       rational = z.rational;
@@ -192,7 +198,8 @@ stop_by form r t apart r_in t_in low true e =
     other_up at_r =
         by_lt_z (pos 0) (value_at form t) (λ above. above)
         (λ none.
-        let above = weak_product_of_negatives (value_at form r) (value_at form t) (omega (arith, ints)) none in
+        let low_r : value_at form r ≤ℤ pos 0 = omega (arith, ints) in
+        let above = weak_product_of_negatives (value_at form r) (value_at form t) low_r none in
         let below = product in
         absurd (omega (arith, ints)))
 
@@ -231,7 +238,8 @@ stop_by form r t apart r_in t_in low false e =
           (λ at_t.
           inr (negative_between form r t low (own_down at_r at_t) (omega (arith, ints))
           (λ zero zero_t. both zero zero_t)))
-          (λ at_t. inl (positive_between form r t low at_r at_t (λ zero zero_t. both zero zero_t))));
+          (λ at_t.
+          inl (positive_between form r t low at_r at_t (λ zero zero_t. both zero zero_t))));
     }
   where
     product : pos 0 ≤ℤ (value_at form r *ℤ value_at form t)
@@ -400,3 +408,83 @@ positive_at_ends form r t r_in t_in low above = (
         let high = above (zero_of form) z.rational after z.before in
         let zero = z.zero in
         omega (arith, ints)
+
+-- a number near r on the way to t
+nearer : ℤ → Arrow → Arrow → Arrow
+nearer k r t = add (scale k r) t
+
+module _ (k : ℤ) (r t : Arrow) where
+  nearer-IsRational : pos 0 <ℤ k → IsRational r → IsRational t → IsRational (nearer k r t)
+  unfolding nearer
+  nearer-IsRational f r_in t_in =
+      let up = positive_product k r.x f r_in in omega (arith, ints)
+
+  cross-nearer : cross r (nearer k r t) ≡ cross r t
+  unfolding nearer
+  cross-nearer =
+      let spread = cross-add r (scale k r) t in
+      let one = cross-scale k r r in
+      let other : k *ℤ cross r r ≡ pos 0 = rw (cross-self r) (mul-zero k) in
+      omega (arith, ints)
+
+  nearer-cross : cross (nearer k r t) t ≡ k *ℤ cross r t
+  unfolding nearer
+  nearer-cross =
+      let spread = add-cross (scale k r) t t in
+      let one = scale-cross k r t in
+      let other = cross-self t in
+      omega (arith, ints)
+
+  value-nearer : (form : Arrow)
+      → value_at form (nearer k r t) ≡ (k *ℤ value_at form r) +ℤ value_at form t
+  unfolding nearer
+  value-nearer form =
+      let spread = dot-add form (scale k r) t in
+      let one = dot-scale k form r in
+      omega (arith, ints)
+
+-- a value below 0 outweighs any other, multiplied often enough
+outweighs : (a b : ℤ) → a <ℤ pos 0 → ((pos (unsigned_abs b + 1) *ℤ a) +ℤ b) <ℤ pos 0
+outweighs a b low =
+    let many =
+      scale_at_most (pos (unsigned_abs b + 1)) a (negsuc 0) (omega (arith, ints))
+        (omega (arith, ints))
+    in
+    let turned = mul-neg (pos (unsigned_abs b + 1)) (pos 1) in
+    let one = mul-one (pos (unsigned_abs b + 1)) in
+    omega (arith, ints)
+
+-- a form that is at least 0 between two numbers is at least 0 at the lower one
+pub weak_at_low : (form r t : Arrow) → IsRational r → IsRational t → IsBelow r t
+    → ((u : Arrow) → IsRational u → IsBelow r u → IsBelow u t → pos 0 ≤ℤ value_at form u)
+    → pos 0 ≤ℤ value_at form r
+weak_at_low form r t r_in t_in low high =
+    by_lt_z (value_at form r) (pos 0)
+      (λ below.
+        absurd (clash below (pos (unsigned_abs (value_at form t) + 1)) refl))
+      (λ high. high)
+  where
+    clash : value_at form r <ℤ pos 0 → (k : ℤ) → k ≡ pos (unsigned_abs (value_at form t) + 1) → ⊥
+    clash below k is =
+        let above : pos 0 <ℤ k = omega (arith, ints) in
+        let u_in = nearer-IsRational k r t above r_in t_in in
+        let after : IsBelow r (nearer k r t) = rw (cross-nearer k r t) low in
+        let before : IsBelow (nearer k r t) t =
+          rw (nearer-cross k r t) (positive_product k (cross r t) above low)
+        in
+        let at_u = high (nearer k r t) u_in after before in
+        let value = value-nearer k r t form in
+        let small = outweighs (value_at form r) (value_at form t) below in
+        let same = ap (λ n. (n *ℤ value_at form r) +ℤ value_at form t) is in
+        omega (arith, ints)
+
+-- and at the greater one
+pub weak_at_high : (form r t : Arrow) → IsRational r → IsRational t → IsBelow r t
+    → ((u : Arrow) → IsRational u → IsBelow r u → IsBelow u t → pos 0 ≤ℤ value_at form u)
+    → pos 0 ≤ℤ value_at form t
+weak_at_high form r t r_in t_in low high =
+    rw (dot-mirror form t)
+      at (weak_at_low (mirror form) (mirror t) (mirror r) t_in r_in (rw (cross-mirror t r) low)
+        (λ u u_in after before.
+          rw (mirror-dot form u)
+            (high (mirror u) u_in (rw (cross-mirror_comm r u) before) (rw (mirror-cross u t) after))))

@@ -75,7 +75,8 @@ square_of_sum : (a b : ℤ)
     → (a +ℤ b) *ℤ (a +ℤ b) ≡ (a *ℤ a) +ℤ (pos 2 *ℤ (a *ℤ b)) +ℤ (b *ℤ b)
 square_of_sum a b =
     equal (times (plus (var a) (var b)) (plus (var a) (var b)))
-    (plus (plus (times (var a) (var a)) (times (num 2) (times (var a) (var b)))) (times (var b) (var b)))
+    (plus (plus (times (var a) (var a)) (times (num 2) (times (var a) (var b))))
+    (times (var b) (var b)))
     (omega arith)
 
 -- -8 · -8 = 9 + 2 · 15 + 25
@@ -171,13 +172,16 @@ found_is =
 -- 6/8 is not reduced
 six_eighths : IsReduced (pos 6) (pos 8) → ⊥
 six_eighths reduced =
-    not_below (le_of_dvd (omega arith) (reduced.no_divisor.2 2 (dvd-mul_right 2 3) (dvd-mul_right 2 4)))
+    not_below
+    (le_of_dvd (omega arith)
+    (reduced.no_divisor.2 2 (dvd-mul_right 2 3) (dvd-mul_right 2 4)))
   where
     not_below : 2 ≤ 1 → ⊥
     not_below h = omega arith
 
 -- 7/1 is, and no other reduced fraction is 7
-seven_is : (num den : ℤ) → IsReduced num den → num *ℤ pos 1 ≡ pos 7 *ℤ den → (num ≡ pos 7) × (den ≡ pos 1)
+seven_is : (num den : ℤ) → IsReduced num den → num *ℤ pos 1 ≡ pos 7 *ℤ den
+    → (num ≡ pos 7) × (den ≡ pos 1)
 seven_is num den reduced same =
     reduced_unique num den (pos 7) (pos 1) reduced (whole_is_reduced (pos 7)) same
 

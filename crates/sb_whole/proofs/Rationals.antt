@@ -93,7 +93,9 @@ pub same_trans : (r s t : Arrow) → IsRational s → IsSame r s → IsSame s t 
 same_trans r s t s_in low high =
     let parts = denominators r s t in
     zero_of_positive s.x (cross r t) s_in
-    (parts ∙ rw (high, low) (equal (plus (times (var r.x) (num 0)) (times (var t.x) (num 0))) (num 0) (omega arith)))
+    (parts
+    ∙ rw (high, low)
+    (equal (plus (times (var r.x) (num 0)) (times (var t.x) (num 0))) (num 0) (omega arith)))
 
 -- ---- the mediant
 

@@ -85,7 +85,8 @@ by_steps fuel (suc a) zero c d room f g e =
 by_steps zero (suc a) (suc b) c d room f g e = absurd (omega arith)
 by_steps (suc fuel) (suc a) (suc b) c d room f g e =
     ⊎_elim
-    (λ less. one_step fuel (by_steps fuel) (suc a) (suc b) c d (omega arith) (omega arith) room f g e)
+    (λ less.
+    one_step fuel (by_steps fuel) (suc a) (suc b) c d (omega arith) (omega arith) room f g e)
     (λ more.
     let rest =
     one_step fuel (by_steps fuel) (suc b) (suc a) d c (omega arith) more (omega arith)

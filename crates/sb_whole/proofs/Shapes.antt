@@ -84,18 +84,30 @@ pub dot_eq : (a b : Arrow) → dot a b ≡ (a.x *ℤ b.x) +ℤ (a.y *ℤ b.y)
 unfolding dot
 dot_eq a b = refl
 
--- the shape of a cross product
+-- the shape of a cross product, from the shapes of the coordinates
+pub cross_by : (a b : Arrow) {p q r s t u v w : ℕ}
+    → Is a.x p q → Is a.y r s → Is b.x t u → Is b.y v w
+    → Is (cross a b) ((p * v + q * w) + (r * u + s * t)) ((p * w + q * v) + (r * t + s * u))
+unfolding cross
+cross_by a b ax ay bx by = minus (times ax by) (times ay bx)
+
+-- the shape of an inner product, from the shapes of the coordinates
+pub dot_by : (a b : Arrow) {p q r s t u v w : ℕ}
+    → Is a.x p q → Is a.y r s → Is b.x t u → Is b.y v w
+    → Is (dot a b) ((p * t + q * u) + (r * v + s * w)) ((p * u + q * t) + (r * w + s * v))
+unfolding dot
+dot_by a b ax ay bx by = plus (times ax bx) (times ay by)
+
+-- the shape of a cross product of two variables
 pub cross_is : (a b : Arrow)
     → Is (cross a b)
     ((up a.x * up b.y + down a.x * down b.y) + (up a.y * down b.x + down a.y * up b.x))
     ((up a.x * down b.y + down a.x * up b.y) + (up a.y * up b.x + down a.y * down b.x))
-unfolding cross
-cross_is a b = minus (times (var a.x) (var b.y)) (times (var a.y) (var b.x))
+cross_is a b = cross_by a b (var a.x) (var a.y) (var b.x) (var b.y)
 
--- the shape of an inner product
+-- the shape of an inner product of two variables
 pub dot_is : (a b : Arrow)
     → Is (dot a b)
     ((up a.x * up b.x + down a.x * down b.x) + (up a.y * up b.y + down a.y * down b.y))
     ((up a.x * down b.x + down a.x * up b.x) + (up a.y * down b.y + down a.y * up b.y))
-unfolding dot
-dot_is a b = plus (times (var a.x) (var b.x)) (times (var a.y) (var b.y))
+dot_is a b = dot_by a b (var a.x) (var a.y) (var b.x) (var b.y)

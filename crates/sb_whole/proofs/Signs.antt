@@ -70,7 +70,8 @@ order_cases a b =
 pub equal_or_not : (a b : ℤ) → (a ≡ b) ⊎ (a ≡ b → ⊥)
 equal_or_not a b =
     by_lt_z a b (λ less. inr (λ e. omega (arith, ints)))
-    (λ low. by_lt_z b a (λ more. inr (λ e. omega (arith, ints))) (λ high. inl (omega (arith, ints))))
+    (λ low.
+    by_lt_z b a (λ more. inr (λ e. omega (arith, ints))) (λ high. inl (omega (arith, ints))))
 
 -- ---- order of differences
 
