@@ -1,0 +1,2 @@
+pub mod GreatestDivisor
+pub mod LowestTerms

@@ -1,0 +1,100 @@
+-- A fraction divided by its greatest common divisor is in lowest terms and the same number.
+
+use Rattle.std.proofs.Common.{ℕ, ℤ, pos, negsuc, neg_ℤ, suc, ◌+◌, ◌*◌, ◌/◌, ◌<◌, ◌≤◌, ◌<ℤ◌, ◌*ℤ◌, ◌≡◌, zero, Bool, true, ◌&&◌, IsTrue, unsigned_abs, refl, arith, nat_eq, nat_le, int_lt, ap, sym, ◌∙◌}
+use Rattle.std.specs.Int.{IsGcd, ◌∣◌}
+use Rattle.std.proofs.lemmas.Int.{ints, to_z-of_z}
+use Rattle.std.proofs.Common.{mul_assoc, le_trans}
+use Rattle.std.proofs.lemmas.Bool.{and_from, eq-eqb, le-leb}
+use Rattle.std.proofs.lemmas.Nat.Gcd.{same_from_IsGcd}
+use Rattle.std.proofs.Math.Nat.{div-mul_cancel, mul-div_cancel', div-le_self}
+use Rattle.sb_fraction.specs.Divisors.{greatest_divisor, are_coprime}
+use Rattle.sb_fraction.specs.Ratio.{Ratio, reduced, divided, is_fraction, greatest_num, greatest_den}
+use Rattle.sb_fraction.proofs.GreatestDivisor.{greatest_divisor_is, divisor_is_positive, quotients_are_coprime}
+
+-- the size of a number with its sign changed
+abs-neg : (n : ℕ) → unsigned_abs (neg_ℤ (pos n)) ≡ n
+abs-neg zero = refl
+abs-neg (suc n) = refl
+
+-- the size of a divided number is the divided size
+abs-divided : (z : ℤ) (d : ℕ) → unsigned_abs (divided z d) ≡ unsigned_abs z / d
+abs-divided (pos n) d = refl
+abs-divided (negsuc n) d = abs-neg (suc n / d)
+
+size_is_positive : (z : ℤ) → pos 0 <ℤ z → 0 < unsigned_abs z
+size_is_positive z h = omega (arith, ints)
+
+-- the divisor of a numerator and a positive denominator is positive
+pub common_is_positive : (num den : ℤ) → pos 0 <ℤ den
+    → 0 < greatest_divisor (unsigned_abs num) (unsigned_abs den)
+common_is_positive num den positive = divisor_is_positive _ _ (size_is_positive den positive)
+
+-- a quotient of a positive number that leaves nothing is positive
+quotient_is_positive : (n d q : ℕ) → q * d ≡ n → 0 < n → int_lt (pos 0) (pos q) ≡ true
+quotient_is_positive n d zero whole positive = absurd (omega arith)
+quotient_is_positive n d (suc q) whole positive = grind (arith, ints)
+
+-- a positive number divided by a divisor of it is positive
+divided_is_positive : (z : ℤ) (d : ℕ) → pos 0 <ℤ z → d ∣ unsigned_abs z → int_lt (pos 0) (divided z d) ≡ true
+divided_is_positive (pos n) d positive divides =
+    quotient_is_positive n d (n / d) (div-mul_cancel d divides) (omega (arith, ints))
+divided_is_positive (negsuc n) d positive divides = absurd (omega (arith, ints))
+
+are_coprime_from : (a b : ℕ) → IsGcd a b 1 → are_coprime a b ≡ true
+are_coprime_from a b common = eq-eqb _ _ (same_from_IsGcd _ _ _ _ (greatest_divisor_is a b) common)
+
+zero_mul : (n : ℕ) → 0 * n ≡ 0
+zero_mul n = omega arith
+
+same_product : (a b g : ℕ) → g ∣ a → g ∣ b → a / g * b ≡ a * (b / g)
+same_product a b g left right =
+    ap (λ n. a / g * n) (sym (mul-div_cancel' g right))
+    ∙ sym (mul_assoc (a / g) g (b / g))
+    ∙ ap (λ n. n * (b / g)) (div-mul_cancel g left)
+
+neg-*ℤ : (q n : ℕ) → neg_ℤ (pos q) *ℤ pos n ≡ neg_ℤ (pos (q * n))
+neg-*ℤ zero n = ap pos (zero_mul n) ∙ ap (λ k. neg_ℤ (pos k)) (sym (zero_mul n))
+neg-*ℤ (suc q) n = refl
+
+-- a divisor of both may be taken from either factor
+divided-*ℤ : (a b : ℤ) (g : ℕ) → pos 0 <ℤ b → g ∣ unsigned_abs a → g ∣ unsigned_abs b
+    → divided a g *ℤ b ≡ a *ℤ divided b g
+divided-*ℤ (pos m) (pos n) g positive left right = ap pos (same_product m n g left right)
+divided-*ℤ (negsuc m) (pos n) g positive left right =
+    neg-*ℤ (suc m / g) n ∙ ap (λ k. neg_ℤ (pos k)) (same_product (suc m) n g left right)
+divided-*ℤ a (negsuc n) g positive left right = absurd (omega (arith, ints))
+
+-- the two parts divided by their greatest common divisor
+lowest_terms_at : (num den : ℤ) (g : ℕ) → 0 < g
+    → IsGcd (unsigned_abs num) (unsigned_abs den) g
+    → IsGcd (unsigned_abs (divided num g)) (unsigned_abs (divided den g)) 1
+lowest_terms_at num den g positive common =
+    rw (abs-divided num g, abs-divided den g) (quotients_are_coprime _ _ g positive common)
+
+size_at_most : (z : ℤ) (g bound : ℕ) → unsigned_abs z ≤ bound → nat_le (unsigned_abs (divided z g)) bound ≡ true
+size_at_most z g bound size =
+    rw (abs-divided z g) (le-leb _ _ (le_trans (div-le_self (unsigned_abs z) g) size))
+
+-- dividing by the greatest common divisor gives lowest terms
+pub reduced_is_fraction : (num den : ℤ) → pos 0 <ℤ den
+    → unsigned_abs num ≤ greatest_num
+    → unsigned_abs den ≤ greatest_den
+    → IsTrue (is_fraction (reduced num den))
+reduced_is_fraction num den positive num_size den_size =
+    let g = greatest_divisor (unsigned_abs num) (unsigned_abs den) in
+    let common : IsGcd (unsigned_abs num) (unsigned_abs den) g = greatest_divisor_is _ _ in
+    and_from _ _ (and_from _ _ (and_from _ _
+    (divided_is_positive den g positive common.1)
+    (are_coprime_from _ _ (lowest_terms_at num den g (common_is_positive num den positive) common)))
+    (size_at_most num g greatest_num num_size))
+    (size_at_most den g greatest_den den_size)
+
+-- dividing by the greatest common divisor keeps the number
+pub reduced_is_same : (num den : ℤ) → pos 0 <ℤ den
+    → (reduced num den).num *ℤ den ≡ num *ℤ (reduced num den).den
+reduced_is_same num den positive =
+    let common = greatest_divisor_is (unsigned_abs num) (unsigned_abs den) in
+    divided-*ℤ num den _ positive common.0 common.1
+
+-- for the calls that divide: a number that is passed is itself, and what its quotients are
+pub ruleset lowest = (to_z-of_z, common_is_positive, reduced_is_fraction, reduced_is_same)

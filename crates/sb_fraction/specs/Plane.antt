@@ -1,0 +1,25 @@
+-- What holds of every segment, homogeneous point and direction, as tests that compute.
+
+use Rattle.std.specs.Prelude.{ℕ, ℤ, pos, Bool, not, ◌&&◌, ◌||◌, int_lt, nat_le, nat_eq, unsigned_abs}
+use Rattle.std.specs.Ordering.{int_eq}
+use Rattle.sb_fraction.specs.Divisors.{are_coprime}
+
+-- the plan points (ax, ay) and (bx, by) differ
+abbrev pub are_apart : ℤ → ℤ → ℤ → ℤ → Bool
+are_apart ax ay bx by = not (int_eq ax bx && int_eq ay by)
+
+-- the greatest size of a number of a direction
+abbrev pub longest_step : ℕ
+longest_step = 1000000
+
+-- the first number is positive, or the direction is (0, 1)
+abbrev pub is_forward : ℤ → ℤ → Bool
+is_forward x y = int_lt (pos 0) x || (int_eq x (pos 0) && int_eq y (pos 1))
+
+-- (x, y) is a direction: without common divisor, forward, each number at most 10^6 in size
+abbrev pub is_direction : ℤ → ℤ → Bool
+is_direction x y =
+    are_coprime (unsigned_abs x) (unsigned_abs y)
+    && is_forward x y
+    && nat_le (unsigned_abs x) longest_step
+    && nat_le (unsigned_abs y) longest_step

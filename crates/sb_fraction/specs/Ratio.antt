@@ -1,0 +1,36 @@
+-- Fractions of whole numbers, and the reduced ones among them.
+
+use Rattle.std.specs.Prelude.{ℕ, ℤ, pos, negsuc, suc, neg_ℤ, ◌^◌, ◌/◌, Bool, ◌&&◌, int_lt, nat_le, unsigned_abs}
+use Rattle.sb_fraction.specs.Divisors.{greatest_divisor, are_coprime}
+
+-- the number num/den, where den is positive
+pub record Ratio : Type 0 where
+  pub num : ℤ
+  pub den : ℤ
+
+-- the greatest size of a numerator
+abbrev pub greatest_num : ℕ
+greatest_num = 10 ^ 32
+
+-- the greatest denominator
+abbrev pub greatest_den : ℕ
+greatest_den = 10 ^ 25
+
+-- the fraction is reduced, its denominator positive, and both are within their bounds
+abbrev pub is_fraction : Ratio → Bool
+is_fraction r =
+    int_lt (pos 0) r.den
+    && are_coprime (unsigned_abs r.num) (unsigned_abs r.den)
+    && nat_le (unsigned_abs r.num) greatest_num
+    && nat_le (unsigned_abs r.den) greatest_den
+
+-- a whole number divided by a divisor of it: the size is divided, the sign stays
+abbrev pub divided : ℤ → ℕ → ℤ
+divided (pos n) d = pos (n / d)
+divided (negsuc n) d = neg_ℤ (pos (suc n / d))
+
+-- num/den in lowest terms
+abbrev pub reduced : ℤ → ℤ → Ratio
+reduced num den =
+    let common = greatest_divisor (unsigned_abs num) (unsigned_abs den) in
+    record { num = divided num common; den = divided den common }

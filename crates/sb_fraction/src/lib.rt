@@ -1,0 +1,16 @@
+//! Points, segments, lines and fractions of whole numbers, all exact.
+//!
+//! Coordinates are whole millimetres. A number that is not whole is a [`Fraction`] in lowest
+//! terms, or a homogeneous point [`HPoint`]. Nothing here takes memory. Begin with
+//! [`Fraction::new`].
+#![tactic(auto)]
+
+mod direction;
+mod fraction;
+mod point;
+mod unit;
+
+pub use direction::{Direction, Line};
+pub use fraction::Fraction;
+pub use point::{HPoint, Point, Segment};
+pub use unit::Unit;

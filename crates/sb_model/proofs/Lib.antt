@@ -1,0 +1,3 @@
+pub mod RectangleIsLoop
+pub mod Passing
+pub mod OneSpaceIsNumbered

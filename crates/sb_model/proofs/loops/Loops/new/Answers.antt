@@ -1,0 +1,5 @@
+use Rattle.sb_model.proofs.RectangleIsLoop.{rectangle_is_loop}
+use Rattle.sb_model.proofs.loops.Loops.new.Goals as goal
+
+pub invariant_of-result : goal.invariant_of-result
+invariant_of-result c = rectangle_is_loop c.args.points c.requires.rectangle

@@ -1,0 +1,27 @@
+-- The edges of a plan.
+
+use Rattle.std.specs.Prelude.{List, [], ◌∷◌, ◌++◌}
+use Rattle.sb_fraction.specs.declared.point.Point.{Point}
+
+-- an edge from a to b
+pub record Edge : Type 0 where
+  pub a : Point
+  pub b : Point
+
+abbrev pub edge : Point → Point → Edge
+edge a b = record { a = a; b = b }
+
+-- the edges from a on over the further points, and back to the first
+abbrev pub edges_back : Point → List Point → Point → List Edge
+edges_back a [] first = edge a first ∷ []
+edges_back a (b ∷ points) first = edge a b ∷ edges_back b points first
+
+-- the edges of a closed loop: edge k runs from point k to the next, the last one to point 0
+abbrev pub edges_of_loop : List Point → List Edge
+edges_of_loop [] = []
+edges_of_loop (a ∷ points) = edges_back a points a
+
+-- the edges of a plan, loop after loop
+abbrev pub edges_of : List (List Point) → List Edge
+edges_of [] = []
+edges_of (points ∷ loops) = edges_of_loop points ++ edges_of loops

@@ -1,0 +1,199 @@
+//! Models of buildings.
+
+ghost use Rattle.std.specs.Prelude.{◌≡◌, ◌↔◌, ◌==◌, ℕ, IsTrue, IfOk, Some};
+ghost use Rattle.std.specs.List.{list_any, find};
+ghost use Rattle.std.specs.Option.{option_copied};
+ghost use Rattle.std.specs.Result.{IsErrOf};
+ghost use Rattle.sb_model.specs.Building.{building, is_building, is_in_range, is_one_space, first_bad};
+ghost use Rattle.sb_model.specs.Building.{material_of, material_in as material_name, material_at as name_at};
+
+use crate::layers::{Layer, Layering, Layers};
+use crate::products::{Element, Elements, Fillings, Openings, Spaces};
+use sb_fraction::Unit;
+use std::alloc::Global;
+use std::marker;
+use thiserror::Error;
+
+/// A building: its spaces, elements, openings and fillings, the height of the ground and the reach
+/// of walks. In each list the numbers rise from 1 on, no number stands in two lists, and what an
+/// opening or a filling names is there.
+#[derive(Drop)]
+pub struct Model {
+    unit: Unit,
+    level: i32,
+    reach: u32,
+    spaces: Spaces,
+    elements: Elements,
+    openings: Openings,
+    fillings: Fillings,
+}
+
+impl marker::Model for Model {
+    ghost use Rattle.std.specs.Prelude.{IsTrue};
+    ghost use Rattle.sb_model.specs.Building.{Building, building, is_building};
+
+    ghost Value = { Building };
+
+    ghost view = { λ m. building m.unit m.level m.reach m.spaces m.elements m.openings m.fillings };
+
+    ghost invariant = { λ m. IsTrue (is_building (
+        building m.unit m.level m.reach m.spaces m.elements m.openings m.fillings
+        )) };
+}
+
+/// Why products are no model.
+#[derive(Debug, Drop, Error)]
+pub enum ModelError {
+    /// This number is 0, is not above the number before it in its list, stands in two lists, or is
+    /// of an opening or a filling that names what is not there. It is the first such number, in the
+    /// order of the arguments of [`Model::new`].
+    #[error("#{0} is no number of its own, or names what is not there")]
+    BadNumber(u32),
+    /// There is no memory.
+    #[error("no memory")]
+    NoMemory,
+}
+
+impl Model {
+    /// The model of these products. Heights and the reach are in millimetres (mm).
+    ///
+    /// - `Ok(model)`: it has exactly these products.
+    /// - `Err(BadNumber(n))`: exactly where n is the first bad number.
+    pub fn new(
+        _alloc: Global,
+        unit: Unit,
+        level: i32,
+        reach: u32,
+        spaces: Spaces,
+        elements: Elements,
+        openings: Openings,
+        fillings: Fillings,
+    ) -> Result<Model, ModelError>
+        requires in_range { IsTrue (is_in_range (building unit level reach spaces elements openings fillings)) }
+        requires one_space { IsTrue (is_one_space (building unit level reach spaces elements openings fillings)) }
+        ensures value { IfOk result (λ m. m ≡ building unit level reach spaces elements openings fillings) }
+        ensures bad_number { (n : ℕ) → IsErrOf result (ModelError.BadNumber n)
+            ↔ (first_bad (building unit level reach spaces elements openings fillings) ≡ Some n) }
+    {
+        if has_unnumbered(&spaces) {
+            return Err(ModelError::BadNumber(0));
+        }
+        Ok(Model {
+            unit,
+            level,
+            reach,
+            spaces,
+            elements,
+            openings,
+            fillings,
+        })
+    }
+
+    /// The unit of the file's lengths.
+    pub fn unit(&self) -> Unit
+        ensures { result ≡ self.now.unit }
+    {
+        self.unit
+    }
+
+    /// The height of the ground in millimetres (mm).
+    pub fn ground(&self) -> i32
+        ensures value { result ≡ self.now.level }
+        ensures is_building { IsTrue (is_building self.now) }
+    {
+        self.level
+    }
+
+    /// How far a walk passes through one element, in millimetres (mm).
+    pub fn reach(&self) -> u32
+        ensures value { result ≡ self.now.reach }
+        ensures is_building { IsTrue (is_building self.now) }
+    {
+        self.reach
+    }
+
+    /// The spaces.
+    pub fn spaces(&self) -> &Spaces
+        ensures value { result.now ≡ self.now.spaces }
+        ensures is_building { IsTrue (is_building self.now) }
+    {
+        &self.spaces
+    }
+
+    /// The elements.
+    pub fn elements(&self) -> &Elements
+        ensures value { result.now ≡ self.now.elements }
+        ensures is_building { IsTrue (is_building self.now) }
+    {
+        &self.elements
+    }
+
+    /// The openings.
+    pub fn openings(&self) -> &Openings
+        ensures value { result.now ≡ self.now.openings }
+        ensures is_building { IsTrue (is_building self.now) }
+    {
+        &self.openings
+    }
+
+    /// The fillings.
+    pub fn fillings(&self) -> &Fillings
+        ensures value { result.now ≡ self.now.fillings }
+        ensures is_building { IsTrue (is_building self.now) }
+    {
+        &self.fillings
+    }
+
+    /// The name of the material of a layer of an element, or no bytes where there is none. One
+    /// material through and through is that of layer 0.
+    pub fn material(&self, element: u32, layer: u32) -> &[u8]
+        ensures { result.now ≡ material_of self.now element layer }
+    {
+        match find_element(&self.elements, element) {
+            Some(element) => material_in(&element.layering, layer),
+            None => &[],
+        }
+    }
+}
+
+/// Whether a space has the number 0.
+fn has_unnumbered(spaces: &Spaces) -> bool
+    ensures { result ≡ list_any (λ s. s.number == 0) spaces.now }
+{
+    spaces.as_slice().iter().any(|s| s.number == 0)
+}
+
+/// The element with this number.
+fn find_element(elements: &Elements, number: u32) -> Option<&Element>
+    ensures { option_copied result ≡ find (λ e. e.number == number) elements.now }
+{
+    elements.as_slice().iter().find(|e| e.number == number)
+}
+
+/// The layer with this index.
+fn find_layer(layers: &Layers, index: u32) -> Option<&Layer>
+    ensures { option_copied result ≡ find (λ l. l.index == index) layers.now }
+{
+    layers.as_slice().iter().find(|l| l.index == index)
+}
+
+/// The name of the material of a layer, or no bytes.
+fn material_in(layering: &Layering, layer: u32) -> &[u8]
+    ensures { result.now ≡ material_name layering.now layer }
+{
+    match layering {
+        Layering::Plain => &[],
+        Layering::Single(material) => { if layer == 0 { material.bytes() } else { &[] } }
+        Layering::Layered(layers, _) => material_at(layers, layer),
+    }
+}
+
+/// The name of the material of the layer with this index, or no bytes.
+fn material_at(layers: &Layers, index: u32) -> &[u8]
+    ensures { result.now ≡ name_at (find (λ l. l.index == index) layers.now) }
+{
+    match find_layer(layers, index) {
+        Some(layer) => layer.material.bytes(),
+        None => &[],
+    }
+}

@@ -1,0 +1,35 @@
+//! Building models, patches of their spaces' surfaces, walks and boundaries.
+//!
+//! Every solid is a vertical prism with a plan of whole millimetres. `docs/definitions.md` says in
+//! words what `specs/` says exactly: where a point lies, what the ray from it meets, and when a
+//! list of boundaries is sound. Begin with [`Model::new`].
+#![tactic(auto)]
+
+mod boundary;
+mod building;
+mod corner;
+mod face;
+mod frame;
+mod label;
+mod layers;
+mod loops;
+mod patch;
+mod prism;
+mod products;
+mod walk;
+
+pub use boundary::{Boundaries, Boundary, Cell, Cells};
+pub use building::{Model, ModelError};
+pub use corner::{Corner, Corners};
+pub use face::{Face, FaceKind, Side};
+pub use frame::{Frame, Turn};
+pub use label::Label;
+pub use layers::{Axis, Layer, Layering, Layers};
+pub use loops::{LoopError, Loops, PointLists, Points};
+pub use patch::Patch;
+pub use prism::Prism;
+pub use products::{
+    Element, Elements, FillKind, Filling, Fillings, Opening, Openings, Space, Spaces,
+};
+pub use sb_list::Text;
+pub use walk::{End, Item, Items, Walk};

@@ -1,0 +1,4 @@
+-- What the laws speak of, in reading order.
+pub mod Sides
+pub mod Points
+pub mod Regions

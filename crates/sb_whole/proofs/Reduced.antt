@@ -1,0 +1,146 @@
+-- Reduced fractions that are equal as numbers are equal as data.
+use Rattle.std.proofs.Common.{◌≡◌, ℕ, zero, suc, ◌+◌, ◌*◌, ◌-◌, ◌<◌, ◌≤◌, ⊎_elim}
+use Rattle.std.proofs.Common.{sym, ap, ◌∙◌, subst, subst₂, arith, ℤ, pos, ◌<ℤ◌, ◌*ℤ◌, unsigned_abs}
+use Rattle.std.proofs.lemmas.Int.{ints, unsigned_abs-mul}
+use Rattle.std.proofs.Common.{mul-le-mul_left, mul-le-mul_right}
+use Rattle.std.proofs.lemmas.Bool.{cases_lt}
+use Rattle.std.proofs.Math.Nat.{dvd_refl, dvd-zero, dvd-add, eq-one_of_dvd-one, one-dvd}
+use Rattle.std.specs.Int.{◌∣◌}
+use Rattle.sb_whole.specs.Reduced.{IsReduced}
+use Rattle.sb_whole.proofs.Ring.{mul_comm, mul-one}
+use Rattle.sb_whole.proofs.Products.{unscale_equal}
+
+-- what divides both divides 1
+abbrev pub Coprime : ℕ → ℕ → Type 0
+Coprime a b = (d : ℕ) → d ∣ a → d ∣ b → d ∣ 1
+
+one_beside_zero : (b : ℕ) → Coprime 0 b → b ≡ 1
+one_beside_zero b coprime = eq-one_of_dvd-one (coprime b (dvd-zero b) (dvd_refl b))
+
+coprime-swap : (a b : ℕ) → Coprime a b → Coprime b a
+coprime-swap a b coprime d f g = coprime d g f
+
+-- a common divisor of a and k divides a + k
+coprime-less : (a k : ℕ) → Coprime a (a + k) → Coprime a k
+coprime-less a k coprime d f g = coprime d f (dvd-add d f g)
+
+-- the first number is 0
+zero_case : (b c d : ℕ) → Coprime 0 b → Coprime c d → 0 * d ≡ b * c → (0 ≡ c) × (b ≡ d)
+zero_case b c d f g e =
+    let one : b ≡ 1 = one_beside_zero b f in
+    let none : 0 ≡ c = zero_of b one e in
+    let one_d : d ≡ 1 = one_beside_zero d (subst (λ n. Coprime n d) (sym none) g) in
+    (none, one ∙ sym one_d)
+  where
+    zero_of : (b : ℕ) → b ≡ 1 → 0 * d ≡ b * c → 0 ≡ c
+    zero_of b one e =
+        let f : 0 * d ≡ 1 * c = subst (λ n. 0 * d ≡ n * c) one e in omega arith
+
+-- in two pairs of one proportion the same number is the less
+less_in_both : (a b c d : ℕ) → 0 < a → a ≤ b → a * d ≡ b * c → c ≤ d
+less_in_both a b c d above low e =
+    ⊎_elim (λ more. absurd (clash more)) (λ less. less) (cases_lt d c)
+  where
+    clash : d < c → ⊥
+    clash more =
+        let one : a * (d + 1) ≤ a * c = mul-le-mul_left a (omega arith) in
+        let other : a * c ≤ b * c = mul-le-mul_right c low in
+        omega arith
+
+Settled : ℕ → Type 0
+Settled fuel =
+    (a b c d : ℕ) → a + b ≤ fuel → Coprime a b → Coprime c d → a * d ≡ b * c
+    → (a ≡ c) × (b ≡ d)
+
+-- the lesser number is taken from the greater, in both pairs
+one_step : (fuel : ℕ) → Settled fuel → (a b c d : ℕ) → 0 < a → a ≤ b → a + b ≤ suc fuel
+    → Coprime a b → Coprime c d → a * d ≡ b * c → (a ≡ c) × (b ≡ d)
+unfolding Settled
+one_step fuel settled a b c d above low room f g e =
+    let low_c : c ≤ d = less_in_both a b c d above low e in
+    let split : b ≡ a + (b - a) = omega arith in
+    let split_c : d ≡ c + (d - c) = omega arith in
+    let rest =
+    settled a (b - a) c (d - c) (omega arith)
+    (coprime-less a (b - a) (subst (λ n. Coprime a n) split f))
+    (coprime-less c (d - c) (subst (λ n. Coprime c n) split_c g))
+    (proportion (b - a) (d - c) split split_c)
+    in
+    let second : b - a ≡ d - c = rest.1 in
+    let first : a ≡ c = rest.0 in
+    (first, omega arith)
+  where
+    proportion : (k l : ℕ) → b ≡ a + k → d ≡ c + l → a * l ≡ k * c
+    proportion k l split split_c =
+        let h : a * (c + l) ≡ (a + k) * c =
+        subst₂ (λ m n. a * m ≡ n * c) split_c split e
+        in omega arith
+
+by_steps : (fuel : ℕ) → Settled fuel
+unfolding Settled
+by_steps fuel zero b c d room f g e = zero_case b c d f g e
+by_steps fuel (suc a) zero c d room f g e =
+    let rest = zero_case (suc a) d c (coprime-swap (suc a) 0 f) (coprime-swap c d g) (sym e) in
+    (rest.1, rest.0)
+by_steps zero (suc a) (suc b) c d room f g e = absurd (omega arith)
+by_steps (suc fuel) (suc a) (suc b) c d room f g e =
+    ⊎_elim
+    (λ less.
+    one_step fuel (by_steps fuel) (suc a) (suc b) c d (omega arith) (omega arith) room f g e)
+    (λ more.
+    let rest =
+    one_step fuel (by_steps fuel) (suc b) (suc a) d c (omega arith) more (omega arith)
+    (coprime-swap (suc a) (suc b) f) (coprime-swap c d g) (sym e)
+    in (rest.1, rest.0))
+    (cases_lt (suc a) (suc b))
+
+-- two pairs without a common divisor that are in one proportion are equal
+pub same_pair : (a b c d : ℕ) → Coprime a b → Coprime c d → a * d ≡ b * c → (a ≡ c) × (b ≡ d)
+unfolding Settled
+same_pair a b c d f g e = by_steps (a + b) a b c d (omega arith) f g e
+
+-- ---- fractions
+
+-- the same proportion holds of the sizes
+sizes : (a b c d : ℤ) → a *ℤ d ≡ c *ℤ b
+    → unsigned_abs a * unsigned_abs d ≡ unsigned_abs b * unsigned_abs c
+sizes a b c d e =
+    let one = unsigned_abs-mul a d in
+    let other = unsigned_abs-mul c b in
+    let both = ap unsigned_abs e in
+    omega arith
+
+-- a number above 0 is its size
+size_is : (a b : ℤ) → pos 0 <ℤ a → pos 0 <ℤ b → unsigned_abs a ≡ unsigned_abs b → a ≡ b
+size_is a b f g e = omega (arith, ints)
+
+-- reduced fractions that are equal as numbers are equal as data
+pub reduced_unique : (num den num' den' : ℤ) → IsReduced num den → IsReduced num' den'
+    → num *ℤ den' ≡ num' *ℤ den → (num ≡ num') × (den ≡ den')
+reduced_unique num den num' den' f g e =
+    let pair =
+    same_pair (unsigned_abs num) (unsigned_abs den) (unsigned_abs num') (unsigned_abs den')
+    f.no_divisor.2 g.no_divisor.2 (sizes num den num' den' e)
+    in
+    let same : den ≡ den' = size_is den den' f.positive g.positive pair.1 in
+    (top same, same)
+  where
+    top : den ≡ den' → num ≡ num'
+    top same =
+        let f' = f.positive in
+        unscale_equal den num num' (λ zero. omega (arith, ints))
+        (mul_comm den num ∙ ap (λ n. num *ℤ n) same ∙ e ∙ mul_comm num' den)
+
+-- a whole number over 1 is reduced
+pub whole_is_reduced : (n : ℤ) → IsReduced n (pos 1)
+whole_is_reduced n =
+    record {
+      positive = omega (arith, ints);
+      no_divisor = (one-dvd (unsigned_abs n), dvd_refl 1, λ d f g. g);
+    }
+
+-- a reduced fraction that is a whole number n is n/1
+pub reduced_whole : (num den n : ℤ) → IsReduced num den → num ≡ n *ℤ den
+    → (num ≡ n) × (den ≡ pos 1)
+reduced_whole num den n f e =
+    reduced_unique num den n (pos 1) f (whole_is_reduced n) (mul-one num ∙ e)

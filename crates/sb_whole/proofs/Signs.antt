@@ -1,0 +1,79 @@
+-- What a test of order tells, how a fact answers a test, and cases on a sign.
+use Rattle.std.proofs.Common.{◌≡◌, refl, ◌⊎◌, Bool, true, false, ◌↔◌, inl, inr, sym, arith, ℤ, pos}
+use Rattle.std.proofs.Common.{◌<ℤ◌, ◌≤ℤ◌, ◌-ℤ◌, int_lt, int_le}
+use Rattle.std.proofs.lemmas.Int.{ints, by_lt_z}
+
+-- ---- a test answers true or false by the facts
+
+pub test_less : (a b : ℤ) → a <ℤ b → int_lt a b ≡ true
+test_less a b h = grind (arith, ints)
+
+pub test_not_less : (a b : ℤ) → b ≤ℤ a → int_lt a b ≡ false
+test_not_less a b h = grind (arith, ints)
+
+pub test_at_most : (a b : ℤ) → a ≤ℤ b → int_le a b ≡ true
+test_at_most a b h = grind (arith, ints)
+
+pub test_not_at_most : (a b : ℤ) → b <ℤ a → int_le a b ≡ false
+test_not_at_most a b h = grind (arith, ints)
+
+-- ---- and says a fact by its answer
+
+pub less_from : (a b : ℤ) → int_lt a b ≡ true → a <ℤ b
+less_from a b e = omega (arith, ints)
+
+pub not_less_from : (a b : ℤ) → int_lt a b ≡ false → b ≤ℤ a
+not_less_from a b e = omega (arith, ints)
+
+pub at_most_from : (a b : ℤ) → int_le a b ≡ true → a ≤ℤ b
+at_most_from a b e = omega (arith, ints)
+
+pub not_at_most_from : (a b : ℤ) → int_le a b ≡ false → b <ℤ a
+not_at_most_from a b e = omega (arith, ints)
+
+-- ---- two tests give one answer where one holds exactly where the other does
+
+same_tests : (s t : Bool) → (s ≡ true → t ≡ true) → (t ≡ true → s ≡ true) → s ≡ t
+same_tests true t to from = sym (to refl)
+same_tests false true to from = from refl
+same_tests false false to from = refl
+
+pub same_less : (a b c d : ℤ) → (a <ℤ b → c <ℤ d) → (c <ℤ d → a <ℤ b) → int_lt a b ≡ int_lt c d
+same_less a b c d to from =
+    same_tests (int_lt a b) (int_lt c d)
+    (λ e. test_less c d (to (less_from a b e)))
+    (λ e. test_less a b (from (less_from c d e)))
+
+-- ---- cases on a sign
+
+-- above 0, 0 or below 0
+pub sign_cases : (a : ℤ) → ((pos 0 <ℤ a) ⊎ (a ≡ pos 0)) ⊎ (a <ℤ pos 0)
+sign_cases a =
+    by_lt_z (pos 0) a (λ above. inl (inl above))
+    (λ low. by_lt_z a (pos 0) (λ below. inr below) (λ high. inl (inr (omega (arith, ints)))))
+
+-- above 0 or not
+pub above_or_not : (a : ℤ) → (pos 0 <ℤ a) ⊎ (a ≤ℤ pos 0)
+above_or_not a = by_lt_z (pos 0) a (λ above. inl above) (λ low. inr low)
+
+-- less, or at least
+pub less_or_not : (a b : ℤ) → (a <ℤ b) ⊎ (b ≤ℤ a)
+less_or_not a b = by_lt_z a b (λ less. inl less) (λ more. inr more)
+
+-- less, equal or more
+pub order_cases : (a b : ℤ) → ((a <ℤ b) ⊎ (a ≡ b)) ⊎ (b <ℤ a)
+order_cases a b =
+    by_lt_z a b (λ less. inl (inl less))
+    (λ low. by_lt_z b a (λ more. inr more) (λ high. inl (inr (omega (arith, ints)))))
+
+-- equal or not
+pub equal_or_not : (a b : ℤ) → (a ≡ b) ⊎ (a ≡ b → ⊥)
+equal_or_not a b =
+    by_lt_z a b (λ less. inr (λ e. omega (arith, ints)))
+    (λ low.
+    by_lt_z b a (λ more. inr (λ e. omega (arith, ints))) (λ high. inl (omega (arith, ints))))
+
+-- ---- order of differences
+
+pub difference_positive : (a b : ℤ) → (pos 0 <ℤ (b -ℤ a)) ↔ (a <ℤ b)
+difference_positive a b = (λ h. omega (arith, ints), λ h. omega (arith, ints))

@@ -1,0 +1,6 @@
+-- What the laws speak of, in reading order.
+pub mod Tests
+pub mod Arrows
+pub mod Rationals
+pub mod Intervals
+pub mod Reduced
