@@ -1,5 +1,5 @@
 -- Which boundaries a box has, where the ground, at height 0, does not cut it.
-use Rattle.std.specs.Prelude.{◌≡◌, ◌×◌, ℕ, ℤ, pos, Bool, List, [], ◌∷◌, None, int_le, if◌then◌else◌}
+use Rattle.std.specs.Prelude.{◌≡◌, ℕ, ℤ, pos, Bool, List, [], ◌∷◌, None, int_le, if◌then◌else◌}
 use Rattle.sb_model.specs.Corners.{whole}
 use Rattle.sb_model.specs.Sides.{Straight, straight_of}
 use Rattle.sb_model.specs.declared.boundary.Boundary.{Boundary}
@@ -41,6 +41,12 @@ box_patches e =
   ∷ box_patch (kind.Side 2) e.x0 e.x1 e.z0 e.z1 (above e.z0)
   ∷ box_patch (kind.Side 3) e.y0 e.y1 e.z0 e.z1 (above e.z0)
   ∷ []
+
+-- Bottom or Top
+abbrev pub IsLevelFace : FaceKind → Type 0
+IsLevelFace kind.Bottom = Unit {0}
+IsLevelFace kind.Top = Unit {0}
+IsLevelFace (kind.Side k) = ⊥
 
 -- the level line at this v
 abbrev pub level : ℤ → Straight
