@@ -3,6 +3,8 @@
 #![tactic(auto)]
 
 mod matcher;
+mod meaning;
 mod number;
 
 pub use matcher::{FirstForm, first_form};
+pub use meaning::{Defect, extent_of, is_cut};
