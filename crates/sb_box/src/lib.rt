@@ -2,8 +2,8 @@
 //! Read `specs/BoxList.antt` first: it says which patch stands on each face and what lies behind it.
 #![tactic(auto)]
 
-// mod boundaries;
+mod boundaries;
 mod extent;
 
-// pub use boundaries::box_boundaries;
+pub use boundaries::box_boundaries;
 pub use extent::Extent;

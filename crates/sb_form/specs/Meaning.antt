@@ -69,14 +69,12 @@ is_cut f = int_lt f.z (pos 0) && int_lt (pos 0) (f.z +ℤ f.height)
 abbrev pub corner : ℤ → ℤ → Point
 corner x y = record { x = x; y = y }
 
--- the corners in plan, counterclockwise from the least one
+-- the corners of a box in plan, counterclockwise from the least one
+abbrev pub rectangle : ℤ → ℤ → ℤ → ℤ → List Point
+rectangle x0 x1 y0 y1 = corner x0 y0 ∷ corner x1 y0 ∷ corner x1 y1 ∷ corner x0 y1 ∷ []
+
 abbrev pub plan_of : FirstForm → List Point
-plan_of f =
-  let x0 = f.x -ℤ half f.size_x in
-  let x1 = f.x +ℤ half f.size_x in
-  let y0 = f.y -ℤ half f.size_y in
-  let y1 = f.y +ℤ half f.size_y in
-  corner x0 y0 ∷ corner x1 y0 ∷ corner x1 y1 ∷ corner x0 y1 ∷ []
+plan_of f = rectangle (f.x -ℤ half f.size_x) (f.x +ℤ half f.size_x) (f.y -ℤ half f.size_y) (f.y +ℤ half f.size_y)
 
 -- no turn
 abbrev pub unturned : Quarter
