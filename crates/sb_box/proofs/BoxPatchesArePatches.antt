@@ -1,34 +1,122 @@
--- A patch between whole abscissae and whole heights or level lines is a patch.
-use Rattle.std.proofs.Common.{◌≡◌, ◌<◌, ◌≤◌, ◌%◌, ◌<ℤ◌, ◌≤ℤ◌, ℕ, ℤ, pos, negsuc, suc, zero, Bool, true, ◌&&◌, refl, arith, rules, IsTrue}
+-- A patch between whole abscissae and level lines or heights is a patch.
+use Rattle.std.proofs.Common.{◌≡◌, ◌<◌, ◌≤◌, ◌<ℤ◌, ◌≤ℤ◌, ◌+ℤ◌, ◌-ℤ◌, ◌*ℤ◌, ℕ, ℤ, pos, suc, zero, Bool, true, ◌&&◌, refl, arith, rules, IsTrue, ap, ◌*◌, ◌^◌}
 use Rattle.std.specs.Prelude.{unsigned_abs, int_lt, int_le, nat_le}
-use Rattle.std.proofs.lemmas.Int.{ints}
-use Rattle.std.proofs.Math.Nat.{mod_one}
+use Rattle.std.proofs.lemmas.Int.{ints, to_z-of_z}
+use Rattle.std.proofs.lemmas.Bool.{and_from, and_parts, or_left, leb-true, le-leb, eq-eqb}
+use Rattle.std.proofs.Math.Nat.{mod-one}
 use Rattle.sb_fraction.specs.Divisors.{greatest_divisor, divisor_within, are_coprime}
 use Rattle.sb_fraction.specs.Plane.{is_direction}
+use Rattle.sb_fraction.specs.Ratio.{Ratio, is_fraction}
 use Rattle.sb_model.specs.Corners.{whole}
-use Rattle.sb_model.specs.Sides.{is_abscissa_size, is_less, is_between, clearance}
-use Rattle.sb_box.specs.BoxList.{level}
-use Rattle.sb_box.specs.Extents.{is_interval}
+use Rattle.sb_model.specs.Sides.{Straight, is_abscissa_size, is_less, is_between, is_side_of, clearance, is_patch, straight_of}
+use Rattle.sb_model.specs.declared.face.FaceKind.{FaceKind}
+use Rattle.sb_model.specs.declared.face.FaceKind.TheVariants as kind
+use Rattle.sb_model.specs.declared.face.Side.{Side}
+use Rattle.sb_model.specs.declared.face.Side.TheVariants.{OnLine, Height}
+use Rattle.sb_whole.proofs.Signs.{test_less, less_from}
+use Rattle.sb_box.specs.declared.extent.Extent.{Extent}
+use Rattle.sb_box.specs.BoxList.{level, IsLevelFace}
+use Rattle.sb_box.specs.Extents.{is_interval, is_extent, farthest}
 
 -- the direction of level lines
 pub east_is_direction : IsTrue (is_direction (pos 1) (pos 0))
 unfolding greatest_divisor divisor_within
 east_is_direction = refl
 
-coprime_with_one : (n : ℕ) → greatest_divisor n 1 ≡ 1
+divisor_of_one : (n : ℕ) → greatest_divisor n 1 ≡ 1
 unfolding greatest_divisor divisor_within
-coprime_with_one zero = refl
-coprime_with_one (suc n) = rw (mod_one (suc n)) refl
+divisor_of_one n = ap (divisor_within 1 1) (mod-one n)
 
-both : (a b : Bool) → a ≡ true → b ≡ true → (a && b) ≡ true
-both true true left right = refl
+-- every number is coprime with 1
+pub coprime_with_one : (n : ℕ) → are_coprime n 1 ≡ true
+coprime_with_one n = eq-eqb _ _ (divisor_of_one n)
+
+at_most_trans : (n a b : ℕ) → nat_le n a ≡ true → a ≤ b → nat_le n b ≡ true
+at_most_trans n a b left right = le-leb n b (omega (arith, leb-true n a left))
 
 -- a coordinate in range is an abscissa
-pub whole_is_abscissa : (x : ℤ) → nat_le (unsigned_abs x) 500000 ≡ true → is_abscissa_size (whole x) ≡ true
-whole_is_abscissa x near = ?
+pub whole_is_abscissa : (x : ℤ) → nat_le (unsigned_abs x) farthest ≡ true → is_abscissa_size (whole x) ≡ true
+whole_is_abscissa x near =
+    and_from _ _ (and_from _ _ (and_from _ _ (and_from _ _ (and_from _ _ refl
+    (coprime_with_one (unsigned_abs x)))
+    (at_most_trans _ farthest (10 ^ 32) near (omega arith)))
+    refl)
+    (at_most_trans _ farthest (2 * 10 ^ 24) near (omega arith)))
+    refl
 
+-- the order of whole numbers is that of their fractions
 pub whole_is_less : (x y : ℤ) → int_lt x y ≡ true → is_less (whole x) (whole y) ≡ true
 whole_is_less x y less = grind (arith, ints)
 
+not_below : (z : ℤ) → pos 0 <ℤ z → int_le (pos 0) z ≡ true
+not_below z h = grind (arith, ints)
+
+clearance_of_levels : (v w u : ℤ) → v <ℤ w → pos 0 <ℤ clearance (level v) (level w) (whole u)
+clearance_of_levels v w u less = omega (arith, ints)
+
+-- a lower level line is below a higher one at both ends
 pub levels_are_between : (v w low high : ℤ) → int_lt v w ≡ true → is_between (level v) (level w) (whole low) (whole high) ≡ true
-levels_are_between v w low high less = ?
+levels_are_between v w low high less =
+    let left : pos 0 <ℤ clearance (level v) (level w) (whole low) = clearance_of_levels v w low (less_from v w less) in
+    let right : pos 0 <ℤ clearance (level v) (level w) (whole high) = clearance_of_levels v w high (less_from v w less) in
+    and_from _ _
+    (and_from _ _ (not_below _ left) (not_below _ right))
+    (or_left _ _ (test_less _ _ left))
+
+-- the parts of an interval
+pub interval_less : (low high : ℤ) → IsTrue (is_interval low high) → int_lt low high ≡ true
+interval_less low high h = (and_parts _ _ (and_parts _ _ h).0).0
+
+pub interval_low : (low high : ℤ) → IsTrue (is_interval low high) → nat_le (unsigned_abs low) farthest ≡ true
+interval_low low high h = (and_parts _ _ (and_parts _ _ h).0).1
+
+pub interval_high : (low high : ℤ) → IsTrue (is_interval low high) → nat_le (unsigned_abs high) farthest ≡ true
+interval_high low high h = (and_parts _ _ h).1
+
+-- between two sides of this kind that are a lower and a higher level line stands a patch
+pub is_patch_between : (face : FaceKind) (x y v w : ℤ) (low high : Ratio) (lower upper : Side)
+    → IsTrue (is_interval x y) → IsTrue (is_interval v w)
+    → low ≡ whole x → high ≡ whole y
+    → is_side_of face lower ≡ true → is_side_of face upper ≡ true
+    → straight_of lower ≡ level v → straight_of upper ≡ level w
+    → IsTrue (is_patch face low high lower upper)
+is_patch_between face x y v w low high lower upper across along low_is high_is lower_fits upper_fits lower_is upper_is =
+    rw (low_is, high_is)
+    (and_from _ _ (and_from _ _ (and_from _ _ (and_from _ _ (and_from _ _
+    (whole_is_abscissa x (interval_low x y across))
+    (whole_is_abscissa y (interval_high x y across)))
+    (whole_is_less x y (interval_less x y across)))
+    lower_fits)
+    upper_fits)
+    (rw (lower_is, upper_is) (levels_are_between v w x y (interval_less v w along))))
+
+-- between two heights of a side face stands a patch
+pub is_patch_between_heights : (k : ℕ) (x y v w below above : ℤ) (low high : Ratio)
+    → IsTrue (is_interval x y) → IsTrue (is_interval v w)
+    → low ≡ whole x → high ≡ whole y → below ≡ v → above ≡ w
+    → IsTrue (is_patch (kind.Side k) low high (Height below) (Height above))
+is_patch_between_heights k x y v w below above low high across along low_is high_is below_is above_is =
+    is_patch_between (kind.Side k) x y v w low high (Height below) (Height above) across along
+    low_is high_is refl refl (ap level below_is) (ap level above_is)
+
+-- the three intervals of a box
+pub x_is_interval : (e : Extent) → IsTrue (is_interval e.x0 e.x1)
+x_is_interval e = (and_parts _ _ (and_parts _ _ e.is_extent).0).0
+
+pub y_is_interval : (e : Extent) → IsTrue (is_interval e.y0 e.y1)
+y_is_interval e = (and_parts _ _ (and_parts _ _ e.is_extent).0).1
+
+pub z_is_interval : (e : Extent) → IsTrue (is_interval e.z0 e.z1)
+z_is_interval e = (and_parts _ _ e.is_extent).1
+
+-- the line (1, 0) at an offset in range is a side of a level face
+pub level_is_side : (v : ℤ) → IsTrue (nat_le (unsigned_abs v) farthest) → nat_le (unsigned_abs v) (10 ^ 12) ≡ true
+level_is_side v near = at_most_trans _ farthest (10 ^ 12) near (omega arith)
+
+-- a side of Bottom is one of Top
+pub side_of_level_face : (face : FaceKind) (side : Side) → IsLevelFace face
+    → IsTrue (is_side_of kind.Bottom side) → IsTrue (is_side_of face side)
+side_of_level_face kind.Bottom side flat fits = fits
+side_of_level_face kind.Top (OnLine l) flat fits = fits
+side_of_level_face kind.Top (Height h) flat fits = fits
+side_of_level_face (kind.Side k) side flat fits = absurd flat

@@ -1,1 +1,2 @@
-mod BoxPatchesArePatches
+pub mod BoxPatchesArePatches
+pub mod BoxListIsPushed

@@ -20,7 +20,7 @@ pub record BoxPatch : Type 0 where
 
 abbrev pub box_patch : FaceKind → ℤ → ℤ → ℤ → ℤ → End → BoxPatch
 box_patch face low high lower upper met =
-  record { kind = face; low = low; high = high; lower = lower; upper = upper; end = met }
+    record { kind = face; low = low; high = high; lower = lower; upper = upper; end = met }
 
 -- what lies just below a height: the earth up to the ground, and the open air above it
 abbrev pub below : ℤ → End
@@ -35,12 +35,12 @@ above z = if int_le (pos 0) z then end.Outside else end.Earth
 abbrev pub box_patches : Extent → List BoxPatch
 box_patches e =
     box_patch kind.Bottom e.x0 e.x1 e.y0 e.y1 (below e.z0)
-  ∷ box_patch kind.Top e.x0 e.x1 e.y0 e.y1 (above e.z1)
-  ∷ box_patch (kind.Side 0) e.x0 e.x1 e.z0 e.z1 (above e.z0)
-  ∷ box_patch (kind.Side 1) e.y0 e.y1 e.z0 e.z1 (above e.z0)
-  ∷ box_patch (kind.Side 2) e.x0 e.x1 e.z0 e.z1 (above e.z0)
-  ∷ box_patch (kind.Side 3) e.y0 e.y1 e.z0 e.z1 (above e.z0)
-  ∷ []
+    ∷ box_patch kind.Top e.x0 e.x1 e.y0 e.y1 (above e.z1)
+    ∷ box_patch (kind.Side 0) e.x0 e.x1 e.z0 e.z1 (above e.z0)
+    ∷ box_patch (kind.Side 1) e.y0 e.y1 e.z0 e.z1 (above e.z0)
+    ∷ box_patch (kind.Side 2) e.x0 e.x1 e.z0 e.z1 (above e.z0)
+    ∷ box_patch (kind.Side 3) e.y0 e.y1 e.z0 e.z1 (above e.z0)
+    ∷ []
 
 -- Bottom or Top
 abbrev pub IsLevelFace : FaceKind → Type 0

@@ -1,9 +1,9 @@
 // The list of the boundaries of a box.
-ghost use Rattle.std.specs.Prelude.{◌≡◌, ◌≤◌, ◌++◌, ◌∷◌, [], pos, IsTrue, IfOk, OnOk, OnErr, None, unsigned_abs};
+ghost use Rattle.std.specs.Prelude.{◌≡◌, ◌++◌, ◌∷◌, [], pos, IsTrue, IfOk, OnOk, OnErr, None, nat_le, unsigned_abs};
 ghost use Rattle.sb_box.specs.BoxList.{IsBoxList, IsBoxBoundary, IsLevelFace, box_patch, below, above, level};
-ghost use Rattle.sb_box.specs.Extents.{is_interval, is_extent};
+ghost use Rattle.sb_box.specs.Extents.{is_interval, farthest};
 ghost use Rattle.sb_model.specs.Corners.{whole};
-ghost use Rattle.sb_model.specs.Sides.{straight_of};
+ghost use Rattle.sb_model.specs.Sides.{straight_of, is_side_of};
 
 use crate::extent::Extent;
 use sb_fraction::{Direction, Fraction, Line};
@@ -93,7 +93,9 @@ fn whole(x: i32) -> Fraction
 
 /// The line in plan on which v is this.
 fn level_line(v: i32) -> Side
-    ensures { straight_of result ≡ level v }
+    requires { IsTrue (nat_le (unsigned_abs v) farthest) }
+    ensures same { straight_of result ≡ level v }
+    ensures fits { IsTrue (is_side_of FaceKind.Bottom result) }
 {
     let east = Direction { x: 1, y: 0 };
     Side::OnLine(Line {

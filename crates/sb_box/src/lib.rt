@@ -4,6 +4,8 @@
 
 mod boundaries;
 mod extent;
+#[cfg(test)]
+mod tests;
 
 pub use boundaries::box_boundaries;
 pub use extent::Extent;
