@@ -1,8 +1,9 @@
 -- A region is uncrossed exactly where it is at its ends, and open strictly between them.
-use Rattle.std.proofs.Common.{◌≡◌, ◌⊎◌, ⊎_elim, inl, inr, refl, sym, ◌∙◌, ap, arith, ℤ, pos, ◌<ℤ◌}
-use Rattle.std.proofs.Common.{◌≤ℤ◌, ◌*ℤ◌, Bool, true, false, not, ◌&&◌, Decides, int_lt, int_le}
+use Rattle.std.proofs.Common.{◌≡◌, ⊎_elim, arith, ℤ, pos, ◌<ℤ◌}
+use Rattle.std.proofs.Common.{◌≤ℤ◌, Bool, true, false, not, ◌&&◌, int_lt, int_le}
 use Rattle.std.proofs.lemmas.Int.{ints}
-use Rattle.std.proofs.lemmas.Bool.{and_parts, and_from, not-true, false_from_ne_true, not_from_false}
+use Rattle.std.proofs.lemmas.Bool.{and_parts, and_from, not-true, false_from_ne_true}
+use Rattle.std.proofs.lemmas.Bool.{not_from_false}
 use Rattle.std.specs.Ordering.{int_eq}
 use Rattle.std.specs.Cmp.{signed_Decides}
 use Rattle.sb_whole.specs.Arrows.{Arrow, cross}
@@ -12,7 +13,7 @@ use Rattle.sb_whole.proofs.Products.{weak_product, weak_factor}
 use Rattle.sb_whole.proofs.Rationals.{between, value_at_same, number_cases, below_clash}
 use Rattle.sb_whole.proofs.Rationals.{same_sym}
 use Rattle.sb_whole.proofs.Clear.{positive_between, weak_at_low, weak_at_high}
-use Rattle.sb_plane.specs.Sides.{LineSide, IsLineSide, clearance, clearance_at}
+use Rattle.sb_plane.specs.Sides.{clearance, clearance_at}
 use Rattle.sb_plane.specs.Regions.{Region, IsRegion, is_region}
 
 -- ---- strictly between its ends a region is open
@@ -59,7 +60,8 @@ uncrossed_to_ends p r u u_in after before =
     at_high : IsSame u p.high → pos 0 ≤ℤ clearance_at p.lower p.upper u
     at_high same =
         same_sign (clearance p.lower p.upper) p.high u r.high_in u_in same
-        (weak_at_high (clearance p.lower p.upper) p.low p.high r.low_in r.high_in r.wide r.uncrossed)
+        (weak_at_high (clearance p.lower p.upper) p.low p.high r.low_in r.high_in r.wide
+        r.uncrossed)
 
 -- ---- the test of the ends decides
 

@@ -1,13 +1,13 @@
 -- Two sides whose clearance is the zero form are one side, as data; so two sides are told apart by
 -- any place at which their values differ, and agree at one place at most otherwise.
-use Rattle.std.proofs.Common.{◌≡◌, refl, sym, ap, ap₂, ◌∙◌, arith, ℤ, pos, ◌<ℤ◌, ◌-ℤ◌, ◌*ℤ◌}
-use Rattle.std.proofs.Common.{Bool, true, false, ◌&&◌, Decides}
+use Rattle.std.proofs.Common.{◌≡◌, ap, ◌∙◌, arith, ℤ, pos, ◌-ℤ◌, ◌*ℤ◌}
+use Rattle.std.proofs.Common.{true, ◌&&◌, Decides}
 use Rattle.std.proofs.lemmas.Int.{ints}
 use Rattle.std.specs.Ordering.{int_eq}
 use Rattle.std.specs.Cmp.{signed_Decides}
 use Rattle.std.proofs.lemmas.Bool.{and_parts, and_from}
 use Rattle.sb_whole.specs.Arrows.{Arrow}
-use Rattle.sb_whole.specs.Rationals.{IsRational, IsZeroForm, IsForm, IsSame}
+use Rattle.sb_whole.specs.Rationals.{IsZeroForm, IsForm, IsSame}
 use Rattle.sb_whole.proofs.Products.{unscale_equal}
 use Rattle.sb_whole.proofs.Ring.{mul_comm}
 use Rattle.sb_whole.proofs.Rationals.{one_zero}
@@ -68,6 +68,7 @@ pub other_side_is_form : (l m : LineSide) → IsReducedSide l → IsReducedSide 
     → (l ≡ m → ⊥) → IsForm (clearance l m)
 other_side_is_form l m l_in m_in other zero = other (same_side l m l_in m_in zero)
 
+-- at two places at which they meet u is the same number
 pub meet_once : (l m : LineSide) → IsReducedSide l → IsReducedSide m → (l ≡ m → ⊥)
     → (u w : Arrow) → clearance_at l m u ≡ pos 0 → clearance_at l m w ≡ pos 0 → IsSame u w
 meet_once l m l_in m_in other u w at_u at_w =

@@ -1,11 +1,11 @@
 -- What a patch covers of its face: a part of the plane between two abscissae and two sides, its
 -- inner points and its closure on a line u = constant.
-use Rattle.std.specs.Prelude.{◌≡◌, pos, ◌≤ℤ◌, ◌*ℤ◌, Bool, ◌&&◌, not, int_lt, int_le}
+use Rattle.std.specs.Prelude.{◌≡◌, pos, ◌≤ℤ◌, Bool, ◌&&◌, not, int_lt, int_le}
 use Rattle.std.specs.Ordering.{int_eq}
 use Rattle.sb_whole.specs.Arrows.{Arrow, cross}
-use Rattle.sb_whole.specs.Rationals.{IsRational, IsBelow, IsAtMost, is_below, value_at}
+use Rattle.sb_whole.specs.Rationals.{IsRational, IsBelow, IsAtMost, is_below}
 use Rattle.sb_plane.specs.Sides.{LineSide, IsLineSide, clearance_at, is_same_side, value_on}
-use Rattle.sb_plane.specs.Points.{FacePoint, along, is_above, is_under}
+use Rattle.sb_plane.specs.Points.{FacePoint, abscissa_of, is_above_side, is_under_side}
 
 -- the points with low < u < high between two sides
 pub record Region : Type 0 where
@@ -29,7 +29,7 @@ is_reached p u = is_at_most p.low u && is_at_most u p.high
 -- the point lies in the region: all four conditions are strict
 abbrev pub is_inside : Region → FacePoint → Bool
 is_inside p point =
-    is_spanned p (along point) && (is_above p.lower point && is_under p.upper point)
+    is_spanned p (abscissa_of point) && (is_above_side p.lower point && is_under_side p.upper point)
 
 -- the two sides are two lines of positive first part, the region is wide, its lower side is nowhere
 -- above its upper side between its ends, and the two meet at one of the ends at most

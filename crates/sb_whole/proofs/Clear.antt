@@ -154,6 +154,40 @@ falling_zero form r t r_in t_in low at_r at_t =
         ∙ equal (plus (times (var form.x) (negated (var form.y))) (times (var form.y) (var form.x)))
         (num 0) (omega arith)
 
+-- of a product below 0 the other factor of one below 0 is above 0
+up_from_negative : (a b : ℤ) → (a *ℤ b) <ℤ pos 0 → a <ℤ pos 0 → pos 0 <ℤ b
+up_from_negative a b product low =
+    by_lt_z (pos 0) b (λ above. above)
+    (λ none.
+    let above = weak_product_of_negatives a b (omega (arith, ints)) none in
+    absurd (omega (arith, ints)))
+
+-- and a factor that is at least 0 is above 0
+up_from_weak : (a b : ℤ) → (a *ℤ b) <ℤ pos 0 → pos 0 ≤ℤ a → pos 0 <ℤ a
+up_from_weak a b product high =
+    by_lt_z (pos 0) a (λ above. above)
+    (λ none.
+    let zero : a ≡ pos 0 = omega (arith, ints) in
+    let below = rw zero at product in
+    let same = zero-mul b in
+    absurd (omega (arith, ints)))
+
+-- where the signs at r and t are strictly opposite, the zero of the form lies strictly between
+pub zero_between : (form r t : Arrow) → IsRational r → IsRational t → IsBelow r t
+    → changes_sign form r t ≡ true → IsZeroBetween form r t (zero_of form)
+zero_between form r t r_in t_in low e =
+    by_lt_z (value_at form r) (pos 0)
+    (λ at_r.
+    rising_zero form r t r_in t_in low at_r
+    (up_from_negative (value_at form r) (value_at form t) product at_r))
+    (λ at_r.
+    let above = up_from_weak (value_at form r) (value_at form t) product at_r in
+    falling_zero form r t r_in t_in low above
+    (negative_factor (value_at form r) (value_at form t) above product))
+  where
+    product : (value_at form r *ℤ value_at form t) <ℤ pos 0
+    product = less_from (value_at form r *ℤ value_at form t) (pos 0) e
+
 -- end lies above r and at most at t, and the form keeps its sign from r to end
 pub record IsStop (form r t end : Arrow) : Type 0 where
   pub rational : IsRational end
@@ -164,65 +198,29 @@ pub record IsStop (form r t end : Arrow) : Type 0 where
 stop_by : (form r t : Arrow) → IsForm form → IsRational r → IsRational t → IsBelow r t
     → (b : Bool) → changes_sign form r t ≡ b → IsStop form r t (cond b (zero_of form) t)
 stop_by form r t apart r_in t_in low true e =
-    by_lt_z (value_at form r) (pos 0)
-    (λ at_r.
-    let at_t : pos 0 <ℤ value_at form t = other_up at_r in
-    let z = rising_zero form r t r_in t_in low at_r at_t in
+    let z = zero_between form r t r_in t_in low e in
     record {
       rational = z.rational;
       after = z.after;
       within = at_most_from_below (zero_of form) t z.before;
-      keep =
-          inr (negative_between form r (zero_of form) z.after (omega (arith, ints))
-          (at_most_zero z.zero) (λ zero. absurd (less_zero at_r zero)));
-    })
-    (λ at_r.
-    let at_r' : pos 0 <ℤ value_at form r = own_up at_r in
-    let at_t : value_at form t <ℤ pos 0 =
-    negative_factor (value_at form r) (value_at form t) at_r' product
-    in
-    let z = falling_zero form r t r_in t_in low at_r' at_t in
-    record {
-      rational = z.rational;
-      after = z.after;
-      within = at_most_from_below (zero_of form) t z.before;
-      keep =
-          inl (positive_between form r (zero_of form) z.after at_r
-          (at_least_zero z.zero) (λ zero. absurd (more_zero at_r' zero)));
-    })
+      keep = kept z;
+    }
   where
-    product : (value_at form r *ℤ value_at form t) <ℤ pos 0
-    product = less_from (value_at form r *ℤ value_at form t) (pos 0) e
-
-    other_up : value_at form r <ℤ pos 0 → pos 0 <ℤ value_at form t
-    other_up at_r =
-        by_lt_z (pos 0) (value_at form t) (λ above. above)
-        (λ none.
-        let low_r : value_at form r ≤ℤ pos 0 = omega (arith, ints) in
-        let above = weak_product_of_negatives (value_at form r) (value_at form t) low_r none in
-        let below = product in
-        absurd (omega (arith, ints)))
-
-    own_up : pos 0 ≤ℤ value_at form r → pos 0 <ℤ value_at form r
-    own_up at_r =
-        by_lt_z (pos 0) (value_at form r) (λ above. above)
-        (λ none.
-        let zero : value_at form r ≡ pos 0 = omega (arith, ints) in
-        let below = rw zero at product in
-        let same = zero-mul (value_at form t) in
-        absurd (omega (arith, ints)))
-
     at_most_zero : {a : ℤ} → a ≡ pos 0 → a ≤ℤ pos 0
     at_most_zero zero = omega (arith, ints)
 
     at_least_zero : {a : ℤ} → a ≡ pos 0 → pos 0 ≤ℤ a
     at_least_zero zero = omega (arith, ints)
 
-    less_zero : {a : ℤ} → a <ℤ pos 0 → a ≡ pos 0 → ⊥
-    less_zero less zero = omega (arith, ints)
-
-    more_zero : {a : ℤ} → pos 0 <ℤ a → a ≡ pos 0 → ⊥
-    more_zero more zero = omega (arith, ints)
+    kept : IsZeroBetween form r t (zero_of form) → Keeps r (zero_of form) form
+    kept z =
+        by_lt_z (value_at form r) (pos 0)
+        (λ at_r.
+        inr (negative_between form r (zero_of form) z.after (omega (arith, ints))
+        (at_most_zero z.zero) (not_both_zero form r (zero_of form) z.after apart)))
+        (λ at_r.
+        inl (positive_between form r (zero_of form) z.after at_r (at_least_zero z.zero)
+        (not_both_zero form r (zero_of form) z.after apart)))
 stop_by form r t apart r_in t_in low false e =
     record {
       rational = t_in;
@@ -447,8 +445,8 @@ module _ (k : ℤ) (r t : Arrow) where
 outweighs : (a b : ℤ) → a <ℤ pos 0 → ((pos (unsigned_abs b + 1) *ℤ a) +ℤ b) <ℤ pos 0
 outweighs a b low =
     let many =
-      scale_at_most (pos (unsigned_abs b + 1)) a (negsuc 0) (omega (arith, ints))
-        (omega (arith, ints))
+    scale_at_most (pos (unsigned_abs b + 1)) a (negsuc 0) (omega (arith, ints))
+    (omega (arith, ints))
     in
     let turned = mul-neg (pos (unsigned_abs b + 1)) (pos 1) in
     let one = mul-one (pos (unsigned_abs b + 1)) in
@@ -460,9 +458,9 @@ pub weak_at_low : (form r t : Arrow) → IsRational r → IsRational t → IsBel
     → pos 0 ≤ℤ value_at form r
 weak_at_low form r t r_in t_in low high =
     by_lt_z (value_at form r) (pos 0)
-      (λ below.
-        absurd (clash below (pos (unsigned_abs (value_at form t) + 1)) refl))
-      (λ high. high)
+    (λ below.
+    absurd (clash below (pos (unsigned_abs (value_at form t) + 1)) refl))
+    (λ high. high)
   where
     clash : value_at form r <ℤ pos 0 → (k : ℤ) → k ≡ pos (unsigned_abs (value_at form t) + 1) → ⊥
     clash below k is =
@@ -470,7 +468,7 @@ weak_at_low form r t r_in t_in low high =
         let u_in = nearer-IsRational k r t above r_in t_in in
         let after : IsBelow r (nearer k r t) = rw (cross-nearer k r t) low in
         let before : IsBelow (nearer k r t) t =
-          rw (nearer-cross k r t) (positive_product k (cross r t) above low)
+        rw (nearer-cross k r t) (positive_product k (cross r t) above low)
         in
         let at_u = high (nearer k r t) u_in after before in
         let value = value-nearer k r t form in
@@ -484,7 +482,7 @@ pub weak_at_high : (form r t : Arrow) → IsRational r → IsRational t → IsBe
     → pos 0 ≤ℤ value_at form t
 weak_at_high form r t r_in t_in low high =
     rw (dot-mirror form t)
-      at (weak_at_low (mirror form) (mirror t) (mirror r) t_in r_in (rw (cross-mirror t r) low)
-        (λ u u_in after before.
-          rw (mirror-dot form u)
-            (high (mirror u) u_in (rw (cross-mirror_comm r u) before) (rw (mirror-cross u t) after))))
+    at (weak_at_low (mirror form) (mirror t) (mirror r) t_in r_in (rw (cross-mirror t r) low)
+    (λ u u_in after before.
+    rw (mirror-dot form u)
+    (high (mirror u) u_in (rw (cross-mirror_comm r u) before) (rw (mirror-cross u t) after))))

@@ -10,30 +10,36 @@ use Rattle.sb_whole.specs.Tests.{differ, is_odd_number}
 
 -- ---- exclusive or
 
+-- a bit does not differ from itself
 pub differ-self : (b : Bool) → differ b b ≡ false
 differ-self true = refl
 differ-self false = refl
 
+-- to differ from false is to be true
 pub differ-false : (b : Bool) → differ b false ≡ b
 differ-false true = refl
 differ-false false = refl
 
+-- to differ from true is to be false
 pub differ-true : (b : Bool) → differ b true ≡ not b
 differ-true true = refl
 differ-true false = refl
 
+-- exclusive or does not see the order of its bits
 pub differ_comm : (b c : Bool) → differ b c ≡ differ c b
 differ_comm true true = refl
 differ_comm true false = refl
 differ_comm false true = refl
 differ_comm false false = refl
 
+-- nor how they are grouped
 pub differ_assoc : (b c d : Bool) → differ (differ b c) d ≡ differ b (differ c d)
 differ_assoc true true true = refl
 differ_assoc true true false = refl
 differ_assoc true false d = refl
 differ_assoc false c d = refl
 
+-- to turn one bit turns the answer
 pub not-differ : (b c : Bool) → differ (not b) c ≡ not (differ b c)
 not-differ true true = refl
 not-differ true false = refl

@@ -8,6 +8,7 @@ use Rattle.sb_whole.proofs.Ring.{mul_comm}
 
 -- ---- the sign of a product, from the signs of its factors
 
+-- above 0 times above 0
 pub positive_product : (a b : ℤ) → pos 0 <ℤ a → pos 0 <ℤ b → pos 0 <ℤ (a *ℤ b)
 positive_product (pos a) (pos b) f g =
     let up_a : 0 < a = omega (arith, ints) in
@@ -16,6 +17,7 @@ positive_product (pos a) (pos b) f g =
 positive_product (pos a) (negsuc b) f g = absurd (omega (arith, ints))
 positive_product (negsuc a) b f g = absurd (omega (arith, ints))
 
+-- above 0 times below 0
 pub negative_product : (a b : ℤ) → pos 0 <ℤ a → b <ℤ pos 0 → (a *ℤ b) <ℤ pos 0
 negative_product a b f g =
     let turned : pos 0 <ℤ (neg_ℤ b) = omega (arith, ints) in
@@ -23,6 +25,7 @@ negative_product a b f g =
     let same = mul-neg a b in
     omega (arith, ints)
 
+-- below 0 times below 0
 pub product_of_negatives : (a b : ℤ) → a <ℤ pos 0 → b <ℤ pos 0 → pos 0 <ℤ (a *ℤ b)
 product_of_negatives a b f g =
     let turned_a : pos 0 <ℤ (neg_ℤ a) = omega (arith, ints) in
@@ -31,11 +34,13 @@ product_of_negatives a b f g =
     let same = neg-mul-neg a b in
     omega (arith, ints)
 
+-- at least 0 times at least 0
 pub weak_product : (a b : ℤ) → pos 0 ≤ℤ a → pos 0 ≤ℤ b → pos 0 ≤ℤ (a *ℤ b)
 weak_product (pos a) (pos b) f g = omega (arith, ints)
 weak_product (pos a) (negsuc b) f g = absurd (omega (arith, ints))
 weak_product (negsuc a) b f g = absurd (omega (arith, ints))
 
+-- at least 0 times at most 0
 pub weak_negative_product : (a b : ℤ) → pos 0 ≤ℤ a → b ≤ℤ pos 0 → (a *ℤ b) ≤ℤ pos 0
 weak_negative_product a b f g =
     let turned : pos 0 ≤ℤ (neg_ℤ b) = omega (arith, ints) in
@@ -43,6 +48,7 @@ weak_negative_product a b f g =
     let same = mul-neg a b in
     omega (arith, ints)
 
+-- at most 0 times at most 0
 pub weak_product_of_negatives : (a b : ℤ) → a ≤ℤ pos 0 → b ≤ℤ pos 0 → pos 0 ≤ℤ (a *ℤ b)
 weak_product_of_negatives a b f g =
     let turned_a : pos 0 ≤ℤ (neg_ℤ a) = omega (arith, ints) in
@@ -51,12 +57,14 @@ weak_product_of_negatives a b f g =
     let same = neg-mul-neg a b in
     omega (arith, ints)
 
+-- a square is at least 0
 pub weak_square : (a : ℤ) → pos 0 ≤ℤ (a *ℤ a)
 weak_square a =
     by_lt_z a (pos 0)
     (λ low. weak_product_of_negatives a a (omega (arith, ints)) (omega (arith, ints)))
     (λ high. weak_product a a high high)
 
+-- the square of a number that is not 0 is above 0
 pub positive_square : (a : ℤ) → (a ≡ pos 0 → ⊥) → pos 0 <ℤ (a *ℤ a)
 positive_square a apart =
     by_lt_z a (pos 0) (λ low. product_of_negatives a a low low)
@@ -66,6 +74,7 @@ positive_square a apart =
 
 -- ---- a factor of known sign is taken away
 
+-- above 0, of a product above 0
 pub positive_factor : (a b : ℤ) → pos 0 <ℤ a → pos 0 <ℤ (a *ℤ b) → pos 0 <ℤ b
 positive_factor a b f h =
     by_lt_z (pos 0) b (λ above. above)
@@ -73,6 +82,7 @@ positive_factor a b f h =
     let below = weak_negative_product a b (omega (arith, ints)) low in
     absurd (omega (arith, ints)))
 
+-- above 0, of a product below 0
 pub negative_factor : (a b : ℤ) → pos 0 <ℤ a → (a *ℤ b) <ℤ pos 0 → b <ℤ pos 0
 negative_factor a b f h =
     by_lt_z b (pos 0) (λ below. below)
@@ -80,6 +90,7 @@ negative_factor a b f h =
     let above = weak_product a b (omega (arith, ints)) high in
     absurd (omega (arith, ints)))
 
+-- above 0, of a product that is at least 0
 pub weak_factor : (a b : ℤ) → pos 0 <ℤ a → pos 0 ≤ℤ (a *ℤ b) → pos 0 ≤ℤ b
 weak_factor a b f h =
     by_lt_z b (pos 0)
@@ -88,6 +99,7 @@ weak_factor a b f h =
     absurd (omega (arith, ints)))
     (λ high. high)
 
+-- above 0, of a product that is at most 0
 pub weak_negative_factor : (a b : ℤ) → pos 0 <ℤ a → (a *ℤ b) ≤ℤ pos 0 → b ≤ℤ pos 0
 weak_negative_factor a b f h =
     by_lt_z (pos 0) b
@@ -139,18 +151,21 @@ zero_of_positive a b f e = zero_factor a b (λ zero. omega (arith, ints)) e
 
 -- ---- an inequality is multiplied by a factor, and freed of one
 
+-- a strict inequality, by a factor above 0
 pub scale_less : (k a b : ℤ) → pos 0 <ℤ k → a <ℤ b → (k *ℤ a) <ℤ (k *ℤ b)
 scale_less k a b f h =
     let above = positive_product k (b -ℤ a) f (omega (arith, ints)) in
     let spread = mul-sub k b a in
     omega (arith, ints)
 
+-- a weak inequality, by a factor that is at least 0
 pub scale_at_most : (k a b : ℤ) → pos 0 ≤ℤ k → a ≤ℤ b → (k *ℤ a) ≤ℤ (k *ℤ b)
 scale_at_most k a b f h =
     let above = weak_product k (b -ℤ a) f (omega (arith, ints)) in
     let spread = mul-sub k b a in
     omega (arith, ints)
 
+-- a strict inequality loses a factor that is at least 0
 pub unscale_less : (k a b : ℤ) → pos 0 ≤ℤ k → (k *ℤ a) <ℤ (k *ℤ b) → a <ℤ b
 unscale_less k a b f h =
     by_lt_z a b (λ less. less)
@@ -158,6 +173,7 @@ unscale_less k a b f h =
     let turned = scale_at_most k b a f more in
     absurd (omega (arith, ints)))
 
+-- a weak inequality loses a factor above 0
 pub unscale_at_most : (k a b : ℤ) → pos 0 <ℤ k → (k *ℤ a) ≤ℤ (k *ℤ b) → a ≤ℤ b
 unscale_at_most k a b f h =
     by_lt_z b a
@@ -166,6 +182,7 @@ unscale_at_most k a b f h =
     absurd (omega (arith, ints)))
     (λ less. less)
 
+-- an equation loses a factor that is not 0
 pub unscale_equal : (k a b : ℤ) → (k ≡ pos 0 → ⊥) → k *ℤ a ≡ k *ℤ b → a ≡ b
 unscale_equal k a b apart e =
     let spread = mul-sub k a b in

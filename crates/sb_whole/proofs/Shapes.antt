@@ -75,11 +75,12 @@ from_less {a} {b} f g h = omega (arith, f.diff, g.diff, lt_out a b h)
 pub from_at_most : {a b : ℤ} {p q r s : ℕ} → Is a p q → Is b r s → a ≤ℤ b → p + s ≤ r + q
 from_at_most {a} {b} f g h = omega (arith, f.diff, g.diff, le_out a b h)
 
--- the products of two vectors, written out
+-- the cross product, written out
 pub cross_eq : (a b : Arrow) → cross a b ≡ (a.x *ℤ b.y) -ℤ (a.y *ℤ b.x)
 unfolding cross
 cross_eq a b = refl
 
+-- the inner product, written out
 pub dot_eq : (a b : Arrow) → dot a b ≡ (a.x *ℤ b.x) +ℤ (a.y *ℤ b.y)
 unfolding dot
 dot_eq a b = refl
