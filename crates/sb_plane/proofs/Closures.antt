@@ -1,7 +1,7 @@
 -- The closures of two regions have a common point on a line just where each lower side is at most
 -- the other's upper side there.
 use Rattle.std.proofs.Common.{◌≡◌, arith, pos, ◌<ℤ◌, ◌≤ℤ◌, true}
-use Rattle.std.proofs.Common.{◌&&◌, int_le}
+use Rattle.std.proofs.Common.{◌&&◌}
 use Rattle.std.proofs.lemmas.Int.{ints, by_lt_z}
 use Rattle.std.proofs.lemmas.Bool.{and_parts, and_from}
 use Rattle.sb_whole.specs.Arrows.{Arrow, cross}
@@ -10,7 +10,7 @@ use Rattle.sb_whole.proofs.Signs.{test_at_most, at_most_from}
 use Rattle.sb_whole.proofs.Rationals.{at_most_trans, at_most_refl}
 use Rattle.sb_plane.specs.Sides.{LineSide, IsLineSide, value_on, clearance_at}
 use Rattle.sb_plane.specs.Regions.{Region, IsRegion, IsInClosure, closures_meet, is_reached}
-use Rattle.sb_plane.specs.Regions.{is_at_most}
+use Rattle.sb_plane.specs.Regions.{is_at_most, reaches_under}
 use Rattle.sb_plane.proofs.Clearance.{value_on-IsRational, at_least_is, clearance-turn}
 use Rattle.sb_plane.proofs.Regions.{uncrossed_to_ends}
 
@@ -74,14 +74,10 @@ common_from_test p q u p_in q_in u_in e =
     (λ high.
     (value_on q.lower u, common_at_lower p q u p_in q_in u_in p_reach q_reach high second))
   where
-    parts
-        : (is_reached p u && is_reached q u ≡ true)
-        × ((int_le (pos 0) (clearance_at p.lower q.upper u)
-        && int_le (pos 0) (clearance_at q.lower p.upper u)) ≡ true)
+    parts : (is_reached p u && is_reached q u ≡ true)
+        × (reaches_under p q u && reaches_under q p u ≡ true)
     parts =
-        and_parts (is_reached p u && is_reached q u)
-        (int_le (pos 0) (clearance_at p.lower q.upper u)
-        && int_le (pos 0) (clearance_at q.lower p.upper u)) e
+        and_parts (is_reached p u && is_reached q u) (reaches_under p q u && reaches_under q p u) e
 
     p_reach : IsAtMost p.low u × IsAtMost u p.high
     p_reach = reached_from p u ((and_parts (is_reached p u) (is_reached q u) parts.0).0)
@@ -92,14 +88,12 @@ common_from_test p q u p_in q_in u_in e =
     first : pos 0 ≤ℤ clearance_at p.lower q.upper u
     first =
         at_most_from (pos 0) (clearance_at p.lower q.upper u)
-        ((and_parts (int_le (pos 0) (clearance_at p.lower q.upper u))
-        (int_le (pos 0) (clearance_at q.lower p.upper u)) parts.1).0)
+        ((and_parts (reaches_under p q u) (reaches_under q p u) parts.1).0)
 
     second : pos 0 ≤ℤ clearance_at q.lower p.upper u
     second =
         at_most_from (pos 0) (clearance_at q.lower p.upper u)
-        ((and_parts (int_le (pos 0) (clearance_at p.lower q.upper u))
-        (int_le (pos 0) (clearance_at q.lower p.upper u)) parts.1).1)
+        ((and_parts (reaches_under p q u) (reaches_under q p u) parts.1).1)
 
     turned : clearance_at p.lower q.lower u <ℤ pos 0 → pos 0 ≤ℤ clearance_at q.lower p.lower u
     turned low = let same = clearance-turn p.lower q.lower u in omega (arith, ints)
@@ -108,13 +102,10 @@ common_from_test p q u p_in q_in u_in e =
 pub test_from_common : (p q : Region) (u v : Arrow) → IsRegion p → IsRegion q → IsRational u
     → IsCommon p q u v → closures_meet p q u ≡ true
 test_from_common p q u v p_in q_in u_in c =
-    and_from (is_reached p u && is_reached q u)
-    (int_le (pos 0) (clearance_at p.lower q.upper u)
-    && int_le (pos 0) (clearance_at q.lower p.upper u))
+    and_from (is_reached p u && is_reached q u) (reaches_under p q u && reaches_under q p u)
     (and_from (is_reached p u) (is_reached q u) (reaches p u c.first.after c.first.before)
     (reaches q u c.second.after c.second.before))
-    (and_from (int_le (pos 0) (clearance_at p.lower q.upper u))
-    (int_le (pos 0) (clearance_at q.lower p.upper u))
+    (and_from (reaches_under p q u) (reaches_under q p u)
     (test_at_most (pos 0) (clearance_at p.lower q.upper u)
     (below_upper p.lower q.upper p_in.lower_in q_in.upper_in c.first.above c.second.below))
     (test_at_most (pos 0) (clearance_at q.lower p.upper u)

@@ -1,6 +1,6 @@
 -- After each number there is an interval in which finitely many forms keep their sign; and before
 -- each number there is one.
-use Rattle.std.proofs.Common.{◌≡◌, inl, inr, refl, ◌∙◌, arith}
+use Rattle.std.proofs.Common.{◌≡◌, ◌⊎◌, inl, inr, refl, ◌∙◌, arith}
 use Rattle.std.proofs.Common.{Bool, true, false, List, [], ◌∷◌, map, cond}
 use Rattle.std.proofs.Common.{ℤ, pos, ◌<ℤ◌, ◌≤ℤ◌, ◌+ℤ◌, ◌-ℤ◌, ◌*ℤ◌, neg_ℤ, negsuc, ◌+◌}
 use Rattle.std.proofs.Common.{unsigned_abs, ap}
@@ -13,6 +13,8 @@ use Rattle.sb_whole.specs.Intervals.{IsPositiveOn, IsNegativeOn, Keeps, AllKeep,
 use Rattle.sb_whole.specs.Intervals.{stop, clear_end, clear_start}
 use Rattle.sb_whole.proofs.Shapes.{var, num, plus, minus, negated, times, equal, cross_is, dot_is}
 use Rattle.sb_whole.proofs.Shapes.{cross_eq, dot_eq}
+use Rattle.sb_whole.proofs.Signs.{above_or_not, less_or_not}
+use Rattle.sb_whole.proofs.Products.{weak_negative_factor}
 use Rattle.sb_whole.proofs.Signs.{less_from, not_less_from, test_less, test_not_less}
 use Rattle.sb_whole.proofs.Products.{positive_product, positive_factor}
 use Rattle.sb_whole.proofs.Products.{negative_factor, negative_product}
@@ -23,7 +25,7 @@ use Rattle.sb_whole.proofs.Rationals.{at_most_from_below, at_most_trans}
 use Rattle.sb_whole.proofs.Rationals.{mediant-IsRational, mediant_between}
 use Rattle.sb_whole.proofs.Arrows.{opposite-dot, cross-mirror, dot-mirror, mirror-cross}
 use Rattle.sb_whole.proofs.Arrows.{cross-mirror_comm}
-use Rattle.sb_whole.proofs.Ring.{mul_comm, zero-mul, mul-zero, mul-one, mul-neg}
+use Rattle.sb_whole.proofs.Ring.{mul_comm, neg-mul, zero-mul, mul-zero, mul-one, mul-neg}
 use Rattle.sb_whole.proofs.Arrows.{cross-add, add-cross, cross-scale, scale-cross, cross-self}
 use Rattle.sb_whole.proofs.Arrows.{dot-add, dot-scale, mirror-dot}
 use Rattle.sb_whole.proofs.Products.{scale_at_most}
@@ -35,34 +37,34 @@ module _ (form r t : Arrow) (low : IsBelow r t) where
   pub positive_between : pos 0 ≤ℤ value_at form r → pos 0 ≤ℤ value_at form t
       → (value_at form r ≡ pos 0 → value_at form t ≡ pos 0 → ⊥) → IsPositiveOn r t form
   positive_between at_r at_t apart u u_in after before =
-      by_lt_z (pos 0) (value_at form r)
-      (λ above. between_from_low form r u t after before low above at_t)
-      (λ none.
-      by_lt_z (pos 0) (value_at form t)
-      (λ above. between_from_high form r u t after before low at_r above)
-      (λ none_t. absurd (apart (omega (arith, ints)) (omega (arith, ints)))))
-
-  -- at most 0 at both and 0 at one of them at most: below 0 between
-  pub negative_between : value_at form r ≤ℤ pos 0 → value_at form t ≤ℤ pos 0
-      → (value_at form r ≡ pos 0 → value_at form t ≡ pos 0 → ⊥) → IsNegativeOn r t form
-  negative_between at_r at_t apart u u_in after before =
-      let turned_r = opposite-dot form r in
-      let turned_t = opposite-dot form t in
-      let turned_u = opposite-dot form u in
-      let above : pos 0 <ℤ value_at (opposite form) u =
-      by_lt_z (pos 0) (value_at (opposite form) r)
-      (λ high. between_from_low (opposite form) r u t after before low high (omega (arith, ints)))
-      (λ none.
-      by_lt_z (pos 0) (value_at (opposite form) t)
-      (λ high. between_from_high (opposite form) r u t after before low (omega (arith, ints)) high)
-      (λ none_t. absurd (apart (omega (arith, ints)) (omega (arith, ints)))))
-      in omega (arith, ints)
+      from (above_or_not (value_at form r)) (above_or_not (value_at form t))
+    where
+      from : (pos 0 <ℤ value_at form r) ⊎ (value_at form r ≤ℤ pos 0)
+          → (pos 0 <ℤ value_at form t) ⊎ (value_at form t ≤ℤ pos 0) → pos 0 <ℤ value_at form u
+      from (inl above) _ = between_from_low form r u t after before low above at_t
+      from (inr none) (inl above) = between_from_high form r u t after before low at_r above
+      from (inr none) (inr none_t) =
+          absurd (apart (omega (arith, ints)) (omega (arith, ints)))
 
   -- a form that is not the zero form is 0 at one of two numbers at most
   pub not_both_zero : (IsZeroForm form → ⊥) → value_at form r ≡ pos 0
       → value_at form t ≡ pos 0 → ⊥
   not_both_zero apart at_r at_t =
       let same = one_zero form r t apart at_r at_t in omega (arith, ints)
+
+-- at most 0 at both and 0 at one of them at most: below 0 between
+pub negative_between : (form r t : Arrow) → IsBelow r t → value_at form r ≤ℤ pos 0
+    → value_at form t ≤ℤ pos 0 → (value_at form r ≡ pos 0 → value_at form t ≡ pos 0 → ⊥)
+    → IsNegativeOn r t form
+negative_between form r t low at_r at_t apart u u_in after before =
+    let turned_r = opposite-dot form r in
+    let turned_t = opposite-dot form t in
+    let turned_u = opposite-dot form u in
+    let above =
+    positive_between (opposite form) r t low (omega (arith, ints)) (omega (arith, ints))
+    (λ zero zero_t. apart (omega (arith, ints)) (omega (arith, ints))) u u_in after before
+    in
+    omega (arith, ints)
 
 -- ---- the zero of a form between two numbers at which its signs are strictly opposite
 
@@ -226,44 +228,39 @@ stop_by form r t apart r_in t_in low false e =
       rational = t_in;
       after = low;
       within = at_most_refl t;
-      keep =
-          by_lt_z (value_at form r) (pos 0)
-          (λ at_r.
-          inr (negative_between form r t low (omega (arith, ints)) (other_down at_r)
-          (λ zero zero_t. both zero zero_t)))
-          (λ at_r.
-          by_lt_z (value_at form t) (pos 0)
-          (λ at_t.
-          inr (negative_between form r t low (own_down at_r at_t) (omega (arith, ints))
-          (λ zero zero_t. both zero zero_t)))
-          (λ at_t.
-          inl (positive_between form r t low at_r at_t (λ zero zero_t. both zero zero_t))));
+      keep = kept (less_or_not (value_at form r) (pos 0)) (less_or_not (value_at form t) (pos 0));
     }
   where
     product : pos 0 ≤ℤ (value_at form r *ℤ value_at form t)
     product = not_less_from (value_at form r *ℤ value_at form t) (pos 0) e
 
-    both : value_at form r ≡ pos 0 → value_at form t ≡ pos 0 → ⊥
-    both zero zero_t = not_both_zero form r t low apart zero zero_t
-
     other_down : value_at form r <ℤ pos 0 → value_at form t ≤ℤ pos 0
     other_down at_r =
-        by_lt_z (pos 0) (value_at form t)
-        (λ above.
-        let same = mul_comm (value_at form r) (value_at form t) in
-        let below = negative_product (value_at form t) (value_at form r) above at_r in
-        let up = product in
-        absurd (omega (arith, ints)))
-        (λ none. none)
+        let turned : pos 0 <ℤ neg_ℤ (value_at form r) = omega (arith, ints) in
+        let same = neg-mul (value_at form r) (value_at form t) in
+        let high = product in
+        weak_negative_factor (neg_ℤ (value_at form r)) (value_at form t) turned
+        (omega (arith, ints))
 
     own_down : pos 0 ≤ℤ value_at form r → value_at form t <ℤ pos 0 → value_at form r ≤ℤ pos 0
     own_down at_r at_t =
-        by_lt_z (pos 0) (value_at form r)
-        (λ above.
-        let below = negative_product (value_at form r) (value_at form t) above at_t in
-        let up = product in
-        absurd (omega (arith, ints)))
-        (λ none. none)
+        let turned : pos 0 <ℤ neg_ℤ (value_at form t) = omega (arith, ints) in
+        let same = neg-mul (value_at form t) (value_at form r) in
+        let exchanged = mul_comm (value_at form r) (value_at form t) in
+        let high = product in
+        weak_negative_factor (neg_ℤ (value_at form t)) (value_at form r) turned
+        (omega (arith, ints))
+
+    kept : (value_at form r <ℤ pos 0) ⊎ (pos 0 ≤ℤ value_at form r)
+        → (value_at form t <ℤ pos 0) ⊎ (pos 0 ≤ℤ value_at form t) → Keeps r t form
+    kept (inl at_r) _ =
+        inr (negative_between form r t low (omega (arith, ints)) (other_down at_r)
+        (not_both_zero form r t low apart))
+    kept (inr at_r) (inl at_t) =
+        inr (negative_between form r t low (own_down at_r at_t) (omega (arith, ints))
+        (not_both_zero form r t low apart))
+    kept (inr at_r) (inr at_t) =
+        inl (positive_between form r t low at_r at_t (not_both_zero form r t low apart))
 
 -- up to the stop of a form it keeps its sign
 pub stop_is : (form r t : Arrow) → IsForm form → IsRational r → IsRational t → IsBelow r t

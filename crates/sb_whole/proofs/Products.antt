@@ -1,10 +1,10 @@
 -- Signs of products, and how an inequality is scaled by a factor and freed of one.
 -- In a name `weak` stands for "at least 0" and "at most 0".
-use Rattle.std.proofs.Common.{◌≡◌, ◌⊎◌, inl, inr, ⊎_elim, arith, mul-pos, ◌<◌}
+use Rattle.std.proofs.Common.{◌≡◌, ◌⊎◌, inl, inr, ap, ◌∙◌, arith, mul-pos, ◌<◌}
 use Rattle.std.proofs.Common.{ℤ, pos, negsuc, ◌<ℤ◌, ◌≤ℤ◌, ◌-ℤ◌, ◌*ℤ◌, neg_ℤ}
 use Rattle.std.proofs.lemmas.Int.{ints, by_lt_z}
-use Rattle.sb_whole.proofs.Ring.{mul-neg, neg-mul-neg, mul-sub}
-use Rattle.sb_whole.proofs.Ring.{mul_comm}
+use Rattle.sb_whole.proofs.Signs.{sign_cases}
+use Rattle.sb_whole.proofs.Ring.{mul-neg, neg-mul, neg-mul-neg, zero-mul, mul-sub}
 
 -- ---- the sign of a product, from the signs of its factors
 
@@ -108,46 +108,32 @@ weak_negative_factor a b f h =
     absurd (omega (arith, ints)))
     (λ low. low)
 
+-- above 0, of a product that is 0
+pub zero_of_positive : (a b : ℤ) → pos 0 <ℤ a → a *ℤ b ≡ pos 0 → b ≡ pos 0
+zero_of_positive a b f e =
+    let high = weak_factor a b f (omega (arith, ints)) in
+    let low = weak_negative_factor a b f (omega (arith, ints)) in
+    omega (arith, ints)
+
 -- of a product that is 0 one factor is 0
 pub zero_product : (a b : ℤ) → a *ℤ b ≡ pos 0 → (a ≡ pos 0) ⊎ (b ≡ pos 0)
-zero_product a b e =
-    by_lt_z a (pos 0)
-    (λ low.
-    by_lt_z b (pos 0)
-    (λ low_b. absurd (from_positive (product_of_negatives a b low low_b)))
-    (λ high_b.
-    by_lt_z (pos 0) b
-    (λ above_b. absurd (from_turned low above_b))
-    (λ low_b. inr (omega (arith, ints)))))
-    (λ high.
-    by_lt_z (pos 0) a
-    (λ above.
-    by_lt_z b (pos 0) (λ low_b. absurd (from_negative (negative_product a b above low_b)))
-    (λ high_b.
-    by_lt_z (pos 0) b
-    (λ above_b. absurd (from_positive (positive_product a b above above_b)))
-    (λ low_b. inr (omega (arith, ints)))))
-    (λ low. inl (omega (arith, ints))))
+zero_product a b e = from (sign_cases a)
   where
-    from_positive : pos 0 <ℤ (a *ℤ b) → ⊥
-    from_positive h = omega (arith, ints)
-
-    from_negative : (a *ℤ b) <ℤ pos 0 → ⊥
-    from_negative h = omega (arith, ints)
-
-    from_turned : a <ℤ pos 0 → pos 0 <ℤ b → ⊥
-    from_turned f g =
-        let same = mul_comm a b in
-        let below = negative_product b a g f in
-        omega (arith, ints)
+    from : ((pos 0 <ℤ a) ⊎ (a ≡ pos 0)) ⊎ (a <ℤ pos 0) → (a ≡ pos 0) ⊎ (b ≡ pos 0)
+    from (inl (inl above)) = inr (zero_of_positive a b above e)
+    from (inl (inr zero)) = inl zero
+    from (inr below) =
+        let turned : pos 0 <ℤ (neg_ℤ a) = omega (arith, ints) in
+        let product = neg-mul a b in
+        inr (zero_of_positive (neg_ℤ a) b turned (omega (arith, ints)))
 
 -- a factor that is not 0 is taken away from a product that is 0
 pub zero_factor : (a b : ℤ) → (a ≡ pos 0 → ⊥) → a *ℤ b ≡ pos 0 → b ≡ pos 0
-zero_factor a b apart e = ⊎_elim (λ zero. absurd (apart zero)) (λ zero. zero) (zero_product a b e)
-
--- a factor above 0 is
-pub zero_of_positive : (a b : ℤ) → pos 0 <ℤ a → a *ℤ b ≡ pos 0 → b ≡ pos 0
-zero_of_positive a b f e = zero_factor a b (λ zero. omega (arith, ints)) e
+zero_factor a b apart e = from (zero_product a b e)
+  where
+    from : (a ≡ pos 0) ⊎ (b ≡ pos 0) → b ≡ pos 0
+    from (inl zero) = absurd (apart zero)
+    from (inr zero) = zero
 
 -- ---- an inequality is multiplied by a factor, and freed of one
 
@@ -194,22 +180,15 @@ unscale_equal k a b apart e =
 -- factors whose product is above 0 have one sign
 pub same_signs : (a b : ℤ) → pos 0 <ℤ (a *ℤ b)
     → ((pos 0 <ℤ a) × (pos 0 <ℤ b)) ⊎ ((a <ℤ pos 0) × (b <ℤ pos 0))
-same_signs a b h =
-    by_lt_z (pos 0) a (λ above. inl (above, positive_factor a b above h))
-    (λ low.
-    by_lt_z b (pos 0)
-    (λ low_b. inr (below low low_b, low_b))
-    (λ high_b. absurd (clash low high_b)))
+same_signs a b h = from (sign_cases a)
   where
-    clash : a ≤ℤ pos 0 → pos 0 ≤ℤ b → ⊥
-    clash f g =
-        let same = mul_comm a b in
-        let low = weak_negative_product b a g f in
-        omega (arith, ints)
-
-    below : a ≤ℤ pos 0 → b <ℤ pos 0 → a <ℤ pos 0
-    below f g =
-        by_lt_z a (pos 0) (λ less. less)
-        (λ more.
-        let low = weak_negative_product a b more (omega (arith, ints)) in
-        absurd (omega (arith, ints)))
+    from : ((pos 0 <ℤ a) ⊎ (a ≡ pos 0)) ⊎ (a <ℤ pos 0)
+        → ((pos 0 <ℤ a) × (pos 0 <ℤ b)) ⊎ ((a <ℤ pos 0) × (b <ℤ pos 0))
+    from (inl (inl above)) = inl (above, positive_factor a b above h)
+    from (inl (inr zero)) =
+        let none : a *ℤ b ≡ pos 0 = ap (λ n. n *ℤ b) zero ∙ zero-mul b in
+        absurd (omega (arith, ints))
+    from (inr below) =
+        let turned : pos 0 <ℤ (neg_ℤ a) = omega (arith, ints) in
+        let product = neg-mul a b in
+        inr (below, negative_factor (neg_ℤ a) b turned (omega (arith, ints)))
