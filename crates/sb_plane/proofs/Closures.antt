@@ -5,25 +5,19 @@ use Rattle.std.proofs.Common.{◌&&◌}
 use Rattle.std.proofs.lemmas.Int.{ints, by_lt_z}
 use Rattle.std.proofs.lemmas.Bool.{and_parts, and_from}
 use Rattle.sb_whole.specs.Arrows.{Arrow, cross}
-use Rattle.sb_whole.specs.Rationals.{IsRational, IsAtMost}
+use Rattle.sb_whole.specs.Rationals.{IsRational, IsAtMost, is_at_most}
 use Rattle.sb_whole.proofs.Signs.{test_at_most, at_most_from}
 use Rattle.sb_whole.proofs.Rationals.{at_most_trans, at_most_refl}
 use Rattle.sb_plane.specs.Sides.{LineSide, IsLineSide, value_on, clearance_at}
-use Rattle.sb_plane.specs.Regions.{Region, IsRegion, IsInClosure, closures_meet, is_reached}
-use Rattle.sb_plane.specs.Regions.{is_at_most, reaches_under}
+use Rattle.sb_plane.specs.Regions.{Region, IsRegion, IsCommon, closures_meet}
+use Rattle.sb_plane.specs.Regions.{is_reached, reaches_under}
 use Rattle.sb_plane.proofs.Clearance.{value_on-IsRational, at_least_is, clearance-turn}
 use Rattle.sb_plane.proofs.Regions.{uncrossed_to_ends}
 
--- a common point of the closures of p and q on the line u
-pub record IsCommon (p q : Region) (u v : Arrow) : Type 0 where
-  pub rational : IsRational v
-  pub first : IsInClosure p u v
-  pub second : IsInClosure q u v
-
 reached_from : (p : Region) (u : Arrow) → is_reached p u ≡ true
     → IsAtMost p.low u × IsAtMost u p.high
-reached_from p u e =
-    let parts = and_parts (is_at_most p.low u) (is_at_most u p.high) e in
+reached_from p u answer =
+    let parts = and_parts (is_at_most p.low u) (is_at_most u p.high) answer in
     (at_most_from (pos 0) (cross p.low u) parts.0, at_most_from (pos 0) (cross u p.high) parts.1)
 
 reaches : (p : Region) (u : Arrow) → IsAtMost p.low u → IsAtMost u p.high
@@ -64,7 +58,7 @@ exchanged p q u v c = record { rational = c.rational; first = c.second; second =
 -- the test finds a common point
 pub common_from_test : (p q : Region) (u : Arrow) → IsRegion p → IsRegion q → IsRational u
     → closures_meet p q u ≡ true → (v : Arrow) × IsCommon p q u v
-common_from_test p q u p_in q_in u_in e =
+common_from_test p q u p_in q_in u_in answer =
     by_lt_z (clearance_at p.lower q.lower u) (pos 0)
     (λ low. (
       value_on p.lower u,
@@ -77,7 +71,8 @@ common_from_test p q u p_in q_in u_in e =
     parts : (is_reached p u && is_reached q u ≡ true)
         × (reaches_under p q u && reaches_under q p u ≡ true)
     parts =
-        and_parts (is_reached p u && is_reached q u) (reaches_under p q u && reaches_under q p u) e
+        and_parts (is_reached p u && is_reached q u) (reaches_under p q u && reaches_under q p u)
+        answer
 
     p_reach : IsAtMost p.low u × IsAtMost u p.high
     p_reach = reached_from p u ((and_parts (is_reached p u) (is_reached q u) parts.0).0)

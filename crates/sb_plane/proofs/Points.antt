@@ -15,32 +15,32 @@ use Rattle.sb_whole.proofs.Arrows.{cross-turn}
 use Rattle.sb_plane.specs.Sides.{LineSide, value_on}
 use Rattle.sb_plane.specs.Points.{FacePoint, IsFacePoint, point_at, abscissa_of, ordinate_of, rise}
 use Rattle.sb_plane.specs.Points.{is_above_side, is_under_side, is_on_side}
-use Rattle.sb_plane.specs.Regions.{Region, is_inside, is_spanned}
+use Rattle.sb_plane.specs.Regions.{Region, IsInner, is_inside, is_spanned}
 
 -- ---- the tests say the sign of the rise
 
 above_rise : (l : LineSide) (p : FacePoint) → (is_above_side l p ≡ true) ↔ (pos 0 <ℤ rise l p)
 above_rise l p = (
-  λ e.
-      let h = less_from (l.off *ℤ p.w) ((l.dx *ℤ p.v) -ℤ (l.dy *ℤ p.u)) e in
+  λ answer.
+      let order = less_from (l.off *ℤ p.w) ((l.dx *ℤ p.v) -ℤ (l.dy *ℤ p.u)) answer in
       omega (arith, ints),
-  λ h. test_less (l.off *ℤ p.w) ((l.dx *ℤ p.v) -ℤ (l.dy *ℤ p.u)) (omega (arith, ints)),
+  λ order. test_less (l.off *ℤ p.w) ((l.dx *ℤ p.v) -ℤ (l.dy *ℤ p.u)) (omega (arith, ints)),
 )
 
 under_rise : (l : LineSide) (p : FacePoint) → (is_under_side l p ≡ true) ↔ (rise l p <ℤ pos 0)
 under_rise l p = (
-  λ e.
-      let h = less_from ((l.dx *ℤ p.v) -ℤ (l.dy *ℤ p.u)) (l.off *ℤ p.w) e in
+  λ answer.
+      let order = less_from ((l.dx *ℤ p.v) -ℤ (l.dy *ℤ p.u)) (l.off *ℤ p.w) answer in
       omega (arith, ints),
-  λ h. test_less ((l.dx *ℤ p.v) -ℤ (l.dy *ℤ p.u)) (l.off *ℤ p.w) (omega (arith, ints)),
+  λ order. test_less ((l.dx *ℤ p.v) -ℤ (l.dy *ℤ p.u)) (l.off *ℤ p.w) (omega (arith, ints)),
 )
 
 on_rise : (l : LineSide) (p : FacePoint) → (is_on_side l p ≡ true) ↔ (rise l p ≡ pos 0)
 on_rise l p = (
-  λ e.
-      let h = (signed_Decides ((l.dx *ℤ p.v) -ℤ (l.dy *ℤ p.u)) (l.off *ℤ p.w)).0 e in
+  λ answer.
+      let order = (signed_Decides ((l.dx *ℤ p.v) -ℤ (l.dy *ℤ p.u)) (l.off *ℤ p.w)).0 answer in
       omega (arith, ints),
-  λ h.
+  λ order.
       (signed_Decides ((l.dx *ℤ p.v) -ℤ (l.dy *ℤ p.u)) (l.off *ℤ p.w)).1 (omega (arith, ints)),
 )
 
@@ -79,8 +79,10 @@ module _ (l : LineSide) (p : FacePoint) (p_in : IsFacePoint p) where
   -- above the side: its value lies below the point's second coordinate
   pub above_is : (is_above_side l p ≡ true) ↔ IsBelow (value_on l (abscissa_of p)) (ordinate_of p)
   above_is = (
-    λ e. rw (cross-rise l p) (positive_product p.w (rise l p) p_in ((above_rise l p).0 e)),
-    λ h. (above_rise l p).1 (positive_factor p.w (rise l p) p_in (rw (cross-rise l p) at h)),
+    λ answer.
+        rw (cross-rise l p) (positive_product p.w (rise l p) p_in ((above_rise l p).0 answer)),
+    λ order.
+        (above_rise l p).1 (positive_factor p.w (rise l p) p_in (rw (cross-rise l p) at order)),
   )
 
   -- under the side: its value lies above
@@ -88,26 +90,26 @@ module _ (l : LineSide) (p : FacePoint) (p_in : IsFacePoint p) where
   under_is =
       let turn = cross-turn (value_on l (abscissa_of p)) (ordinate_of p) in
       let same = cross-rise l p in (
-        λ e.
-            let low = negative_product p.w (rise l p) p_in ((under_rise l p).0 e) in
+        λ answer.
+            let low = negative_product p.w (rise l p) p_in ((under_rise l p).0 answer) in
             omega (arith, ints),
-        λ h.
+        λ order.
             (under_rise l p).1 (negative_factor p.w (rise l p) p_in (omega (arith, ints))),
       )
 
   -- on the side: they are the same number
   pub on_is : (is_on_side l p ≡ true) ↔ IsSame (value_on l (abscissa_of p)) (ordinate_of p)
   on_is = (
-    λ e. cross-rise l p ∙ ap (λ n. p.w *ℤ n) ((on_rise l p).0 e) ∙ mul-zero p.w,
-    λ h. (on_rise l p).1 (zero_of_positive p.w (rise l p) p_in (rw (cross-rise l p) at h)),
+    λ answer. cross-rise l p ∙ ap (λ n. p.w *ℤ n) ((on_rise l p).0 answer) ∙ mul-zero p.w,
+    λ order. (on_rise l p).1 (zero_of_positive p.w (rise l p) p_in (rw (cross-rise l p) at order)),
   )
 
 -- at the point (u, v) the first test compares v with the value at u
 pub above_at : (l : LineSide) (u v : Arrow)
     → (is_above_side l (point_at u v) ≡ true) ↔ IsBelow (value_on l u) v
 above_at l u v = (
-  λ e. rw (rise-point_at l u v) at ((above_rise l (point_at u v)).0 e),
-  λ h. (above_rise l (point_at u v)).1 (rw (rise-point_at l u v) h),
+  λ answer. rw (rise-point_at l u v) at ((above_rise l (point_at u v)).0 answer),
+  λ order. (above_rise l (point_at u v)).1 (rw (rise-point_at l u v) order),
 )
 
 -- and so is the test from below
@@ -116,8 +118,8 @@ pub under_at : (l : LineSide) (u v : Arrow)
 under_at l u v =
     let turn = cross-turn (value_on l u) v in
     let same = rise-point_at l u v in (
-      λ e. let low = (under_rise l (point_at u v)).0 e in omega (arith, ints),
-      λ h. (under_rise l (point_at u v)).1 (omega (arith, ints)),
+      λ answer. let low = (under_rise l (point_at u v)).0 answer in omega (arith, ints),
+      λ order. (under_rise l (point_at u v)).1 (omega (arith, ints)),
     )
 
 -- ---- inner points of a region
@@ -138,21 +140,14 @@ abscissa_of-cross r u v =
     (times (var v.x) (cross_is u r))
     (omega arith)
 
--- the point (u, v) lies in the region: strictly between its ends, and strictly between its sides
-pub record IsInner (p : Region) (u v : Arrow) : Type 0 where
-  pub after : IsBelow p.low u
-  pub before : IsBelow u p.high
-  pub above : IsBelow (value_on p.lower u) v
-  pub under : IsBelow v (value_on p.upper u)
-
 module _ (p : Region) (u v : Arrow) (v_in : IsRational v) where
   -- the test says so
   pub inner_from : is_inside p (point_at u v) ≡ true → IsInner p u v
-  inner_from e =
+  inner_from answer =
       let point = point_at u v in
       let parts =
       and_parts (is_spanned p (abscissa_of point))
-      (is_above_side p.lower point && is_under_side p.upper point) e
+      (is_above_side p.lower point && is_under_side p.upper point) answer
       in
       let ends =
       and_parts (is_below p.low (abscissa_of point)) (is_below (abscissa_of point) p.high) parts.0

@@ -71,18 +71,18 @@ not_both : (a b : ℤ) → (a ≡ pos 0 → b ≡ pos 0 → ⊥)
 not_both a b apart =
     not_from_false (int_eq a (pos 0) && int_eq b (pos 0))
     (false_from_ne_true (int_eq a (pos 0) && int_eq b (pos 0))
-    (λ e.
-    let parts = and_parts (int_eq a (pos 0)) (int_eq b (pos 0)) e in
+    (λ answer.
+    let parts = and_parts (int_eq a (pos 0)) (int_eq b (pos 0)) answer in
     apart ((signed_Decides a (pos 0)).0 parts.0) ((signed_Decides b (pos 0)).0 parts.1)))
 
 from_not_both : (a b : ℤ) → not (int_eq a (pos 0) && int_eq b (pos 0)) ≡ true
     → a ≡ pos 0 → b ≡ pos 0 → ⊥
-from_not_both a b e f g =
+from_not_both a b answer first second =
     let both =
-    and_from (int_eq a (pos 0)) (int_eq b (pos 0)) ((signed_Decides a (pos 0)).1 f)
-    ((signed_Decides b (pos 0)).1 g)
+    and_from (int_eq a (pos 0)) (int_eq b (pos 0)) ((signed_Decides a (pos 0)).1 first)
+    ((signed_Decides b (pos 0)).1 second)
     in
-    let none = not-true (int_eq a (pos 0) && int_eq b (pos 0)) e in
+    let none = not-true (int_eq a (pos 0) && int_eq b (pos 0)) answer in
     absurd (clash none both)
   where
     clash : {b : Bool} → b ≡ false → b ≡ true → ⊥
@@ -90,10 +90,10 @@ from_not_both a b e f g =
 
 -- what passes the test is a region
 pub region_from : (p : Region) → is_region p ≡ true → IsRegion p
-region_from p e =
+region_from p answer =
     let first =
     and_parts (has_ends p)
-    (has_sides p && (is_below p.low p.high && (is_uncrossed p && meets_once p))) e
+    (has_sides p && (is_below p.low p.high && (is_uncrossed p && meets_once p))) answer
     in
     let second =
     and_parts (has_sides p) (is_below p.low p.high && (is_uncrossed p && meets_once p)) first.1

@@ -4,7 +4,7 @@ use Rattle.std.specs.Prelude.{◌≡◌, pos, ◌≤ℤ◌, Bool, ◌&&◌, not,
 use Rattle.std.specs.Ordering.{int_eq}
 use Rattle.sb_whole.specs.Tests.{is_positive}
 use Rattle.sb_whole.specs.Arrows.{Arrow, cross}
-use Rattle.sb_whole.specs.Rationals.{IsRational, IsBelow, IsAtMost, is_below}
+use Rattle.sb_whole.specs.Rationals.{IsRational, IsBelow, IsAtMost, is_below, is_at_most}
 use Rattle.sb_plane.specs.Sides.{LineSide, IsLineSide, clearance_at, is_same_side, value_on}
 use Rattle.sb_plane.specs.Points.{FacePoint, abscissa_of, is_above_side, is_under_side}
 
@@ -14,10 +14,6 @@ pub record Region : Type 0 where
   pub high : Arrow
   pub lower : LineSide
   pub upper : LineSide
-
--- r <= s, as a test
-abbrev pub is_at_most : Arrow → Arrow → Bool
-is_at_most r s = int_le (pos 0) (cross r s)
 
 -- u lies strictly between the ends
 abbrev pub is_spanned : Region → Arrow → Bool
@@ -31,6 +27,14 @@ is_reached p u = is_at_most p.low u && is_at_most u p.high
 abbrev pub is_inside : Region → FacePoint → Bool
 is_inside p point =
     is_spanned p (abscissa_of point) && (is_above_side p.lower point && is_under_side p.upper point)
+
+-- the same of two rational numbers: strictly between its ends, and strictly between the values of
+-- its sides
+pub record IsInner (p : Region) (u v : Arrow) : Type 0 where
+  pub after : IsBelow p.low u
+  pub before : IsBelow u p.high
+  pub above : IsBelow (value_on p.lower u) v
+  pub under : IsBelow v (value_on p.upper u)
 
 -- the two sides are two lines of positive first part, the region is wide, its lower side is nowhere
 -- above its upper side between its ends, and the two meet at one of the ends at most
@@ -82,6 +86,12 @@ pub record IsInClosure (p : Region) (u v : Arrow) : Type 0 where
   pub before : IsAtMost u p.high
   pub above : IsAtMost (value_on p.lower u) v
   pub below : IsAtMost v (value_on p.upper u)
+
+-- a common point of the closures of p and q on the line u
+pub record IsCommon (p q : Region) (u v : Arrow) : Type 0 where
+  pub rational : IsRational v
+  pub first : IsInClosure p u v
+  pub second : IsInClosure q u v
 
 -- the lower side of p is not above the upper side of q at u
 abbrev pub reaches_under : Region → Region → Arrow → Bool

@@ -6,7 +6,8 @@ use Rattle.sb_whole.proofs.Shapes.{cross_by, dot_by}
 
 -- two vectors with equal coordinates are equal
 pub same_arrow : (a b : Arrow) → a.x ≡ b.x → a.y ≡ b.y → a ≡ b
-same_arrow a b e f = let g : arrow a.x a.y ≡ arrow b.x b.y = ap₂ arrow e f in g
+same_arrow a b same_x same_y =
+    let whole : arrow a.x a.y ≡ arrow b.x b.y = ap₂ arrow same_x same_y in whole
 
 -- ---- the cross product
 

@@ -177,7 +177,7 @@ up_from_weak a b product high =
 -- where the signs at r and t are strictly opposite, the zero of the form lies strictly between
 pub zero_between : (form r t : Arrow) → IsRational r → IsRational t → IsBelow r t
     → changes_sign form r t ≡ true → IsZeroBetween form r t (zero_of form)
-zero_between form r t r_in t_in low e =
+zero_between form r t r_in t_in low answer =
     by_lt_z (value_at form r) (pos 0)
     (λ at_r.
     rising_zero form r t r_in t_in low at_r
@@ -188,7 +188,7 @@ zero_between form r t r_in t_in low e =
     (negative_factor (value_at form r) (value_at form t) above product))
   where
     product : (value_at form r *ℤ value_at form t) <ℤ pos 0
-    product = less_from (value_at form r *ℤ value_at form t) (pos 0) e
+    product = less_from (value_at form r *ℤ value_at form t) (pos 0) answer
 
 -- end lies above r and at most at t, and the form keeps its sign from r to end
 pub record IsStop (form r t end : Arrow) : Type 0 where
@@ -199,8 +199,8 @@ pub record IsStop (form r t end : Arrow) : Type 0 where
 
 stop_by : (form r t : Arrow) → IsForm form → IsRational r → IsRational t → IsBelow r t
     → (b : Bool) → changes_sign form r t ≡ b → IsStop form r t (cond b (zero_of form) t)
-stop_by form r t apart r_in t_in low true e =
-    let z = zero_between form r t r_in t_in low e in
+stop_by form r t apart r_in t_in low true answer =
+    let z = zero_between form r t r_in t_in low answer in
     record {
       rational = z.rational;
       after = z.after;
@@ -223,7 +223,7 @@ stop_by form r t apart r_in t_in low true e =
         (λ at_r.
         inl (positive_between form r (zero_of form) z.after at_r (at_least_zero z.zero)
         (not_both_zero form r (zero_of form) z.after apart)))
-stop_by form r t apart r_in t_in low false e =
+stop_by form r t apart r_in t_in low false answer =
     record {
       rational = t_in;
       after = low;
@@ -232,7 +232,7 @@ stop_by form r t apart r_in t_in low false e =
     }
   where
     product : pos 0 ≤ℤ (value_at form r *ℤ value_at form t)
-    product = not_less_from (value_at form r *ℤ value_at form t) (pos 0) e
+    product = not_less_from (value_at form r *ℤ value_at form t) (pos 0) answer
 
     other_down : value_at form r <ℤ pos 0 → value_at form t ≤ℤ pos 0
     other_down at_r =
@@ -411,8 +411,8 @@ nearer k r t = add (scale k r) t
 module _ (k : ℤ) (r t : Arrow) where
   nearer-IsRational : pos 0 <ℤ k → IsRational r → IsRational t → IsRational (nearer k r t)
   unfolding nearer
-  nearer-IsRational f r_in t_in =
-      let up = positive_product k r.x f r_in in omega (arith, ints)
+  nearer-IsRational k_in r_in t_in =
+      let up = positive_product k r.x k_in r_in in omega (arith, ints)
 
   cross-nearer : cross r (nearer k r t) ≡ cross r t
   unfolding nearer
