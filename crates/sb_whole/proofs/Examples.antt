@@ -116,7 +116,8 @@ unfolding cross
 negative_below = refl
 
 -- 2/5 lies between 1/3 and 1/2
-mediant_of : mediant (rational (pos 1) (pos 3)) (rational (pos 1) (pos 2)) ≡ rational (pos 2) (pos 5)
+mediant_of
+    : mediant (rational (pos 1) (pos 3)) (rational (pos 1) (pos 2)) ≡ rational (pos 2) (pos 5)
 mediant_of = refl
 
 -- 2N - D is 0 at 1/2 and 1 at 1, so it is at least 0 at 2/3
