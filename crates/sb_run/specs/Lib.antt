@@ -1,2 +1,4 @@
 -- What contracts of this crate cite, in reading order.
 pub mod Command
+pub mod Answers
+pub mod Promises

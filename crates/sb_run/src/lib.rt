@@ -2,5 +2,7 @@
 //! program does. Read `specs/Promises.antt` first: each answer and when it comes.
 #![tactic(auto)]
 
+mod answer;
 mod asking;
 
+pub use answer::{Answer, Code, status};
