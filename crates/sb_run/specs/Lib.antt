@@ -2,3 +2,4 @@
 pub mod Command
 pub mod Answers
 pub mod Promises
+pub mod Steps

@@ -4,5 +4,6 @@
 
 mod answer;
 mod asking;
+mod telling;
 
 pub use answer::{Answer, Code, status};
