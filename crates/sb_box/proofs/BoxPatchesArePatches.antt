@@ -15,7 +15,7 @@ use Rattle.sb_model.specs.declared.face.Side.{Side}
 use Rattle.sb_model.specs.declared.face.Side.TheVariants.{OnLine, Height}
 use Rattle.sb_whole.proofs.Signs.{test_less, less_from}
 use Rattle.sb_box.specs.declared.extent.Extent.{Extent}
-use Rattle.sb_box.specs.BoxList.{level, IsLevelFace}
+use Rattle.sb_box.specs.BoxList.{level, is_cut, IsLevelFace}
 use Rattle.sb_box.specs.Extents.{is_interval, is_extent, farthest}
 
 -- the direction of level lines
@@ -108,6 +108,17 @@ y_is_interval e = (and_parts _ _ (and_parts _ _ e.is_extent).0).1
 
 pub z_is_interval : (e : Extent) → IsTrue (is_interval e.z0 e.z1)
 z_is_interval e = (and_parts _ _ e.is_extent).1
+
+-- the ground cuts an interval of heights into two
+pub lower_part_is_interval : (low high : ℤ) → IsTrue (is_interval low high) → IsTrue (is_cut low high)
+    → IsTrue (is_interval low (pos 0))
+lower_part_is_interval low high h cut =
+    and_from _ _ (and_from _ _ (and_parts _ _ cut).0 (interval_low low high h)) refl
+
+pub upper_part_is_interval : (low high : ℤ) → IsTrue (is_interval low high) → IsTrue (is_cut low high)
+    → IsTrue (is_interval (pos 0) high)
+upper_part_is_interval low high h cut =
+    and_from _ _ (and_from _ _ (and_parts _ _ cut).1 refl) (interval_high low high h)
 
 -- the line (1, 0) at an offset in range is a side of a level face
 pub level_is_side : (v : ℤ) → IsTrue (nat_le (unsigned_abs v) farthest) → nat_le (unsigned_abs v) (10 ^ 12) ≡ true
