@@ -2,7 +2,7 @@
 
 use Rattle.std.proofs.Common.{ℕ, zero, suc, ◌+◌, ◌*◌, ◌%◌, ◌/◌, ◌<◌, ◌≤◌, ◌≡◌, refl, subst, arith, sym}
 use Rattle.std.specs.Int.{IsGcd, ◌∣◌}
-use Rattle.std.proofs.lemmas.Nat.Gcd.{IsGcd-from_zero, IsGcd-from_mod, dvd_trans, dvd_antisymm, dvd_refl}
+use Rattle.std.proofs.lemmas.Nat.Gcd.{IsGcd-from_zero, IsGcd-from_mod, dvd_refl, dvd-zero, same_from_IsGcd}
 use Rattle.std.proofs.Math.Nat.{one-dvd, mul-dvd-mul_right, div-mul_cancel, dvd_of_mul-dvd-mul_right, mod-lt, zero-dvd, eq-zero_of_zero-dvd}
 use Rattle.sb_fraction.specs.Divisors.{divisor_within, greatest_divisor}
 
@@ -49,3 +49,12 @@ quotients_are_coprime a b g positive common = (
   where
     one_mul : (n : ℕ) → 1 * n ≡ n
     one_mul n = omega arith
+
+-- the greatest common divisor with 0 is the number
+pub greatest_divisor-zero : (a : ℕ) → greatest_divisor a 0 ≡ a
+unfolding divisor_within greatest_divisor
+greatest_divisor-zero a = refl
+
+pub zero-greatest_divisor : (b : ℕ) → greatest_divisor 0 b ≡ b
+zero-greatest_divisor b =
+    same_from_IsGcd _ _ _ _ (greatest_divisor_is 0 b) (dvd-zero b, dvd_refl b, λ d left right. right)

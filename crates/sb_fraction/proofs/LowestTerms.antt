@@ -2,13 +2,13 @@
 
 use Rattle.std.proofs.Common.{ℕ, ℤ, pos, negsuc, neg_ℤ, suc, ◌+◌, ◌*◌, ◌/◌, ◌<◌, ◌≤◌, ◌<ℤ◌, ◌*ℤ◌, ◌≡◌, zero, Bool, true, ◌&&◌, IsTrue, unsigned_abs, refl, arith, nat_eq, nat_le, int_lt, ap, sym, ◌∙◌}
 use Rattle.std.specs.Int.{IsGcd, ◌∣◌}
-use Rattle.std.proofs.lemmas.Int.{ints, to_z-of_z}
+use Rattle.std.proofs.lemmas.Int.{ints, to_z-of_z, unsigned_abs-mul}
 use Rattle.std.proofs.Common.{mul_assoc, le_trans}
-use Rattle.std.proofs.lemmas.Bool.{and_from, eq-eqb, le-leb}
-use Rattle.std.proofs.lemmas.Nat.Gcd.{same_from_IsGcd}
-use Rattle.std.proofs.Math.Nat.{div-mul_cancel, mul-div_cancel', div-le_self}
+use Rattle.std.proofs.lemmas.Bool.{and_from, and_parts, eq-eqb, eqb-true, le-leb}
+use Rattle.std.proofs.lemmas.Nat.Gcd.{same_from_IsGcd, dvd_refl}
+use Rattle.std.proofs.Math.Nat.{div-mul_cancel, mul-div_cancel', mul-div_cancel, div-le_self, div-one, zero-div, dvd-mul_left, div_self}
 use Rattle.sb_fraction.specs.Divisors.{greatest_divisor, are_coprime}
-use Rattle.sb_fraction.specs.Ratio.{Ratio, reduced, divided, is_fraction, greatest_num, greatest_den}
+use Rattle.sb_fraction.specs.Ratio.{Ratio, reduced, divided, is_fraction, is_lowest, is_within, greatest_num, greatest_den}
 use Rattle.sb_fraction.proofs.GreatestDivisor.{greatest_divisor_is, divisor_is_positive, quotients_are_coprime}
 
 -- the size of a number with its sign changed
@@ -80,21 +80,62 @@ pub reduced_is_fraction : (num den : ℤ) → pos 0 <ℤ den
     → unsigned_abs num ≤ greatest_num
     → unsigned_abs den ≤ greatest_den
     → IsTrue (is_fraction (reduced num den))
+unfolding reduced
 reduced_is_fraction num den positive num_size den_size =
     let g = greatest_divisor (unsigned_abs num) (unsigned_abs den) in
     let common : IsGcd (unsigned_abs num) (unsigned_abs den) g = greatest_divisor_is _ _ in
-    and_from _ _ (and_from _ _ (and_from _ _
+    and_from (is_lowest (reduced num den)) (is_within (reduced num den))
+    (and_from _ _
     (divided_is_positive den g positive common.1)
     (are_coprime_from _ _ (lowest_terms_at num den g (common_is_positive num den positive) common)))
-    (size_at_most num g greatest_num num_size))
-    (size_at_most den g greatest_den den_size)
+    (and_from _ _
+    (size_at_most num g greatest_num num_size)
+    (size_at_most den g greatest_den den_size))
 
 -- dividing by the greatest common divisor keeps the number
 pub reduced_is_same : (num den : ℤ) → pos 0 <ℤ den
     → (reduced num den).num *ℤ den ≡ num *ℤ (reduced num den).den
+unfolding reduced
 reduced_is_same num den positive =
     let common = greatest_divisor_is (unsigned_abs num) (unsigned_abs den) in
     divided-*ℤ num den _ positive common.0 common.1
+
+-- a number divided by 1
+divided-one : (z : ℤ) → divided z 1 ≡ z
+divided-one (pos n) = ap pos (div-one n)
+divided-one (negsuc n) = ap (λ k. neg_ℤ (pos k)) (div-one (suc n))
+
+-- a fraction in lowest terms is what its parts reduce to
+pub reduced-lowest : (r : Ratio) → IsTrue (is_fraction r) → reduced r.num r.den ≡ r
+unfolding reduced
+reduced-lowest r lowest =
+    let sizes = and_parts (is_lowest r) (is_within r) lowest in
+    let parts = and_parts (int_lt (pos 0) r.den) (are_coprime (unsigned_abs r.num) (unsigned_abs r.den)) sizes.0 in
+    rw (eqb-true _ 1 parts.1, divided-one, divided-one) refl
+
+-- the divisor of a multiple and a positive number is this number
+divisor_of_multiple : (z d : ℤ) → pos 0 <ℤ d
+    → greatest_divisor (unsigned_abs (z *ℤ d)) (unsigned_abs d) ≡ unsigned_abs d
+divisor_of_multiple z d positive =
+    same_from_IsGcd _ _ _ _ (greatest_divisor_is _ _)
+    (rw (unsigned_abs-mul z d) (dvd-mul_left _ _, dvd_refl _, λ k left right. right))
+
+divided-neg : (k g : ℕ) → divided (neg_ℤ (pos k)) g ≡ neg_ℤ (pos (k / g))
+divided-neg zero g = ap pos (zero-div g) ∙ ap (λ k. neg_ℤ (pos k)) (sym (zero-div g))
+divided-neg (suc k) g = refl
+
+divided-times : (z : ℤ) (d : ℕ) → 0 < d → divided (z *ℤ pos d) d ≡ z
+divided-times (pos n) d positive = ap pos (mul-div_cancel n positive)
+divided-times (negsuc n) d positive =
+    divided-neg (suc n * d) d ∙ ap (λ k. neg_ℤ (pos k)) (mul-div_cancel (suc n) positive)
+
+-- a fraction of a multiple is a whole number
+pub reduced-multiple : (z d : ℤ) → pos 0 <ℤ d → reduced (z *ℤ d) d ≡ record { num = z; den = pos 1 }
+unfolding reduced
+reduced-multiple z (pos d) positive =
+    let size : 0 < d = omega (arith, ints) in
+    rw (divisor_of_multiple z (pos d) positive, divided-times z d size, div_self size) refl
+reduced-multiple z (negsuc d) positive = absurd (omega (arith, ints))
 
 -- for the calls that divide: a number that is passed is itself, and what its quotients are
 pub ruleset lowest = (to_z-of_z, common_is_positive, reduced_is_fraction, reduced_is_same)

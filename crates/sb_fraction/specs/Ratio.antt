@@ -16,13 +16,17 @@ greatest_num = 10 ^ 32
 abbrev pub greatest_den : ℕ
 greatest_den = 10 ^ 25
 
--- the fraction is reduced, its denominator positive, and both are within their bounds
+-- the denominator is positive, and no number above 1 divides both
+abbrev pub is_lowest : Ratio → Bool
+is_lowest r = int_lt (pos 0) r.den && are_coprime (unsigned_abs r.num) (unsigned_abs r.den)
+
+-- numerator and denominator are within their bounds
+abbrev pub is_within : Ratio → Bool
+is_within r = nat_le (unsigned_abs r.num) greatest_num && nat_le (unsigned_abs r.den) greatest_den
+
+-- a fraction in lowest terms within the bounds
 abbrev pub is_fraction : Ratio → Bool
-is_fraction r =
-    int_lt (pos 0) r.den
-    && are_coprime (unsigned_abs r.num) (unsigned_abs r.den)
-    && nat_le (unsigned_abs r.num) greatest_num
-    && nat_le (unsigned_abs r.den) greatest_den
+is_fraction r = is_lowest r && is_within r
 
 -- a whole number divided by a divisor of it: the size is divided, the sign stays
 abbrev pub divided : ℤ → ℕ → ℤ
@@ -30,7 +34,7 @@ divided (pos n) d = pos (n / d)
 divided (negsuc n) d = neg_ℤ (pos (suc n / d))
 
 -- num/den in lowest terms
-abbrev pub reduced : ℤ → ℤ → Ratio
+unfoldable pub reduced : ℤ → ℤ → Ratio
 reduced num den =
     let common = greatest_divisor (unsigned_abs num) (unsigned_abs den) in
     record { num = divided num common; den = divided den common }

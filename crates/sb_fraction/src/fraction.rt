@@ -32,7 +32,7 @@ impl Model for Fraction {
 
 impl Fraction {
     /// The number `num/den` in lowest terms.
-    #[tactic(auto, using(crate::proofs::LowestTerms::lowest))]
+    #[tactic(auto, using(crate::proofs::LowestTerms::lowest), unfolding(crate::specs::Ratio::reduced))]
     pub fn new(num: i128, den: i128) -> Fraction
         requires positive { pos 0 <ℤ den }
         requires num_size { unsigned_abs num ≤ greatest_num }

@@ -15,7 +15,7 @@ use Rattle.sb_model.specs.Plan.{Edge, edges_of}
 use Rattle.sb_model.specs.Building.{Building}
 
 -- the step of an edge: from a to b without common divisor
-abbrev pub step : Edge → Vector
+unfoldable pub step : Edge → Vector
 step e =
     let x = e.b.x -ℤ e.a.x in
     let y = e.b.y -ℤ e.a.y in
@@ -23,22 +23,22 @@ step e =
     vector (divided x common) (divided y common) (pos 0)
 
 -- the edge runs along its direction, and not against it
-abbrev pub runs_along : Edge → Bool
+unfoldable pub runs_along : Edge → Bool
 runs_along e = is_forward (step e).x (step e).y
 
 abbrev pub opposite : Vector → Vector
 opposite v = vector (neg_ℤ v.x) (neg_ℤ v.y) (neg_ℤ v.z)
 
 -- the direction of an edge: its step or the opposite of it
-abbrev pub direction_of : Edge → Vector
+unfoldable pub direction_of : Edge → Vector
 direction_of e = if runs_along e then step e else opposite (step e)
 
 -- the outward normal of the face over an edge: the solid lies on the edge's left
-abbrev pub normal_over : Edge → Vector
+unfoldable pub normal_over : Edge → Vector
 normal_over e = vector (step e).y (neg_ℤ (step e).x) (pos 0)
 
 -- the offset of the line that an edge lies on
-abbrev pub offset_of : Edge → ℤ
+unfoldable pub offset_of : Edge → ℤ
 offset_of e = (e.a.y *ℤ (direction_of e).x) -ℤ (e.a.x *ℤ (direction_of e).y)
 
 -- the space with this number

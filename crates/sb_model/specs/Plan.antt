@@ -1,6 +1,6 @@
 -- The edges of a plan.
 
-use Rattle.std.specs.Prelude.{List, [], ◌∷◌, ◌++◌}
+use Rattle.std.specs.Prelude.{ℕ, ◌+◌, nat_lt, if◌then◌else◌, List, [], ◌∷◌, ◌++◌}
 use Rattle.sb_fraction.specs.declared.point.Point.{Point}
 
 -- an edge from a to b
@@ -20,6 +20,10 @@ edges_back a (b ∷ points) first = edge a b ∷ edges_back b points first
 abbrev pub edges_of_loop : List Point → List Edge
 edges_of_loop [] = []
 edges_of_loop (a ∷ points) = edges_back a points a
+
+-- the place after k in a closed loop of so many points
+abbrev pub place_after : ℕ → ℕ → ℕ
+place_after k len = if nat_lt (k + 1) len then k + 1 else 0
 
 -- the edges of a plan, loop after loop
 abbrev pub edges_of : List (List Point) → List Edge

@@ -13,6 +13,7 @@ mod frame;
 mod label;
 mod layers;
 mod loops;
+mod outline;
 mod patch;
 mod prism;
 mod products;
@@ -26,6 +27,7 @@ pub use frame::{Frame, Turn};
 pub use label::Label;
 pub use layers::{Axis, Layer, Layering, Layers};
 pub use loops::{LoopError, Loops, PointLists, Points};
+pub use outline::corners;
 pub use patch::Patch;
 pub use prism::Prism;
 pub use products::{
