@@ -1,7 +1,8 @@
 -- Which boundaries a box has. The ground is at height 0.
 use Rattle.std.specs.Prelude.{◌≡◌, ℕ, ℤ, pos, Bool, ◌&&◌, List, [], ◌∷◌, ◌++◌, None, int_lt, int_le, if◌then◌else◌}
 use Rattle.sb_model.specs.Corners.{whole}
-use Rattle.sb_model.specs.Sides.{Straight, straight_of}
+use Rattle.sb_plane.specs.Sides.{level}
+use Rattle.sb_model.specs.Sides.{line_of}
 use Rattle.sb_model.specs.declared.boundary.Boundary.{Boundary}
 use Rattle.sb_model.specs.declared.face.FaceKind.{FaceKind}
 use Rattle.sb_model.specs.declared.face.FaceKind.TheVariants as kind
@@ -58,18 +59,14 @@ IsLevelFace kind.Bottom = Unit {0}
 IsLevelFace kind.Top = Unit {0}
 IsLevelFace (kind.Side k) = ⊥
 
--- the level line at this v
-abbrev pub level : ℤ → Straight
-level v = record { dx = pos 1; dy = pos 0; off = v }
-
 -- the boundary is this patch of the space, without items, depth, pair, parent or key
 pub record IsBoxBoundary (space : ℕ) (p : BoxPatch) (b : Boundary) : Type 0 where
   pub of_space : b.patch.face.space ≡ space
   pub of_face : b.patch.face.kind ≡ p.kind
   pub low : b.patch.low ≡ whole p.low
   pub high : b.patch.high ≡ whole p.high
-  pub lower : straight_of b.patch.lower ≡ level p.lower
-  pub upper : straight_of b.patch.upper ≡ level p.upper
+  pub lower : line_of b.patch.lower ≡ level p.lower
+  pub upper : line_of b.patch.upper ≡ level p.upper
   pub items : b.walk.items ≡ []
   pub depth : b.walk.depth ≡ pos 0
   pub end : b.walk.end ≡ p.end

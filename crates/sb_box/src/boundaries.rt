@@ -1,10 +1,11 @@
 // The list of the boundaries of a box.
 ghost use Rattle.std.specs.Prelude.{◌≡◌, ◌++◌, ◌∷◌, [], List, pos, IsTrue, IfOk, OnOk, OnErr, None, nat_le, unsigned_abs};
 ghost use Rattle.sb_box.specs.BoxList.{BoxPatch, IsBoxList, IsBoxBoundary, AreBoxBoundaries, IsLevelFace};
-ghost use Rattle.sb_box.specs.BoxList.{box_patch, side_patches, is_cut, below, above, level};
+ghost use Rattle.sb_box.specs.BoxList.{box_patch, side_patches, is_cut, below, above};
 ghost use Rattle.sb_box.specs.Extents.{farthest};
 ghost use Rattle.sb_model.specs.Corners.{whole};
-ghost use Rattle.sb_model.specs.Sides.{straight_of, is_side_of};
+ghost use Rattle.sb_plane.specs.Sides.{level};
+ghost use Rattle.sb_model.specs.Sides.{line_of, is_side_of};
 
 use crate::extent::{Extent, Interval};
 use sb_fraction::{Direction, Fraction, Line};
@@ -154,6 +155,7 @@ fn boundary(alloc: Global, patch: Patch, end: End) -> Boundary
 }
 
 /// A whole number as a fraction.
+#[tactic(auto, using(crate::proofs::BoxPatchesArePatches::wholes))]
 fn whole(x: i32) -> Fraction
     ensures { result ≡ whole x }
 {
@@ -163,7 +165,7 @@ fn whole(x: i32) -> Fraction
 /// The line in plan on which v is this.
 fn level_line(v: i32) -> Side
     requires { IsTrue (nat_le (unsigned_abs v) farthest) }
-    ensures same { straight_of result ≡ level v }
+    ensures same { line_of result ≡ level v }
     ensures fits { IsTrue (is_side_of FaceKind.Bottom result) }
 {
     let east = Direction { x: 1, y: 0 };
