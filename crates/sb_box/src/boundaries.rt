@@ -1,64 +1,134 @@
 // The list of the boundaries of a box.
-ghost use Rattle.std.specs.Prelude.{◌≡◌, ◌++◌, ◌∷◌, [], pos, IsTrue, IfOk, OnOk, OnErr, None, nat_le, unsigned_abs};
-ghost use Rattle.sb_box.specs.BoxList.{IsBoxList, IsBoxBoundary, IsLevelFace, box_patch, below, above, level};
-ghost use Rattle.sb_box.specs.Extents.{is_interval, farthest};
+ghost use Rattle.std.specs.Prelude.{◌≡◌, ◌++◌, ◌∷◌, [], List, pos, IsTrue, IfOk, OnOk, OnErr, None, nat_le, unsigned_abs};
+ghost use Rattle.sb_box.specs.BoxList.{BoxPatch, IsBoxList, IsBoxBoundary, AreBoxBoundaries, IsLevelFace};
+ghost use Rattle.sb_box.specs.BoxList.{box_patch, side_patches, is_cut, below, above};
+ghost use Rattle.sb_box.specs.Extents.{farthest};
 ghost use Rattle.sb_model.specs.Corners.{whole};
-ghost use Rattle.sb_model.specs.Sides.{straight_of, is_side_of};
+ghost use Rattle.sb_plane.specs.Sides.{level};
+ghost use Rattle.sb_model.specs.Sides.{line_of, is_side_of};
 
-use crate::extent::Extent;
+use crate::extent::{Extent, Interval};
 use sb_fraction::{Direction, Fraction, Line};
 use sb_model::{Boundaries, Boundary, End, Face, FaceKind, Items, Patch, Side, Walk};
 use std::alloc::{AllocError, Global};
 
 /// The boundaries of the box-shaped space with this number, in order: Bottom, Top, and the sides.
 ///
-/// The ground is at height 0 and does not cut the box, and there is nothing else in the building.
-/// Each boundary ends at once, at the earth where it lies below the ground and else at the open air.
+/// The ground is at height 0, and there is nothing else in the building. A side that the ground cuts
+/// has two boundaries, the lower one first. Each boundary ends at once, at the earth where it lies
+/// below the ground and else at the open air.
 pub fn box_boundaries(alloc: Global, space: u32, extent: &Extent) -> Result<Boundaries, AllocError>
     ensures { IfOk result (λ list. IsBoxList space extent.now list) }
 {
-    let e = extent;
+    let (x, y, z) = (extent.x(), extent.y(), extent.z());
     let mut list = Boundaries::new(alloc);
-    list.push(level_boundary(alloc, space, FaceKind::Bottom, e, below(e.z0)))?;
-    list.push(level_boundary(alloc, space, FaceKind::Top, e, above(e.z1)))?;
-    list.push(side_boundary(alloc, space, 0, e.x0, e.x1, e))?;
-    list.push(side_boundary(alloc, space, 1, e.y0, e.y1, e))?;
-    list.push(side_boundary(alloc, space, 2, e.x0, e.x1, e))?;
-    list.push(side_boundary(alloc, space, 3, e.y0, e.y1, e))?;
+    list.push(level_boundary(alloc, space, FaceKind::Bottom, &x, &y, below(z.low)))?;
+    list.push(level_boundary(alloc, space, FaceKind::Top, &x, &y, above(z.high)))?;
+    push_side(&mut list, alloc, space, 0, &x, &z)?;
+    push_side(&mut list, alloc, space, 1, &y, &z)?;
+    push_side(&mut list, alloc, space, 2, &x, &z)?;
+    push_side(&mut list, alloc, space, 3, &y, &z)?;
     Ok(list)
 }
 
-/// The boundary that is the whole of Bottom or Top.
-fn level_boundary(alloc: Global, space: u32, kind: FaceKind, e: &Extent, end: End) -> Boundary
+/// Appends the boundaries of a side, over u in `along`: two where the ground cuts it.
+fn push_side(
+    list: &mut Boundaries,
+    alloc: Global,
+    space: u32,
+    edge: u32,
+    along: &Interval,
+    up: &Interval,
+) -> Result<(), AllocError>
+    ensures { (ps : List BoxPatch) → AreBoxBoundaries space ps list.old
+        → OnOk result (AreBoxBoundaries space (ps ++ side_patches (FaceKind.Side edge) along.now.low along.now.high up.now.low up.now.high) list.new) }
+{
+    if is_cut(up) {
+        let below_ground = up_to_ground(up);
+        let above_ground = from_ground(up);
+        list.push(side_boundary(alloc, space, edge, along, &below_ground, End::Earth))?;
+        list.push(side_boundary(alloc, space, edge, along, &above_ground, End::Outside))?;
+    } else {
+        list.push(side_boundary(alloc, space, edge, along, up, above(up.low)))?;
+    }
+    Ok(())
+}
+
+/// Whether the ground lies strictly between these heights.
+fn is_cut(up: &Interval) -> bool
+    ensures { result ≡ is_cut up.now.low up.now.high }
+{
+    up.low < 0 && up.high > 0
+}
+
+/// The part of these heights below the ground.
+fn up_to_ground(up: &Interval) -> Interval
+    requires { IsTrue (is_cut up.now.low up.now.high) }
+    ensures low { result.low ≡ up.now.low }
+    ensures high { result.high ≡ pos 0 }
+{
+    Interval {
+        low: up.low,
+        high: 0,
+    }
+}
+
+/// The part of these heights above the ground.
+fn from_ground(up: &Interval) -> Interval
+    requires { IsTrue (is_cut up.now.low up.now.high) }
+    ensures low { result.low ≡ pos 0 }
+    ensures high { result.high ≡ up.now.high }
+{
+    Interval {
+        low: 0,
+        high: up.high,
+    }
+}
+
+/// The boundary that is the whole of Bottom or Top, over x and y.
+fn level_boundary(
+    alloc: Global,
+    space: u32,
+    kind: FaceKind,
+    x: &Interval,
+    y: &Interval,
+    end: End,
+) -> Boundary
     requires { IsLevelFace kind }
-    ensures { IsBoxBoundary space (box_patch kind e.now.x0 e.now.x1 e.now.y0 e.now.y1 end) result }
+    ensures { IsBoxBoundary space (box_patch kind x.now.low x.now.high y.now.low y.now.high end) result }
 {
     let patch = Patch {
         face: Face { space, kind },
-        low: whole(e.x0),
-        high: whole(e.x1),
-        lower: level_line(e.y0),
-        upper: level_line(e.y1),
+        low: whole(x.low),
+        high: whole(x.high),
+        lower: level_line(y.low),
+        upper: level_line(y.high),
     };
     boundary(alloc, patch, end)
 }
 
-/// The boundary that is the whole of a side, over u from `low` to `high`.
-fn side_boundary(alloc: Global, space: u32, edge: u32, low: i32, high: i32, e: &Extent) -> Boundary
-    requires { IsTrue (is_interval low high) }
-    ensures { IsBoxBoundary space (box_patch (FaceKind.Side edge) low high e.now.z0 e.now.z1 (above e.now.z0)) result }
+/// The boundary that is a part of a side, over u in `along` and between the heights `up`.
+fn side_boundary(
+    alloc: Global,
+    space: u32,
+    edge: u32,
+    along: &Interval,
+    up: &Interval,
+    end: End,
+) -> Boundary
+    ensures { IsBoxBoundary space (box_patch (FaceKind.Side edge) along.now.low along.now.high up.now.low up.now.high end) result }
 {
     let patch = Patch {
         face: Face {
             space,
             kind: FaceKind::Side(edge),
         },
-        low: whole(low),
-        high: whole(high),
-        lower: Side::Height(e.z0),
-        upper: Side::Height(e.z1),
+        low: whole(along.low),
+        high: whole(along.high),
+        lower: Side::Height(up.low),
+        upper: Side::Height(up.high),
     };
-    boundary(alloc, patch, above(e.z0))
+    boundary(alloc, patch, end)
 }
 
 /// A boundary without items that ends at once.
@@ -85,6 +155,7 @@ fn boundary(alloc: Global, patch: Patch, end: End) -> Boundary
 }
 
 /// A whole number as a fraction.
+#[tactic(auto, using(crate::proofs::BoxPatchesArePatches::wholes))]
 fn whole(x: i32) -> Fraction
     ensures { result ≡ whole x }
 {
@@ -94,7 +165,7 @@ fn whole(x: i32) -> Fraction
 /// The line in plan on which v is this.
 fn level_line(v: i32) -> Side
     requires { IsTrue (nat_le (unsigned_abs v) farthest) }
-    ensures same { straight_of result ≡ level v }
+    ensures same { line_of result ≡ level v }
     ensures fits { IsTrue (is_side_of FaceKind.Bottom result) }
 {
     let east = Direction { x: 1, y: 0 };
