@@ -62,10 +62,6 @@ pub record IsExtentOf (f : FirstForm) (e : Extent) : Type 0 where
   pub z0 : e.z0 ≡ f.z
   pub z1 : e.z1 ≡ f.z +ℤ f.height
 
--- the ground, at height 0, cuts the box
-abbrev pub is_cut : FirstForm → Bool
-is_cut f = int_lt f.z (pos 0) && int_lt (pos 0) (f.z +ℤ f.height)
-
 abbrev pub corner : ℤ → ℤ → Point
 corner x y = record { x = x; y = y }
 

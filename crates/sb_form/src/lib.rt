@@ -9,4 +9,4 @@ mod number;
 
 pub use building::{SPACE, model};
 pub use matcher::{FirstForm, first_form};
-pub use meaning::{Defect, extent_of, is_cut};
+pub use meaning::{Defect, extent_of};

@@ -3,7 +3,7 @@ ghost use Rattle.std.specs.Prelude.{◌≡◌, ◌-ℤ◌, ◌+ℤ◌, ◌≤◌
 ghost use Rattle.std.specs.Result.{result_err};
 ghost use Rattle.sb_box.specs.Extents.{is_interval};
 ghost use Rattle.sb_form.specs.FirstForm.{AreShort};
-ghost use Rattle.sb_form.specs.Meaning.{has_shape, is_near, is_near_about, is_near_up, is_near_doubled, is_on_grid, is_even, defect_of, half, is_cut, IsExtentOf};
+ghost use Rattle.sb_form.specs.Meaning.{has_shape, is_near, is_near_about, is_near_up, is_near_doubled, is_on_grid, is_even, defect_of, half, IsExtentOf};
 
 use crate::matcher::FirstForm;
 use sb_box::Extent;
@@ -37,15 +37,6 @@ pub fn extent_of(form: &FirstForm) -> Result<Extent, Defect>
         return Err(Defect::OffGrid);
     }
     Ok(sound_extent(form))
-}
-
-/// Whether the ground, at height 0, cuts the box.
-#[tactic(auto, using(crate::proofs::Passing::passing))]
-pub fn is_cut(form: &FirstForm) -> bool
-    requires { AreShort form.now }
-    ensures { result ≡ is_cut form.now }
-{
-    form.z < 0 && sum(form.z, form.height) > 0
 }
 
 #[tactic(auto, using(crate::proofs::Passing::passing))]
