@@ -5,7 +5,7 @@ use Rattle.sb_model.specs.declared.boundary.Boundary.{Boundary}
 use Rattle.sb_run.specs.declared.answer.Answer.{Answer}
 use Rattle.sb_run.specs.declared.answer.Answer.TheVariants.{Done, Usage, ReadFault, TooLong, Refused, WriteFault, NoMemory}
 use Rattle.sb_run.specs.declared.answer.Code.{Code}
-use Rattle.sb_run.specs.declared.answer.Code.TheVariants.{Unbuilt}
+use Rattle.sb_run.specs.declared.answer.Code.TheVariants.{Shape, Range, OffGrid, Unbuilt}
 
 -- the status that the program ends with
 abbrev pub status : Answer → ℕ
@@ -24,7 +24,7 @@ step_of NoMemory = 0
 step_of Usage = 1
 step_of ReadFault = 2
 step_of TooLong = 3
-step_of (Refused n Unbuilt) = 4
+step_of (Refused n code) = 4
 step_of WriteFault = 5
 step_of (Done list) = 6
 
@@ -58,6 +58,9 @@ done_line list =
 
 -- the name of a code
 abbrev pub name_of : Code → List ℕ
+name_of Shape = codes "Shape"
+name_of Range = codes "Range"
+name_of OffGrid = codes "OffGrid"
 name_of Unbuilt = codes "Unbuilt"
 
 -- the line that is said for an answer
