@@ -1,1 +1,5 @@
 mod SpacesEndWhereTheyChange
+mod CreatedIsEmptyFirst
+mod BoxListRises
+mod FormsAreShort
+mod AnswersHaveTheirCause

@@ -7,6 +7,9 @@ use crate::answer::{Answer, Code};
 use sb_model::{Boundaries, Boundary};
 use std::alloc::{AllocError, Global};
 
+/// The line for words that are no command.
+pub(crate) const USAGE: &str = "usage: sbgen MODEL --report C\n";
+
 /// A line: one that stands in the program, or one that was made.
 #[derive(Drop)]
 pub(crate) enum Line {
@@ -88,7 +91,7 @@ pub(crate) fn early_line(alloc: Global, answer: &Answer) -> Result<Line, AllocEr
     ensures { IfOk result (λ text. line_bytes text ≡ line answer.now) }
 {
     match answer {
-        Answer::Usage => Ok(Line::Fixed("usage: sbgen MODEL --report C\n")),
+        Answer::Usage => Ok(Line::Fixed(USAGE)),
         Answer::ReadFault => Ok(Line::Fixed("read fault\n")),
         Answer::TooLong => Ok(Line::Fixed("too long\n")),
         Answer::NoMemory => Ok(Line::Fixed("no memory\n")),
