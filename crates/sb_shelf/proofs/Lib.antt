@@ -1,3 +1,4 @@
--- Lemmas on whole texts, each file a claim.
+-- Lemmas, each file a claim.
+pub mod CallsCompose
 mod PiecesJoin
 mod PiecesAppend

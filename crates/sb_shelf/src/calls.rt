@@ -26,8 +26,8 @@ pub(crate) fn is_next_listed(calls: &mut u64, failing: &Calls) -> bool
     failing.as_slice().contains(calls)
 }
 
-/// Appends these bytes, or fails and counts the fault: where the call is listed, and where the sheet
-/// has no room for all of them.
+/// Appends these bytes, or fails and counts the fault: where the call is listed, and where the
+/// sheet has no room for all of them.
 pub(crate) fn append_unless(
     is_listed: bool,
     sheet: &mut Sheet,
