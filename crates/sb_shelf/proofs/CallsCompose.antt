@@ -4,7 +4,8 @@ use Rattle.sb_shelf.specs.declared.shelf.Out.{Out}
 use Rattle.sb_shelf.specs.Outside.{Outside, SameOut, OnlyReads, OnlyOutput, OnlyWrites}
 
 -- an output that two calls leave alone is as it was
-pub same_out_twice : {out : Out} {a b c : Outside} → SameOut out a b → SameOut out b c → SameOut out a c
+pub same_out_twice : {out : Out} {a b c : Outside}
+    → SameOut out a b → SameOut out b c → SameOut out a c
 same_out_twice first second = record {
   is_created = second.is_created ∙ first.is_created;
   bytes = second.bytes ∙ first.bytes;
@@ -27,7 +28,7 @@ pub only_output_twice : {out : Out} {a b c : Outside}
 only_output_twice first second = record {
   under = λ path. second.under path ∙ first.under path;
   left = second.left ∙ first.left;
-  others = λ other differs. same_out_twice (first.others other differs) (second.others other differs);
+  others = λ o differs. same_out_twice (first.others o differs) (second.others o differs);
   tells_bytes = second.tells_bytes ∙ first.tells_bytes;
   read_faults = second.read_faults ∙ first.read_faults;
 }

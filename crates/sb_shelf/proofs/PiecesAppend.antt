@@ -1,5 +1,6 @@
 -- Writing piece by piece loses nothing: the parts of a text that were written follow one another.
-use Rattle.std.proofs.Common.{◌≡◌, ℕ, ◌+◌, List, ◌++◌, take, drop, sym, ◌∙◌, ap, append_assoc, Option, Some}
+use Rattle.std.proofs.Common.{◌≡◌, ℕ, ◌+◌, List, ◌++◌, take, drop, Option, Some}
+use Rattle.std.proofs.Common.{sym, ◌∙◌, ap, append_assoc}
 use Rattle.std.specs.Option.{ForSome}
 use Rattle.std.proofs.Math.Seq.{take-add}
 use Rattle.sb_shelf.specs.declared.shelf.Out.{Out}
@@ -29,7 +30,8 @@ pub pieces_append : (out : Out) (start between now : Outside)
     → ForSome (between.bytes out) (λ before. now.bytes out ≡ Some (before ++ take n rest))
     → IsWriting out text (done + n) start now
 pieces_append out start between now text done n rest is_rest first keeps appended =
-    let part : ForSome (between.bytes out) (λ before. now.bytes out ≡ Some (before ++ take n (drop done text)))
+    let part : ForSome (between.bytes out)
+    (λ before. now.bytes out ≡ Some (before ++ take n (drop done text)))
     = λ before is_before. appended before is_before
     ∙ ap (λ piece. Some (before ++ take n piece)) is_rest in
     let was = start.bytes out in

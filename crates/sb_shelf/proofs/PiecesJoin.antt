@@ -1,5 +1,6 @@
 -- Reading piece by piece loses nothing: what was taken and what is left is the same text all along.
-use Rattle.std.proofs.Common.{◌≡◌, ℕ, ◌<◌, List, [], ◌++◌, length, take, drop, Option, Some, None, refl, zero, suc, arith, append_assoc}
+use Rattle.std.proofs.Common.{◌≡◌, ℕ, zero, suc, ◌<◌, List, [], ◌++◌, length, take, drop}
+use Rattle.std.proofs.Common.{Option, Some, None, refl, arith, append_assoc}
 use Rattle.std.specs.Bool.{OnFalse}
 use Rattle.std.specs.Prelude.{is_some, nat_lt}
 use Rattle.std.specs.Option.{ForSome, option_map}
@@ -21,7 +22,8 @@ joined_where_told None None taken came n tells told = refl
 joined_where_told None (Some left) taken came n tells told = cc
 joined_where_told (Some left) now taken came n tells told =
     let moved = told left refl in
-    rw (moved.1, moved.0, append_assoc taken (take n left) (drop n left), take-append-drop n left) refl
+    let regrouped = append_assoc taken (take n left) (drop n left) in
+    rw (moved.1, moved.0, regrouped, take-append-drop n left) refl
 
 -- a piece goes from what is left to the end of what was taken
 pub pieces_join : (was now : Outside) (taken before after : List ℕ) (n : ℕ)

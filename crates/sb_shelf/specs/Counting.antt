@@ -1,5 +1,6 @@
 -- How calls are numbered and failed calls are counted.
-use Rattle.std.specs.Prelude.{◌≡◌, ℕ, ◌<◌, ◌≤◌, ◌==◌, Bool, List, length, Result, IfOk, is_ok, if◌then◌else◌}
+use Rattle.std.specs.Prelude.{◌≡◌, ℕ, ◌<◌, ◌≤◌, ◌==◌, Bool, if◌then◌else◌, List, length}
+use Rattle.std.specs.Prelude.{Result, IfOk, is_ok}
 use Rattle.std.specs.List.{list_any}
 use Rattle.sb_shelf.specs.declared.shelf.Failed.{Failed}
 use Rattle.sb_shelf.specs.declared.shelf.Out.{Out}

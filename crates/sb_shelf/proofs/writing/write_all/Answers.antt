@@ -15,8 +15,9 @@ turns-preserved g c =
     let first = c.turns.invariant.writing in
     let keeps = c.write.ensures.keeps in
     let appended = c.in-Ok.ensures.ok in
+    let count = c.in-Ok.count in
     record {
       writing =
-          pieces_append c.args.out start between now text done c.in-Ok.count _ rest first keeps appended;
+          pieces_append c.args.out start between now text done count _ rest first keeps appended;
       within = omega (arith, c.in-Ok.ensures.within, length-drop done text, rest);
     }
