@@ -2,3 +2,4 @@
 pub mod CallsCompose
 mod PiecesJoin
 mod PiecesAppend
+mod Examples
