@@ -1,5 +1,5 @@
 -- What the judgement of an input says.
-use Rattle.std.specs.Prelude.{◌≡◌, ◌⊎◌, ◌<◌, ◌≤◌, ℕ, true, List, length, take, Option, string_bytes}
+use Rattle.std.specs.Prelude.{◌≡◌, ◌⊎◌, ◌<◌, ◌≤◌, ℕ, true, List, length, take, Option}
 use Rattle.std.specs.Option.{ForSome}
 use Rattle.sb_shelf.specs.Outside.{Outside, Rose}
 use Rattle.sb_shelf.specs.declared.shelf.Out.TheVariants.{Ifc, Idf, Report}
@@ -9,7 +9,6 @@ use Rattle.sb_form.specs.declared.matcher.FirstForm.{FirstForm}
 use Rattle.sb_form.specs.declared.meaning.Defect.{Defect}
 use Rattle.sb_form.specs.declared.meaning.Defect.TheVariants as defect
 use Rattle.sb_report.specs.Report.{report_of}
-use Rattle.sb_run.specs.Answers.{done_line}
 use Rattle.sb_run.specs.Promises.{longest, IsSound, IsListOf, IsRefused}
 use Rattle.sb_run.specs.declared.answer.Answer.{Answer}
 use Rattle.sb_run.specs.declared.answer.Answer.TheVariants.{Done, Usage, ReadFault, TooLong, Refused, WriteFault, NoMemory}
@@ -33,7 +32,7 @@ pub record IsRefusedOnly (input : List ℕ) (n : ℕ) (why : Code) : Type 0 wher
   pub only : (m : ℕ) (other : Code) → IsRefused input m other → Refused m other ≡ Refused n why
   pub unsound : (form : FirstForm) → IsSound form input → ⊥
 
--- the input is a form without defect, and this is its list, its report and its line
+-- the input is a form without defect, and this is its list and its report
 pub record IsReady (input : List ℕ) (ready : Ready) : Type 0 where
   pub within : length input ≤ longest
   pub form : FirstForm
@@ -41,7 +40,6 @@ pub record IsReady (input : List ℕ) (ready : Ready) : Type 0 where
   pub sole : IsSole form input
   pub list_is : IsListOf form ready.list
   pub report_is : ready.report.items ≡ report_of (model_of form) ready.list
-  pub line_is : string_bytes ready.line ≡ done_line ready.list
 
 -- an input that was read is refused for this reason, or there was no memory
 abbrev pub IsJudged : List ℕ → Answer → Type 0

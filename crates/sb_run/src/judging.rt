@@ -34,6 +34,7 @@ pub(crate) fn judged<S: Shelf>(
 ) -> Result<Ready, Answer>
     ensures keeps { OnlyReads (S.state shelf.old) (S.state shelf.new) }
     ensures ready { IfOk result (λ ready. ForSome ((S.state shelf.old).under path.now) (λ input. IsReady input ready)) }
+    ensures line { IfOk result (λ ready. string_bytes ready.line ≡ done_line ready.list) }
     ensures refused { IfErr result (λ answer. IsRefusal ((S.state shelf.old).under path.now) answer (S.state shelf.old) (S.state shelf.new)) }
 {
     match read_all(alloc, shelf, path) {
@@ -48,6 +49,7 @@ pub(crate) fn judged<S: Shelf>(
 fn judge(alloc: Global, input: &[u8]) -> Result<Ready, Answer>
     requires { length input.now ≤ 67108864 }
     ensures ready { IfOk result (λ ready. IsReady input.now ready) }
+    ensures line { IfOk result (λ ready. string_bytes ready.line ≡ done_line ready.list) }
     ensures refused { IfErr result (λ answer. IsJudged input.now answer) }
 {
     let Some(form) = first_form(input) else {
