@@ -1,0 +1,6 @@
+mod CharactersOfMore
+mod LowestBesideZero
+mod NamedInModel
+mod NoFloats
+mod OneMoreEntry
+mod Passing
