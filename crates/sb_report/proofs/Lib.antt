@@ -1,4 +1,5 @@
 mod CharactersOfMore
+mod Examples
 mod LowestBesideZero
 mod NamedInModel
 mod NoFloats

@@ -9,4 +9,8 @@ mod entry;
 mod item;
 mod normal;
 mod report;
+#[cfg(test)]
+mod tests;
 mod text;
+
+pub use report::report_text;

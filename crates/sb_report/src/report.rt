@@ -34,32 +34,19 @@ fn report_value(alloc: Global, model: &Model, bounds: &Boundaries) -> Result<Val
     requires corners { IsTrue (have_corners model.now bounds.now) }
     ensures { IfOk result (λ v. view v ≡ report_data model.now bounds.now) }
 {
+    let entries = entries_value(alloc, model, bounds)?;
+    let format = Value::try_from_str(alloc, "sbgen-1")?;
+    let spaces = spaces_value(alloc, model.spaces())?;
     let mut whole = Map::new(alloc);
-    put(
-        &mut whole,
-        alloc,
-        "boundaries",
-        entries_value(alloc, model, bounds)?,
-    )?;
-    put(
-        &mut whole,
-        alloc,
-        "format",
-        Value::try_from_str(alloc, "sbgen-1")?,
-    )?;
+    put(&mut whole, alloc, "boundaries", entries)?;
+    put(&mut whole, alloc, "format", format)?;
     put(&mut whole, alloc, "ground", Value::from(model.ground()))?;
     put(&mut whole, alloc, "reach", Value::from(model.reach()))?;
-    put(
-        &mut whole,
-        alloc,
-        "spaces",
-        spaces_value(alloc, model.spaces())?,
-    )?;
+    put(&mut whole, alloc, "spaces", spaces)?;
     Ok(Value::Object(whole))
 }
 
 /// The entries of all boundaries, in order of their ids.
-
 fn entries_value(alloc: Global, model: &Model, bounds: &Boundaries) -> Result<Value, AllocError>
     requires of_model { IsTrue (is_list_of model.now bounds.now) }
     requires corners { IsTrue (have_corners model.now bounds.now) }
