@@ -6,5 +6,7 @@ pub mod Plan
 pub mod Solids
 pub mod Sides
 pub mod Building
+pub mod Labels
+pub mod PlanEdges
 pub mod Faces
 pub mod Corners
