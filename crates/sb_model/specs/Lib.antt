@@ -10,3 +10,6 @@ pub mod Labels
 pub mod PlanEdges
 pub mod Faces
 pub mod Corners
+pub mod PlainPoints
+pub mod Passages
+pub mod Walks
