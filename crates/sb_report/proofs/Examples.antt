@@ -1,6 +1,6 @@
 -- Worked reports that the definitions give, and lists that the conditions refuse.
 
-use Rattle.std.proofs.Common.{◌≡◌, ℕ, ℤ, pos, negsuc, true, false, List, [], ◌∷◌, ◌++◌, codes, IsTrue, Option, Some, None, refl}
+use Rattle.std.proofs.Common.{◌≡◌, ℕ, ℤ, pos, negsuc, true, false, [], ◌∷◌, ◌++◌, codes, IsTrue, Option, Some, None, refl}
 use Rattle.serde_json.specs.Data.{Data}
 use Rattle.serde_json.specs.Written.{compact_text}
 use Rattle.serde_json.proofs.OnLiterals.{serde_json_on_literals}
@@ -13,21 +13,16 @@ use Rattle.sb_fraction.specs.declared.direction.Line.{Line}
 use Rattle.sb_fraction.specs.declared.point.Point.{Point}
 use Rattle.sb_fraction.specs.declared.unit.Unit.TheVariants.{Millimetre}
 use Rattle.sb_model.specs.declared.boundary.Boundary.{Boundary}
-use Rattle.sb_model.specs.declared.face.FaceKind.{FaceKind}
 use Rattle.sb_model.specs.declared.face.FaceKind.TheVariants as kind
-use Rattle.sb_model.specs.declared.face.Side.TheVariants.{OnLine, Height}
-use Rattle.sb_model.specs.declared.frame.Frame.{Frame}
+use Rattle.sb_model.specs.declared.face.Side.TheVariants.{OnLine}
 use Rattle.sb_model.specs.declared.layers.Layering.TheVariants.{Single}
 use Rattle.sb_model.specs.declared.patch.Patch.{Patch}
 use Rattle.sb_model.specs.declared.products.Element.{Element}
 use Rattle.sb_model.specs.declared.products.Space.{Space}
 use Rattle.sb_model.specs.declared.walk.End.TheVariants as end
-use Rattle.sb_model.specs.declared.walk.Item.{Item}
-use Rattle.sb_model.specs.declared.walk.Walk.{Walk}
 use Rattle.sb_model.specs.Building.{Building, building}
 use Rattle.sb_model.specs.Corners.{corners_of, level_corner}
 use Rattle.sb_model.specs.Sides.{is_patch}
-use Rattle.sb_model.specs.Faces.{step, runs_along, direction_of, normal_over, offset_of}
 use Rattle.sb_model.specs.Solids.{upright}
 use Rattle.sb_model.specs.Spots.{vector}
 use Rattle.sb_report.specs.Texts.{fraction_text, material_text}

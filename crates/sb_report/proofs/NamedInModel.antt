@@ -1,11 +1,12 @@
 -- What is asked of a list of boundaries holds of each of them.
 
-use Rattle.std.proofs.Common.{◌≡◌, ℕ, zero, suc, Bool, ◌&&◌, IsTrue, List, [], ◌∷◌, length, Some, slice_get}
+use Rattle.std.proofs.Common.{◌≡◌, ℕ, zero, suc, Bool, IsTrue, List, [], ◌∷◌, length, Some, slice_get}
 use Rattle.std.proofs.lemmas.Bool.{and_parts}
 use Rattle.std.specs.List.{list_all}
 use Rattle.sb_model.specs.declared.boundary.Boundary.{Boundary}
 use Rattle.sb_model.specs.Building.{Building}
-use Rattle.sb_model.specs.Corners.{is_face_of, is_straight}
+use Rattle.sb_model.specs.Corners.{is_straight}
+use Rattle.sb_model.specs.Faces.{is_face_of}
 use Rattle.sb_report.specs.Conditions.{is_boundary_of, is_list_of, have_corners}
 
 -- a test that all items pass is passed by the item at each place

@@ -13,7 +13,7 @@ use Rattle.sb_model.specs.Building.{Building}
 use Rattle.sb_model.specs.Corners.{corners_of}
 use Rattle.sb_report.specs.Normals.{normal_of}
 use Rattle.sb_report.specs.Entries.{count, signed, number_or_null, corners_data, normal_data, unit_data, target, item_data, boundary_data}
-use Rattle.sb_report.specs.Report.{entries_from, space_numbers, report_data}
+use Rattle.sb_report.specs.Report.{entries_from, report_data}
 
 -- the data of each item of a list
 each : {X : Type 0} (data_of : X → Data) → ((x : X) → has_float (data_of x) ≡ false)

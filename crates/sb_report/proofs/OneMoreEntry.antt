@@ -1,6 +1,6 @@
 -- The entries are those of the boundaries in order: one boundary more adds its entry at the end.
 
-use Rattle.std.proofs.Common.{◌≡◌, ℕ, zero, suc, ◌+◌, List, [], ◌∷◌, ◌++◌, take, Option, Some, None, option_map, slice_get, refl, sym, ap, ◌∙◌, arith, add-one}
+use Rattle.std.proofs.Common.{◌≡◌, ℕ, zero, suc, ◌+◌, List, [], ◌∷◌, ◌++◌, take, Some, option_map, slice_get, refl, ap, ◌∙◌, arith, add-one}
 use Rattle.serde_json.specs.Data.{Data}
 use Rattle.sb_model.specs.declared.boundary.Boundary.{Boundary}
 use Rattle.sb_model.specs.Building.{Building}

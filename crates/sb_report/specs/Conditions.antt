@@ -1,12 +1,13 @@
 -- When a list of boundaries is one of a model, so that it can be reported.
 
-use Rattle.std.specs.Prelude.{ℕ, Bool, true, false, not, ◌&&◌, ◌||◌, List, length, nat_le, Option, Some, None}
+use Rattle.std.specs.Prelude.{ℕ, Bool, true, false, ◌&&◌, ◌||◌, List, length, nat_le, Option, Some, None}
 use Rattle.std.specs.List.{list_all}
 use Rattle.sb_model.specs.declared.boundary.Boundary.{Boundary}
 use Rattle.sb_model.specs.declared.walk.End.{End}
 use Rattle.sb_model.specs.declared.walk.End.TheVariants as end
 use Rattle.sb_model.specs.Building.{Building, is_space, is_element, is_opening, is_filling}
-use Rattle.sb_model.specs.Corners.{is_face_of, is_straight}
+use Rattle.sb_model.specs.Corners.{is_straight}
+use Rattle.sb_model.specs.Faces.{is_face_of}
 
 -- the space or element at the end of a walk is the model's
 abbrev pub is_end_of : Building → End → Bool

@@ -1,25 +1,19 @@
 -- The outward normals of the faces of a model.
 
-use Rattle.std.specs.Prelude.{ℕ, ℤ, pos, negsuc, neg_ℤ, Bool, ◌&&◌, nat_le, unsigned_abs, List, Option, Some, None, option_map, option_and_then, slice_get}
+use Rattle.std.specs.Prelude.{ℕ, ℤ, pos, negsuc, neg_ℤ, Bool, ◌&&◌, nat_le, unsigned_abs, Option, option_map, option_and_then}
 use Rattle.sb_model.specs.declared.face.Face.{Face}
-use Rattle.sb_model.specs.declared.face.FaceKind.{FaceKind}
-use Rattle.sb_model.specs.declared.face.FaceKind.TheVariants as kind
 use Rattle.sb_model.specs.declared.layers.Axis.{Axis}
-use Rattle.sb_model.specs.declared.products.Space.{Space}
 use Rattle.sb_model.specs.Spots.{Vector, vector}
-use Rattle.sb_model.specs.Plan.{edges_of}
 use Rattle.sb_model.specs.Building.{Building}
-use Rattle.sb_model.specs.Faces.{normal_over, space_numbered}
+use Rattle.sb_model.specs.Faces.{Surface, surface_of, space_numbered}
 
--- the outward normal of a face of this space; none where the space has no such edge
-abbrev pub normal_of_kind : Space → FaceKind → Option Vector
-normal_of_kind s kind.Bottom = Some (vector (pos 0) (pos 0) (negsuc 0))
-normal_of_kind s kind.Top = Some (vector (pos 0) (pos 0) (pos 1))
-normal_of_kind s (kind.Side k) = option_map normal_over (slice_get (edges_of s.prism.loops) k)
+-- the face of a model with this name; none where there is no such face
+abbrev pub surface_named : Building → Face → Option Surface
+surface_named m f = option_and_then (λ s. surface_of s.prism f.kind) (space_numbered m f.space)
 
--- the outward normal of a face; none where the model has no such face
+-- its outward normal
 abbrev pub normal_of : Building → Face → Option Vector
-normal_of m f = option_and_then (λ s. normal_of_kind s f.kind) (space_numbered m f.space)
+normal_of m f = option_map (λ s. s.normal) (surface_named m f)
 
 -- a direction as a vector
 abbrev pub vector_of : Axis → Vector

@@ -1,6 +1,6 @@
 -- How fractions, material names, faces and ends are written.
 
-use Rattle.std.specs.Prelude.{ℕ, ℤ, pos, List, ◌++◌, codes, encode_utf8_all, if◌then◌else◌}
+use Rattle.std.specs.Prelude.{ℕ, pos, List, ◌++◌, codes, encode_utf8_all, if◌then◌else◌}
 use Rattle.std.specs.Ordering.{int_eq}
 use Rattle.std.specs.Fmt.{signed_decimal}
 use Rattle.sb_fraction.specs.Ratio.{Ratio}

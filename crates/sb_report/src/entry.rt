@@ -3,7 +3,8 @@
 ghost use Rattle.std.specs.Prelude.{◌≡◌, IfOk, OnOk, Some, IsTrue, codes};
 ghost use Rattle.serde_json.specs.Data.{string, put as with};
 ghost use Rattle.serde_json.specs.View.{view, members_view};
-ghost use Rattle.sb_model.specs.Corners.{corners_of, is_face_of, is_straight};
+ghost use Rattle.sb_model.specs.Corners.{corners_of, is_straight};
+ghost use Rattle.sb_model.specs.Faces.{is_face_of};
 ghost use Rattle.sb_report.specs.Texts.{face_name, end_name};
 ghost use Rattle.sb_report.specs.Normals.{normal_of, vector_of, is_short};
 ghost use Rattle.sb_report.specs.Entries.{count, signed, number_or_null, target, items_data};

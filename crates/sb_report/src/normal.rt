@@ -6,9 +6,9 @@ ghost use Rattle.std.specs.List.{list_all};
 ghost use Rattle.sb_fraction.specs.Divisors.{greatest_divisor};
 ghost use Rattle.sb_model.specs.Spots.{vector, inner};
 ghost use Rattle.sb_model.specs.Plan.{edge, edges_of, edges_of_loop, place_after};
-ghost use Rattle.sb_model.specs.Loops.{is_in_range};
+ghost use Rattle.sb_model.specs.Loops.{is_plan_point};
 ghost use Rattle.sb_model.specs.Faces.{normal_over as normal_over_edge, space_numbered};
-ghost use Rattle.sb_model.specs.Corners.{is_face_of};
+ghost use Rattle.sb_model.specs.Faces.{is_face_of};
 ghost use Rattle.sb_report.specs.Normals.{normal_of, vector_of, is_short, signed_as};
 
 use sb_fraction::{Fraction, Point};
@@ -62,8 +62,8 @@ fn sum(a: i64, b: i64) -> i64
 /// The outward normal of the face over the edge from `a` to `b`.
 #[tactic(auto, using(crate::proofs::Passing::passing), unfolding(sb_model::specs::Faces::normal_over, sb_model::specs::Faces::step))]
 fn normal_over(a: Point, b: Point) -> Axis
-    requires a_in_range { IsTrue (is_in_range a) }
-    requires b_in_range { IsTrue (is_in_range b) }
+    requires a_in_range { IsTrue (is_plan_point a) }
+    requires b_in_range { IsTrue (is_plan_point b) }
     ensures value { vector_of result ≡ normal_over_edge (edge a b) }
     ensures short { IsTrue (is_short result) }
 {
@@ -146,7 +146,7 @@ fn find_space(model: &Model, number: u32) -> Option<&Space>
 /// The ends of edge `k`, counted through all loops; `None` where there is none.
 fn edge_of(loops: &Loops, k: usize) -> Option<(Point, Point)>
     ensures value { option_map (λ e. edge e.0 e.1) result ≡ slice_get (edges_of loops.now) k }
-    ensures in_range { IfSome result (λ e. IsTrue (is_in_range e.0 && is_in_range e.1)) }
+    ensures in_range { IfSome result (λ e. IsTrue (is_plan_point e.0 && is_plan_point e.1)) }
 {
     let mut left = k;
     for points in loops.points().as_slice() {
@@ -162,9 +162,9 @@ fn edge_of(loops: &Loops, k: usize) -> Option<(Point, Point)>
 /// The ends of edge `k` of a loop.
 fn edge_in(points: &[Point], k: usize) -> (Point, Point)
     requires within { k < length points.now }
-    requires in_range { IsTrue (list_all is_in_range points.now) }
+    requires in_range { IsTrue (list_all is_plan_point points.now) }
     ensures value { slice_get (edges_of_loop points.now) k ≡ Some (edge result.0 result.1) }
-    ensures in_range { IsTrue (is_in_range result.0 && is_in_range result.1) }
+    ensures in_range { IsTrue (is_plan_point result.0 && is_plan_point result.1) }
 {
     (points[k], points[next_place(k, points.len())])
 }
