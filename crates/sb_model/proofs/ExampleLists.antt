@@ -44,7 +44,7 @@ along_x_is_direction = refl
 -- the line y = off
 abbrev level_line : ℕ → Side
 level_line off =
-  OnLine (record { dir = record { x = pos 1; y = pos 0; is_direction = along_x_is_direction }; off = pos off })
+    OnLine (record { dir = record { x = pos 1; y = pos 0; is_direction = along_x_is_direction }; off = pos off })
 
 abbrev height : ℕ → Side
 height z = Height (pos z)
@@ -58,7 +58,7 @@ patch_of k low high lower upper good = record {
   high = whole (pos high);
   lower = lower;
   upper = upper;
-  is_patch = good
+  is_patch = good;
 }
 
 -- a top-level boundary without items
@@ -68,7 +68,7 @@ bare patch found = record {
   walk = record { items = []; depth = pos 0; end = found };
   pair = None;
   parent = None;
-  key = None
+  key = None;
 }
 
 level_is_patch : (k : ℕ) → IsTrue (is_patch kind.Bottom (whole (pos 0)) (whole (pos 4000)) (level_line 0) (level_line 3000))
@@ -107,16 +107,16 @@ all_but_bottom = top ∷ long_side 0 ∷ short_side 1 ∷ long_side 2 ∷ short_
 one_too_few : Covers box all_but_bottom → ⊥
 unfolding cross dot
 one_too_few c =
-  (c.faces (room 20 (block 0 4000 0 3000 2500)) (inl refl) kind.Bottom (bottom_of (block 0 4000 0 3000 2500)) refl).once
+    (c.faces (room 20 (block 0 4000 0 3000 2500)) (inl refl) kind.Bottom (bottom_of (block 0 4000 0 3000 2500)) refl).once
     (spot (pos 1000) (pos 1000) (pos 0) (pos 1)) one_is_positive refl
 
 -- Bottom twice: the same point lies in two
 one_twice : Covers box (bottom ∷ bottom ∷ all_but_bottom) → ⊥
 unfolding cross dot
 one_twice c =
-  true≢false
+    true≢false
     ((c.faces (room 20 (block 0 4000 0 3000 2500)) (inl refl) kind.Bottom (bottom_of (block 0 4000 0 3000 2500)) refl).once
-      (spot (pos 1000) (pos 1000) (pos 0) (pos 1)) one_is_positive refl)
+    (spot (pos 1000) (pos 1000) (pos 0) (pos 1)) one_is_positive refl)
 
 left_is_patch : IsTrue (is_patch kind.Bottom (whole (pos 0)) (whole (pos 2000)) (level_line 0) (level_line 3000))
 unfolding greatest_divisor divisor_within cross dot clearance
@@ -161,10 +161,10 @@ child_is_patch = refl
 -- a child over x from 1000 to 3000 of the left half, which ends at 2000
 abbrev outside : Boundary
 outside =
-  record (bare (patch_of kind.Bottom 1000 3000 (level_line 0) (level_line 3000) child_is_patch) end.Earth) {
-    parent = Some 1;
-    key = Some 40
-  }
+    record (bare (patch_of kind.Bottom 1000 3000 (level_line 0) (level_line 3000) child_is_patch) end.Earth) {
+      parent = Some 1;
+      key = Some 40;
+    }
 
 some_equal : {X : Type 0} {x y : X} → Some x ≡ Some y → x ≡ y
 some_equal e = cc
@@ -173,6 +173,6 @@ some_equal e = cc
 child_outside : IsInParent (left_half ∷ outside ∷ []) outside 1 → ⊥
 unfolding cross dot
 child_outside n =
-  let q = face_point (pos 2500) (pos 1500) (pos 1) in
-  let p : left_half ≡ n.parent = some_equal n.parent_is in
-  false≢true (subst (λ b. IsTrue (is_inside (region_of b.patch) q)) (sym p) (n.inside q one_is_positive refl))
+    let q = face_point (pos 2500) (pos 1500) (pos 1) in
+    let p : left_half ≡ n.parent = some_equal n.parent_is in
+    false≢true (subst (λ b. IsTrue (is_inside (region_of b.patch) q)) (sym p) (n.inside q one_is_positive refl))

@@ -13,9 +13,9 @@ at x y = record { x = x; y = y }
 -- the triangle (0, 0), (9, 0), (0, 9) with the triangular hole (1, 1), (1, 4), (4, 1)
 abbrev plan : List (List Point)
 plan =
-  (at (pos 0) (pos 0) ∷ at (pos 9) (pos 0) ∷ at (pos 0) (pos 9) ∷ [])
-  ∷ (at (pos 1) (pos 1) ∷ at (pos 1) (pos 4) ∷ at (pos 4) (pos 1) ∷ [])
-  ∷ []
+    (at (pos 0) (pos 0) ∷ at (pos 9) (pos 0) ∷ at (pos 0) (pos 9) ∷ [])
+    ∷ (at (pos 1) (pos 1) ∷ at (pos 1) (pos 4) ∷ at (pos 4) (pos 1) ∷ [])
+    ∷ []
 
 -- between the slanted edges of plan and hole, at (3, 3)
 inside_plan : is_in_plan plan (spot (pos 3) (pos 3) (pos 0) (pos 1)) ≡ true
