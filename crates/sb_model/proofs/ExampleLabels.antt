@@ -1,6 +1,6 @@
 -- Worked labels, crossings, abscissae, thicknesses and keys.
 
-use Rattle.std.proofs.Common.{◌≡◌, refl, ℕ, ℤ, Bool, true, false, List, [], ◌∷◌, pos, negsuc, Some}
+use Rattle.std.proofs.Common.{◌≡◌, refl, ℕ, true, false, [], ◌∷◌, pos, negsuc, Some}
 use Rattle.sb_whole.specs.Arrows.{cross, dot}
 use Rattle.sb_whole.specs.Rationals.{rational}
 use Rattle.sb_model.specs.declared.label.Label.TheVariants.{Space, Element, Earth, Void}

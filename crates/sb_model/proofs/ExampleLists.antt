@@ -1,12 +1,11 @@
 -- Lists that the definitions refuse: one boundary too few, one twice, halves of one patch, a pair with
 -- its items in the same order, a child outside its parent.
 
-use Rattle.std.proofs.Common.{◌≡◌, refl, ap, subst, sym, arith, nat_eq, ◌<ℤ◌, ℕ, ℤ, Bool, true, false, List, [], ◌∷◌, pos, Some, None, IsTrue, inl, inr}
+use Rattle.std.proofs.Common.{◌≡◌, refl, ap, subst, sym, arith, nat_eq, ◌<ℤ◌, ℕ, List, [], ◌∷◌, pos, Some, None, IsTrue, inl}
 use Rattle.std.proofs.lemmas.Int.{ints}
 use Rattle.std.proofs.lemmas.Bool.{true≢false, false≢true}
 use Rattle.sb_fraction.specs.Divisors.{divisor_within, greatest_divisor}
 use Rattle.sb_fraction.specs.Plane.{is_direction}
-use Rattle.sb_fraction.specs.Ratio.{Ratio}
 use Rattle.sb_whole.specs.Arrows.{cross, dot}
 use Rattle.sb_plane.specs.Sides.{clearance}
 use Rattle.sb_plane.specs.Points.{face_point}
@@ -27,12 +26,11 @@ use Rattle.sb_model.specs.Faces.{bottom_of}
 use Rattle.sb_model.specs.Corners.{whole}
 use Rattle.sb_model.specs.Walks.{item}
 use Rattle.sb_model.specs.Patches.{region_of}
-use Rattle.sb_model.specs.Places.{boundary_at}
 use Rattle.sb_model.specs.Covers.{Covers}
-use Rattle.sb_model.specs.Trimmed.{AreTrimmed, AreTopsTrimmed}
+use Rattle.sb_model.specs.Trimmed.{AreTopsTrimmed}
 use Rattle.sb_model.specs.Mirrors.{Mirrors}
 use Rattle.sb_model.specs.Nested.{IsInParent}
-use Rattle.sb_model.proofs.ExampleModels.{block, room, box, layered_wall_between_rooms}
+use Rattle.sb_model.proofs.ExampleModels.{block, room, box}
 
 one_is_positive : pos 0 <ℤ pos 1
 one_is_positive = omega (arith, ints)

@@ -1,16 +1,13 @@
 -- The models of the worked rows.
 
-use Rattle.std.proofs.Common.{ℕ, ℤ, pos, List, [], ◌∷◌}
+use Rattle.std.proofs.Common.{ℕ, pos, List, [], ◌∷◌}
 use Rattle.sb_fraction.specs.declared.point.Point.{Point}
 use Rattle.sb_fraction.specs.declared.unit.Unit.TheVariants as unit
-use Rattle.sb_model.specs.declared.layers.Axis.{Axis}
 use Rattle.sb_model.specs.declared.layers.Layer.{Layer}
 use Rattle.sb_model.specs.declared.layers.Layering.{Layering}
 use Rattle.sb_model.specs.declared.layers.Layering.TheVariants.{Plain, Layered}
 use Rattle.sb_model.specs.declared.products.Space.{Space}
 use Rattle.sb_model.specs.declared.products.Element.{Element}
-use Rattle.sb_model.specs.declared.products.Opening.{Opening}
-use Rattle.sb_model.specs.declared.products.Filling.{Filling}
 use Rattle.sb_model.specs.Spots.{vector}
 use Rattle.sb_model.specs.Solids.{Upright, upright}
 use Rattle.sb_model.specs.Building.{Building, building}

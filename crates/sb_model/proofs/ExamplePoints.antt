@@ -1,10 +1,10 @@
 -- Worked points: inside, outside and on the edges of a slanted plan with a hole.
 
-use Rattle.std.proofs.Common.{◌≡◌, refl, Bool, true, false, List, [], ◌∷◌, ℤ, pos, negsuc}
+use Rattle.std.proofs.Common.{◌≡◌, refl, true, false, List, [], ◌∷◌, ℤ, pos, negsuc}
 use Rattle.sb_fraction.specs.declared.point.Point.{Point}
 use Rattle.sb_whole.specs.Arrows.{cross, dot}
 use Rattle.sb_model.specs.Spots.{spot}
-use Rattle.sb_model.specs.Plan.{is_in_plan, is_on, edge, edges_of}
+use Rattle.sb_model.specs.Plan.{is_in_plan, is_on, edge}
 use Rattle.sb_model.specs.Solids.{upright, is_in_solid}
 
 abbrev at : ℤ → ℤ → Point

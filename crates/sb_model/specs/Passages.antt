@@ -1,6 +1,6 @@
 -- Passages: the ray from a point, cut into pieces of one label.
 
-use Rattle.std.specs.Prelude.{ℕ, ◌==◌, Bool, false, if◌then◌else◌, List, [], ◌∷◌, Option, Some, None}
+use Rattle.std.specs.Prelude.{◌==◌, Bool, false, if◌then◌else◌, List, [], ◌∷◌, Option, Some, None}
 use Rattle.sb_whole.specs.Arrows.{Arrow}
 use Rattle.sb_cuttings.specs.Cuttings.{Break}
 use Rattle.sb_cuttings.specs.Passages as cut

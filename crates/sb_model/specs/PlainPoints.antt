@@ -1,6 +1,6 @@
 -- Plain points of faces: all but those on finitely many cut lines.
 
-use Rattle.std.specs.Prelude.{ℤ, ◌*ℤ◌, Bool, false, not, ◌&&◌, ◌||◌, List, Option, Some, None}
+use Rattle.std.specs.Prelude.{◌*ℤ◌, Bool, false, not, ◌&&◌, ◌||◌, Option, Some, None}
 use Rattle.std.specs.Ordering.{int_eq}
 use Rattle.std.specs.List.{list_any}
 use Rattle.sb_model.specs.declared.face.FaceKind.{FaceKind}

@@ -1,12 +1,11 @@
 -- Trimmed patches: two of one face with one mark neither touch nor share a whole side.
 
-use Rattle.std.specs.Prelude.{◌≡◌, Bool, false, List, Some, None, IsFalse}
+use Rattle.std.specs.Prelude.{◌≡◌, false, List, Some, None}
 use Rattle.sb_whole.specs.Arrows.{Arrow}
 use Rattle.sb_whole.specs.Rationals.{IsRational}
-use Rattle.sb_plane.specs.Regions.{Region, IsCommon, is_seam}
+use Rattle.sb_plane.specs.Regions.{IsCommon, is_seam}
 use Rattle.sb_model.specs.declared.boundary.Boundary.{Boundary}
 use Rattle.sb_model.specs.declared.patch.Patch.{Patch}
-use Rattle.sb_model.specs.Spots.{Vector}
 use Rattle.sb_model.specs.Building.{Building}
 use Rattle.sb_model.specs.PlanEdges.{is_abscissa}
 use Rattle.sb_model.specs.Faces.{Surface}

@@ -1,15 +1,14 @@
 -- Walks: what the ray from a point of a face crosses, and what it meets.
 -- Rose and Bazjanac 2015 in outline; the rules are this project's own.
 
-use Rattle.std.specs.Prelude.{◌≡◌, ℕ, ℤ, zero, suc, pos, ◌+◌, ◌*◌, ◌-◌, ◌==◌, ◌+ℤ◌, ◌-ℤ◌, ◌*ℤ◌, Bool, true, false, not, ◌&&◌, ◌||◌, nat_le, nat_lt, int_lt, int_le, List, [], ◌∷◌, ◌++◌, Option, Some, None, IsTrue}
+use Rattle.std.specs.Prelude.{◌≡◌, ℕ, ℤ, zero, suc, pos, ◌+◌, ◌*◌, ◌==◌, ◌+ℤ◌, ◌-ℤ◌, ◌*ℤ◌, Bool, true, false, not, ◌&&◌, ◌||◌, int_le, List, [], ◌∷◌, ◌++◌, Option, Some, None, IsTrue}
 use Rattle.std.specs.Prelude.{if◌then◌else◌}
 use Rattle.std.specs.Ordering.{int_eq}
 use Rattle.std.specs.List.{list_all, find}
 use Rattle.sb_fraction.specs.Ratio.{Ratio, reduced}
-use Rattle.sb_whole.specs.Arrows.{Arrow, arrow}
+use Rattle.sb_whole.specs.Arrows.{Arrow}
 use Rattle.sb_whole.specs.Rationals.{rational}
 use Rattle.sb_cuttings.specs.Cuttings.{Break}
-use Rattle.sb_model.specs.declared.face.FaceKind.{FaceKind}
 use Rattle.sb_model.specs.declared.label.Label.{Label}
 use Rattle.sb_model.specs.declared.label.Label.TheVariants as label
 use Rattle.sb_model.specs.declared.layers.Layer.{Layer}
@@ -20,13 +19,12 @@ use Rattle.sb_model.specs.declared.walk.End.{End}
 use Rattle.sb_model.specs.declared.walk.End.TheVariants as end
 use Rattle.sb_model.specs.declared.walk.Item.{Item}
 use Rattle.sb_model.specs.declared.walk.Walk.{Walk}
-use Rattle.sb_model.specs.Spots.{Spot, Vector, vector, inner}
+use Rattle.sb_model.specs.Spots.{Spot, Vector, inner}
 use Rattle.sb_model.specs.Plan.{Edge, is_on, span_of}
-use Rattle.sb_model.specs.Solids.{Upright}
 use Rattle.sb_model.specs.Building.{Building}
 use Rattle.sb_model.specs.Labels.{axis_vector, low_along, high_along, total_of}
 use Rattle.sb_model.specs.PlanEdges.{plan_edges}
-use Rattle.sb_model.specs.Faces.{Surface, surface_of}
+use Rattle.sb_model.specs.Faces.{Surface}
 use Rattle.sb_model.specs.Passages.{Ray, ray_from, at_depth, ArePassages, Passage, passages_of, Piece, pieces_of, start_of, end_of}
 use Rattle.sb_model.specs.Corners.{whole}
 
