@@ -1,6 +1,6 @@
 -- Worked labels, crossings, abscissae, thicknesses and keys.
 
-use Rattle.std.proofs.Common.{◌≡◌, refl, ℕ, ℤ, Bool, true, false, List, [], ◌∷◌, pos, negsuc, Some}
+use Rattle.std.proofs.Common.{◌≡◌, refl, ℕ, true, false, [], ◌∷◌, pos, negsuc, Some}
 use Rattle.sb_whole.specs.Arrows.{cross, dot}
 use Rattle.sb_whole.specs.Rationals.{rational}
 use Rattle.sb_model.specs.declared.label.Label.TheVariants.{Space, Element, Earth, Void}
@@ -104,7 +104,7 @@ abscissa_along_y = refl
 -- opposite a T-joint, from Side(2) of space #20 at x = 4000
 abbrev opposite_the_joint : ℕ → Spot
 opposite_the_joint depth =
-  along (spot (pos 4000) (pos 3000) (pos 1000) (pos 1)) (vector (pos 0) (pos 1) (pos 0)) (rational (pos depth) (pos 1))
+    along (spot (pos 4000) (pos 3000) (pos 1000) (pos 1)) (vector (pos 0) (pos 1) (pos 0)) (rational (pos depth) (pos 1))
 
 in_the_wall : label_at wall_opposite_a_t_joint (opposite_the_joint 100) ≡ Element 30 0
 unfolding cross dot
@@ -121,7 +121,7 @@ behind_it = refl
 -- from the slanted side of space #20 at (500, 500) along (1, 1, 0): depth 200 stands for 200/√2 mm
 abbrev off_the_slant : ℕ → Spot
 off_the_slant depth =
-  along (spot (pos 500) (pos 500) (pos 1000) (pos 1)) (vector (pos 1) (pos 1) (pos 0)) (rational (pos depth) (pos 1))
+    along (spot (pos 500) (pos 500) (pos 1000) (pos 1)) (vector (pos 1) (pos 1) (pos 0)) (rational (pos depth) (pos 1))
 
 just_off : label_at slanted_sides (off_the_slant 1) ≡ Element 30 0
 unfolding cross dot

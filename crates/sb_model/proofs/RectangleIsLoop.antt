@@ -1,15 +1,15 @@
 -- The four corners of a rectangle are a normalised loop.
 
-use Rattle.std.proofs.Common.{ℕ, ℤ, pos, ◌≡◌, ◌<ℤ◌, ◌-ℤ◌, ◌*ℤ◌, Bool, true, false, not, ◌&&◌, IsTrue, List, [], ◌∷◌, int_lt, refl, arith, ap, sym, ◌∙◌}
+use Rattle.std.proofs.Common.{ℤ, pos, ◌≡◌, ◌<ℤ◌, ◌-ℤ◌, ◌*ℤ◌, Bool, true, not, ◌&&◌, IsTrue, List, [], ◌∷◌, int_lt, refl, arith, ap, sym, ◌∙◌}
 use Rattle.std.specs.Ordering.{int_eq}
 use Rattle.std.proofs.lemmas.Int.{ints}
-use Rattle.std.proofs.lemmas.Bool.{and_from, and_parts, not_from_false, false≢true, false_from_ne_true}
+use Rattle.std.proofs.lemmas.Bool.{and_from, and_parts, false≢true, false_from_ne_true}
 use Rattle.std.proofs.lemmas.Bool.Decides.{Decides-int_eq}
 use Rattle.std.proofs.Math.IntN.{zero-*ℤ, *ℤ_comm}
 use Rattle.sb_fraction.specs.declared.point.Point.{Point}
-use Rattle.sb_whole.proofs.Products.{positive_product, negative_product, product_of_negatives, zero_product}
+use Rattle.sb_whole.proofs.Products.{positive_product, negative_product, product_of_negatives}
 use Rattle.sb_whole.proofs.Signs.{less_from}
-use Rattle.sb_model.specs.Loops.{is_rectangle, are_corners, is_plan_point, are_loops, is_bent, bend, is_coordinate}
+use Rattle.sb_model.specs.Loops.{is_rectangle, are_corners, is_plan_point, are_loops, is_bent, is_coordinate}
 
 -- a number that is not 0 is told apart from it
 not_zero : (z : ℤ) → (z ≡ pos 0 → ⊥) → not (int_eq z (pos 0)) ≡ true

@@ -1,6 +1,6 @@
 -- The corners of patches, in the order in which they are listed.
 
-use Rattle.std.specs.Prelude.{ℤ, pos, ◌+ℤ◌, ◌-ℤ◌, ◌*ℤ◌, Bool, true, false, not, ◌&&◌, Option, Some, None, slice_get}
+use Rattle.std.specs.Prelude.{ℤ, pos, ◌+ℤ◌, ◌-ℤ◌, ◌*ℤ◌, Bool, true, false, ◌&&◌, Option, Some, None}
 use Rattle.std.specs.Prelude.{if◌then◌else◌}
 use Rattle.std.specs.Ordering.{int_eq}
 use Rattle.sb_fraction.specs.Ratio.{Ratio, reduced}
@@ -14,8 +14,8 @@ use Rattle.sb_model.specs.declared.face.FaceKind.TheVariants as kind
 use Rattle.sb_model.specs.declared.face.Side.{Side}
 use Rattle.sb_model.specs.declared.patch.Patch.{Patch}
 use Rattle.sb_model.specs.declared.products.Space.{Space}
-use Rattle.sb_model.specs.Spots.{Vector, inner}
-use Rattle.sb_model.specs.Plan.{Edge, edges_of}
+use Rattle.sb_model.specs.Spots.{inner}
+use Rattle.sb_model.specs.Plan.{Edge}
 use Rattle.sb_model.specs.Sides.{line_of}
 use Rattle.sb_model.specs.Building.{Building}
 use Rattle.sb_model.specs.Faces.{direction_of, runs_along, offset_of, edge_numbered, space_numbered}

@@ -23,10 +23,10 @@ pub record CoversFace (m : Building) (list : List Boundary) (s : Space) (k : Fac
   pub once : (p : Spot) → IsSpot p → IsTrue (is_plain m s.prism k p) → ExactlyOne (is_top_at s k f p) list
   -- each point in one of their patches is a point of the face
   pub inside : (p : Spot) → IsSpot p → IsTrue (is_in_plane f p)
-    → (b : Boundary) → Stands b list → IsTrue (is_top_at s k f p b) → IsTrue (is_of_face s.prism k p)
+      → (b : Boundary) → Stands b list → IsTrue (is_top_at s k f p b) → IsTrue (is_of_face s.prism k p)
   -- the walk of each plain point in one of them is the recorded walk
   pub walks : (p : Spot) → IsSpot p → IsTrue (is_plain m s.prism k p)
-    → (b : Boundary) → Stands b list → IsTrue (is_top_at s k f p b) → IsWalk m f p b.walk
+      → (b : Boundary) → Stands b list → IsTrue (is_top_at s k f p b) → IsWalk m f p b.walk
 
 -- a list covers a model
 pub record Covers (m : Building) (list : List Boundary) : Type 0 where
@@ -34,4 +34,4 @@ pub record Covers (m : Building) (list : List Boundary) : Type 0 where
   pub on_faces : (b : Boundary) → Stands b list → IsTrue (is_top_level b) → IsTrue (is_face_of m b.patch.face)
   -- and each face of each space is covered
   pub faces : (s : Space) → Stands s m.spaces → (k : FaceKind) → (f : Surface)
-    → surface_of s.prism k ≡ Some f → CoversFace m list s k f
+      → surface_of s.prism k ≡ Some f → CoversFace m list s k f

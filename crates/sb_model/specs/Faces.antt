@@ -1,6 +1,6 @@
 -- The faces of spaces: the coordinates u and v, the outward normal and its unit.
 
-use Rattle.std.specs.Prelude.{ℕ, ℤ, pos, neg_ℤ, ◌+ℤ◌, ◌-ℤ◌, ◌*ℤ◌, ◌==◌, Bool, true, false, ◌&&◌, Option, Some, None, unsigned_abs, slice_get, is_some, List}
+use Rattle.std.specs.Prelude.{ℕ, ℤ, pos, neg_ℤ, ◌+ℤ◌, ◌-ℤ◌, ◌*ℤ◌, ◌==◌, Bool, false, ◌&&◌, Option, Some, None, unsigned_abs, slice_get, is_some}
 use Rattle.std.specs.Prelude.{if◌then◌else◌}
 use Rattle.std.specs.Ordering.{int_eq}
 use Rattle.std.specs.List.{find}
@@ -20,10 +20,10 @@ use Rattle.sb_model.specs.Building.{Building}
 -- the step of an edge: from a to b without common divisor
 unfoldable pub step : Edge → Vector
 step e =
-  let x = e.b.x -ℤ e.a.x in
-  let y = e.b.y -ℤ e.a.y in
-  let common = greatest_divisor (unsigned_abs x) (unsigned_abs y) in
-  vector (divided x common) (divided y common) (pos 0)
+    let x = e.b.x -ℤ e.a.x in
+    let y = e.b.y -ℤ e.a.y in
+    let common = greatest_divisor (unsigned_abs x) (unsigned_abs y) in
+    vector (divided x common) (divided y common) (pos 0)
 
 -- the edge runs along its direction, and not against it
 unfoldable pub runs_along : Edge → Bool
@@ -73,7 +73,7 @@ side_over e = record {
   across = direction_of e;
   up = axis_z;
   normal = normal_over e;
-  position = (e.a.x *ℤ (normal_over e).x) +ℤ (e.a.y *ℤ (normal_over e).y)
+  position = (e.a.x *ℤ (normal_over e).x) +ℤ (e.a.y *ℤ (normal_over e).y);
 }
 
 -- edge k of a prism's plan, counted through all loops; none where there is no such edge

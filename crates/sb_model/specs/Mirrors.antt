@@ -1,10 +1,10 @@
 -- Counterparts: the same patch seen from the other space, with the walk reversed.
 
-use Rattle.std.specs.Prelude.{◌≡◌, ℕ, ℤ, neg_ℤ, ◌+ℤ◌, List, reverse, Option, Some, None}
+use Rattle.std.specs.Prelude.{◌≡◌, ℕ, neg_ℤ, ◌+ℤ◌, List, reverse, Option, Some, None}
 use Rattle.sb_model.specs.declared.boundary.Boundary.{Boundary}
 use Rattle.sb_model.specs.declared.walk.End.{End}
 use Rattle.sb_model.specs.declared.walk.End.TheVariants as end
-use Rattle.sb_model.specs.Spots.{Vector, opposite}
+use Rattle.sb_model.specs.Spots.{opposite}
 use Rattle.sb_model.specs.Building.{Building}
 use Rattle.sb_model.specs.Faces.{Surface}
 use Rattle.sb_model.specs.Patches.{surface_at}

@@ -1,6 +1,6 @@
 -- Opened points: openings go through all that the walk crosses. The key of an opened point.
 
-use Rattle.std.specs.Prelude.{◌≡◌, ◌⊎◌, ◌↔◌, ℕ, Bool, List, [], ◌∷◌, ◌++◌, Option, Some, None, IsTrue}
+use Rattle.std.specs.Prelude.{◌≡◌, ◌↔◌, ℕ, List, [], ◌∷◌, ◌++◌, Option, Some, None, IsTrue}
 use Rattle.std.specs.List.{AllByRecursion}
 use Rattle.sb_whole.specs.Arrows.{Arrow}
 use Rattle.sb_whole.specs.Rationals.{IsRational, IsBelow}
@@ -49,7 +49,7 @@ pub record GoesThrough (m : Building) (r : Ray) (c : Crossing) (o : Opening) : T
   pub there : Stands o m.openings
   pub own : o.element ≡ c.element
   pub contains : (depth : Arrow) → IsRational depth → IsBelow c.from depth → IsBelow depth c.to
-    → IsTrue (is_in_solid o.prism (at_depth r depth))
+      → IsTrue (is_in_solid o.prism (at_depth r depth))
 
 -- the end is no solid
 abbrev pub IsNoSolid : End → Type 0
@@ -66,12 +66,12 @@ pub record IsOpened (m : Building) (f : Surface) (p : Spot) : Type 0 where
   pub has_items : walk.items ≡ [] → ⊥
   pub no_solid : IsNoSolid walk.end
   pub opened : AllByRecursion (λ c. (o : Opening) × GoesThrough m (ray_from p f.normal) c o)
-    (crossings_in m (ray_from p f.normal) breaks)
+      (crossings_in m (ray_from p f.normal) breaks)
 
 -- the openings that go through at least one of these crossings of their own element
 abbrev pub ArePointsOpenings : Building → Ray → List Crossing → List Opening → Type 0
 ArePointsOpenings m r crossings openings =
-  (o : Opening) → Stands o openings ↔ ((c : Crossing) × (Stands c crossings × GoesThrough m r c o))
+    (o : Opening) → Stands o openings ↔ ((c : Crossing) × (Stands c crossings × GoesThrough m r c o))
 
 abbrev pub number_of_filling : Option Filling → Option ℕ
 number_of_filling None = None
@@ -89,7 +89,7 @@ first_there (Some n) other = Some n
 -- lowest-numbered opening
 abbrev pub key_of : List Opening → List Filling → Option ℕ
 key_of openings fillings =
-  first_there
+    first_there
     (number_of_filling (lowest (λ f. f.number) (λ f. has_number (λ o. o.number) openings f.opening) fillings))
     (number_of_opening (lowest (λ o. o.number) (λ o. has_number (λ q. q.number) openings o.number) openings))
 
