@@ -1,9 +1,9 @@
 -- Euclid's remainders end at the greatest common divisor, and dividing by it leaves no common divisor.
 
-use Rattle.std.proofs.Common.{ℕ, zero, suc, ◌+◌, ◌*◌, ◌%◌, ◌/◌, ◌<◌, ◌≤◌, ◌≡◌, refl, subst, arith, sym}
+use Rattle.std.proofs.Common.{ℕ, zero, suc, ◌+◌, ◌*◌, ◌%◌, ◌/◌, ◌<◌, ◌≡◌, refl, subst, arith, sym}
 use Rattle.std.specs.Int.{IsGcd, ◌∣◌}
 use Rattle.std.proofs.lemmas.Nat.Gcd.{IsGcd-from_zero, IsGcd-from_mod, dvd_refl, dvd-zero, same_from_IsGcd}
-use Rattle.std.proofs.Math.Nat.{one-dvd, mul-dvd-mul_right, div-mul_cancel, dvd_of_mul-dvd-mul_right, mod-lt, zero-dvd, eq-zero_of_zero-dvd}
+use Rattle.std.proofs.Math.Nat.{one-dvd, mul-dvd-mul_right, div-mul_cancel, dvd_of_mul-dvd-mul_right, eq-zero_of_zero-dvd}
 use Rattle.sb_fraction.specs.Divisors.{divisor_within, greatest_divisor}
 
 -- enough remainders give the greatest common divisor

@@ -1,6 +1,6 @@
 -- A fraction divided by its greatest common divisor is in lowest terms and the same number.
 
-use Rattle.std.proofs.Common.{ℕ, ℤ, pos, negsuc, neg_ℤ, suc, ◌+◌, ◌*◌, ◌/◌, ◌<◌, ◌≤◌, ◌<ℤ◌, ◌*ℤ◌, ◌≡◌, zero, Bool, true, ◌&&◌, IsTrue, unsigned_abs, refl, arith, nat_eq, nat_le, int_lt, ap, sym, ◌∙◌}
+use Rattle.std.proofs.Common.{ℕ, ℤ, pos, negsuc, neg_ℤ, suc, ◌*◌, ◌/◌, ◌<◌, ◌≤◌, ◌<ℤ◌, ◌*ℤ◌, ◌≡◌, zero, true, IsTrue, unsigned_abs, refl, arith, nat_le, int_lt, ap, sym, ◌∙◌}
 use Rattle.std.specs.Int.{IsGcd, ◌∣◌}
 use Rattle.std.proofs.lemmas.Int.{ints, to_z-of_z, unsigned_abs-mul}
 use Rattle.std.proofs.Common.{mul_assoc, le_trans}

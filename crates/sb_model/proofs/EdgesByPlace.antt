@@ -1,12 +1,12 @@
 -- Edge k of a closed loop runs from point k to the next, and the edges of a plan stand loop after loop.
 
-use Rattle.std.proofs.Common.{ℕ, zero, suc, ◌+◌, ◌-◌, ◌<◌, ◌≤◌, ◌≡◌, List, [], ◌∷◌, ◌++◌, length, drop, Option, Some, slice_get, slice_index_or, nat_lt, refl, arith, ap, sym, ◌∙◌, true, false, Bool, if◌then◌else◌}
-use Rattle.std.proofs.lemmas.Bool.{lt-ltb, le-ltb}
+use Rattle.std.proofs.Common.{ℕ, zero, suc, ◌+◌, ◌-◌, ◌<◌, ◌≤◌, ◌≡◌, List, [], ◌∷◌, ◌++◌, length, drop, Some, slice_get, slice_index_or, nat_lt, refl, arith, ap, sym, ◌∙◌, true, false, Bool, if◌then◌else◌}
+use Rattle.std.proofs.lemmas.Bool.{lt-ltb}
 use Rattle.std.proofs.lemmas.Bool.Decides.{nat_tests}
 use Rattle.std.proofs.Common.{add-one, get_or}
 use Rattle.std.proofs.Math.Seq.{drop-cons}
 use Rattle.sb_fraction.specs.declared.point.Point.{Point}
-use Rattle.sb_model.specs.Plan.{Edge, edge, edges_back, edges_of_loop, edges_of, place_after}
+use Rattle.sb_model.specs.Plan.{edge, edges_back, edges_of_loop, edges_of, place_after}
 
 -- a test of two successors is that of the numbers
 nat_lt-suc : (k n : ℕ) → nat_lt (suc k) (suc n) ≡ nat_lt k n

@@ -1,6 +1,6 @@
 -- A model of one space alone has no bad number but 0.
 
-use Rattle.std.proofs.Common.{ℕ, ℤ, zero, suc, ◌≡◌, ◌==◌, Bool, true, false, not, ◌||◌, IsTrue, List, [], ◌∷◌, Option, Some, None, refl, ap, ◌∙◌, is_none, arith, nat_lt, if◌then◌else◌}
+use Rattle.std.proofs.Common.{ℕ, ℤ, zero, suc, ◌≡◌, ◌==◌, true, false, not, ◌||◌, IsTrue, List, [], ◌∷◌, Option, Some, None, refl, ap, ◌∙◌, is_none, arith, nat_lt, if◌then◌else◌}
 use Rattle.std.specs.List.{list_any}
 use Rattle.std.proofs.lemmas.Bool.{and_from, false≢true, lt-ltb, ne_eqb}
 use Rattle.sb_fraction.specs.declared.unit.Unit as unit

@@ -1,6 +1,6 @@
 -- On a level side and over an edge along x or y, the corners have whole numbers and the abscissa.
 
-use Rattle.std.proofs.Common.{ℕ, ℤ, pos, negsuc, neg_ℤ, zero, suc, ◌+◌, ◌/◌, ◌<◌, ◌≡◌, ◌<ℤ◌, ◌+ℤ◌, ◌-ℤ◌, ◌*ℤ◌, Bool, true, false, not, ◌&&◌, ◌||◌, IsTrue, Option, Some, unsigned_abs, int_lt, refl, arith, ap, sym, ◌∙◌, if◌then◌else◌}
+use Rattle.std.proofs.Common.{ℤ, pos, negsuc, zero, suc, ◌≡◌, ◌<ℤ◌, ◌+ℤ◌, ◌-ℤ◌, ◌*ℤ◌, Bool, true, false, not, ◌&&◌, IsTrue, Some, unsigned_abs, int_lt, refl, arith, ap, sym, ◌∙◌, if◌then◌else◌}
 use Rattle.std.specs.Ordering.{int_eq}
 use Rattle.std.proofs.lemmas.Int.{ints, to_z-of_z}
 use Rattle.std.proofs.lemmas.Bool.{and_parts, lt-ltb, false≢true, false_from_ne_true}
@@ -12,19 +12,19 @@ use Rattle.sb_fraction.specs.Divisors.{greatest_divisor, are_coprime}
 use Rattle.sb_fraction.proofs.GreatestDivisor.{greatest_divisor-zero, zero-greatest_divisor}
 use Rattle.sb_fraction.proofs.LowestTerms.{reduced-lowest, reduced-multiple}
 use Rattle.sb_fraction.specs.declared.point.Point.{Point}
-use Rattle.sb_plane.specs.Sides.{LineSide, line}
+use Rattle.sb_plane.specs.Sides.{LineSide}
 use Rattle.sb_plane.specs.Regions.{is_region}
 use Rattle.sb_whole.specs.Tests.{differ}
 use Rattle.sb_whole.proofs.Signs.{less_from, same_less}
-use Rattle.sb_whole.proofs.Shapes.{var, num, plus, minus, negated, times, equal}
+use Rattle.sb_whole.proofs.Shapes.{var, num, plus, minus, times, equal}
 use Rattle.sb_whole.proofs.Ring.{mul-one, one-mul}
 use Rattle.sb_model.specs.declared.corner.Corner.{Corner}
 use Rattle.sb_model.specs.declared.face.Side.{Side}
-use Rattle.sb_model.specs.Spots.{Vector, vector, inner}
+use Rattle.sb_model.specs.Spots.{Vector, vector, opposite}
 use Rattle.sb_model.specs.Plan.{Edge, edge}
-use Rattle.sb_model.specs.Sides.{line_of, is_patch, is_abscissa_size, is_side_of, region_between}
+use Rattle.sb_model.specs.Sides.{line_of, is_abscissa_size, is_side_of, region_between}
 use Rattle.sb_model.specs.declared.patch.Patch.{Patch}
-use Rattle.sb_model.specs.Faces.{step, runs_along, direction_of, offset_of, opposite}
+use Rattle.sb_model.specs.Faces.{step, runs_along, direction_of, offset_of}
 use Rattle.sb_model.specs.Corners.{level_corner, side_corner, whole, is_level_side, is_straight_edge}
 
 abbrev corner : Ratio → Ratio → Ratio → Corner

@@ -1,7 +1,7 @@
 -- What contracts see of a model, and what holds of every model.
 
-use Rattle.std.specs.Prelude.{ℕ, ℤ, Bool, true, false, not, ◌&&◌, ◌||◌, ◌==◌, ◌+◌, ◌^◌, List, [], ◌∷◌, length, nat_le, nat_lt, nat_eq}
-use Rattle.std.specs.Prelude.{unsigned_abs, pos, negsuc, if◌then◌else◌, Option, Some, None, is_none}
+use Rattle.std.specs.Prelude.{ℕ, ℤ, Bool, true, false, not, ◌&&◌, ◌||◌, ◌==◌, ◌^◌, List, [], ◌∷◌, length, nat_le, nat_lt, nat_eq}
+use Rattle.std.specs.Prelude.{unsigned_abs, pos, if◌then◌else◌, Option, Some, None, is_none}
 use Rattle.std.specs.Ordering.{int_eq}
 use Rattle.std.specs.List.{list_all, list_any, find}
 use Rattle.sb_fraction.specs.Divisors.{are_coprime}

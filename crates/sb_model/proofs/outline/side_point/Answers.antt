@@ -1,4 +1,4 @@
-use Rattle.std.proofs.Common.{◌≡◌, ◌∙◌, sym, rules, w32, w64, FitsSigned}
+use Rattle.std.proofs.Common.{◌∙◌, sym, rules, w32, w64, FitsSigned}
 use Rattle.std.proofs.lemmas.Int.{to_z-of_z}
 use Rattle.sb_model.proofs.StraightCorners.{point_along_x, point_along_y}
 use Rattle.sb_model.proofs.outline.side_point.Goals as goal

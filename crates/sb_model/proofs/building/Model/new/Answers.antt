@@ -1,4 +1,4 @@
-use Rattle.std.proofs.Common.{◌≡◌, ◌∙◌, sym, Some, None, refl, ap, true, false, w32, FitsSigned, to_z, of_z, rules}
+use Rattle.std.proofs.Common.{◌∙◌, sym, w32, FitsSigned, rules}
 use Rattle.std.proofs.lemmas.Int.{to_z-of_z}
 use Rattle.sb_model.specs.Building.{building}
 use Rattle.sb_model.proofs.OneSpaceIsNumbered.{zero_is_bad, none_is_bad, one_is_building}
