@@ -2,3 +2,5 @@ mod DecimalsAreReadBack
 mod NumbersEndAtTheirPoint
 mod FormHasOneReading
 mod Examples
+mod Passing
+mod NearIsInRange

@@ -1,3 +1,4 @@
 pub mod Numbers
 pub mod FirstForm
+pub mod Meaning
 pub mod Steps

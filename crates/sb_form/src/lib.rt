@@ -2,7 +2,11 @@
 //! means one box-shaped space. Read `specs/FirstForm.antt` first: it gives the text line by line.
 #![tactic(auto)]
 
+mod building;
 mod matcher;
+mod meaning;
 mod number;
 
+pub use building::{SPACE, model};
 pub use matcher::{FirstForm, first_form};
+pub use meaning::{Defect, extent_of};

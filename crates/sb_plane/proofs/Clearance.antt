@@ -1,15 +1,15 @@
 -- The clearance of one side over another has the sign of the difference of their values.
-use Rattle.std.proofs.Common.{◌≡◌, ◌↔◌, refl, sym, ◌∙◌, arith, ℤ, pos, ◌<ℤ◌, ◌≤ℤ◌, ◌+ℤ◌, ◌-ℤ◌, ◌*ℤ◌}
+use Rattle.std.proofs.Common.{◌≡◌, ◌↔◌, refl, ◌∙◌, arith, ℤ, pos, ◌<ℤ◌, ◌≤ℤ◌, ◌+ℤ◌, ◌-ℤ◌, ◌*ℤ◌}
 use Rattle.std.proofs.Common.{neg_ℤ, ap}
 use Rattle.sb_whole.proofs.Ring.{mul-zero}
-use Rattle.std.proofs.lemmas.Int.{ints, by_lt_z}
-use Rattle.sb_whole.specs.Arrows.{Arrow, arrow, cross, dot, opposite}
-use Rattle.sb_whole.specs.Rationals.{IsRational, IsBelow, IsAtMost, IsSame, value_at}
+use Rattle.std.proofs.lemmas.Int.{ints}
+use Rattle.sb_whole.specs.Arrows.{Arrow, arrow, cross, dot}
+use Rattle.sb_whole.specs.Rationals.{IsRational, IsBelow, IsAtMost, IsSame}
 use Rattle.sb_whole.proofs.Shapes.{var, num, plus, minus, negated, times, equal, cross_by, dot_by}
 use Rattle.sb_whole.proofs.Products.{positive_product, weak_product, positive_factor, weak_factor}
 use Rattle.sb_whole.proofs.Products.{zero_of_positive}
-use Rattle.sb_whole.proofs.Arrows.{opposite-dot, same_arrow}
-use Rattle.sb_plane.specs.Sides.{LineSide, line, level, IsLineSide, value_on, clearance}
+use Rattle.sb_whole.proofs.Arrows.{same_arrow}
+use Rattle.sb_plane.specs.Sides.{LineSide, level, IsLineSide, value_on, clearance}
 use Rattle.sb_plane.specs.Sides.{clearance_at}
 
 -- the value of a side is a rational number

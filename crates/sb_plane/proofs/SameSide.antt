@@ -1,13 +1,13 @@
 -- Two sides whose clearance is the zero form are one side, as data; so two sides are told apart by
 -- any place at which their values differ, and agree at one place at most otherwise.
-use Rattle.std.proofs.Common.{◌≡◌, refl, sym, ap, ap₂, ◌∙◌, arith, ℤ, pos, ◌<ℤ◌, ◌-ℤ◌, ◌*ℤ◌}
-use Rattle.std.proofs.Common.{Bool, true, false, ◌&&◌, Decides}
+use Rattle.std.proofs.Common.{◌≡◌, ap, ◌∙◌, arith, ℤ, pos, ◌-ℤ◌, ◌*ℤ◌}
+use Rattle.std.proofs.Common.{true, ◌&&◌, Decides}
 use Rattle.std.proofs.lemmas.Int.{ints}
 use Rattle.std.specs.Ordering.{int_eq}
 use Rattle.std.specs.Cmp.{signed_Decides}
 use Rattle.std.proofs.lemmas.Bool.{and_parts, and_from}
 use Rattle.sb_whole.specs.Arrows.{Arrow}
-use Rattle.sb_whole.specs.Rationals.{IsRational, IsZeroForm, IsForm, IsSame}
+use Rattle.sb_whole.specs.Rationals.{IsZeroForm, IsForm, IsSame}
 use Rattle.sb_whole.proofs.Products.{unscale_equal}
 use Rattle.sb_whole.proofs.Ring.{mul_comm}
 use Rattle.sb_whole.proofs.Rationals.{one_zero}
@@ -17,29 +17,29 @@ use Rattle.sb_plane.specs.Sides.{is_same_side}
 
 -- sides with equal data are equal
 pub same_line : (l m : LineSide) → l.dx ≡ m.dx → l.dy ≡ m.dy → l.off ≡ m.off → l ≡ m
-same_line l m e f g =
-    let h : line l.dx l.dy l.off ≡ line m.dx m.dy m.off = cc in h
+same_line l m same_dx same_dy same_off =
+    let whole : line l.dx l.dy l.off ≡ line m.dx m.dy m.off = cc in whole
 
 -- the test tells whether they are
 pub same_side_decides : (l m : LineSide) → Decides (is_same_side l m) (l ≡ m)
 same_side_decides l m = (to, from)
   where
     to : is_same_side l m ≡ true → l ≡ m
-    to e =
+    to answer =
         let first =
-        and_parts (int_eq l.dx m.dx) (int_eq l.dy m.dy && int_eq l.off m.off) e
+        and_parts (int_eq l.dx m.dx) (int_eq l.dy m.dy && int_eq l.off m.off) answer
         in
         let rest = and_parts (int_eq l.dy m.dy) (int_eq l.off m.off) first.1 in
         same_line l m ((signed_Decides l.dx m.dx).0 first.0)
         ((signed_Decides l.dy m.dy).0 rest.0) ((signed_Decides l.off m.off).0 rest.1)
 
     from : l ≡ m → is_same_side l m ≡ true
-    from e =
+    from same =
         and_from (int_eq l.dx m.dx) (int_eq l.dy m.dy && int_eq l.off m.off)
-        ((signed_Decides l.dx m.dx).1 (ap (λ (s : LineSide). s.dx) e))
+        ((signed_Decides l.dx m.dx).1 (ap (λ (s : LineSide). s.dx) same))
         (and_from (int_eq l.dy m.dy) (int_eq l.off m.off)
-        ((signed_Decides l.dy m.dy).1 (ap (λ (s : LineSide). s.dy) e))
-        ((signed_Decides l.off m.off).1 (ap (λ (s : LineSide). s.off) e)))
+        ((signed_Decides l.dy m.dy).1 (ap (λ (s : LineSide). s.dy) same))
+        ((signed_Decides l.off m.off).1 (ap (λ (s : LineSide). s.off) same)))
 
 -- two reduced sides whose clearance is the zero form are equal
 pub same_side : (l m : LineSide) → IsReducedSide l → IsReducedSide m
@@ -52,7 +52,7 @@ same_side l m l_in m_in zero =
     same_line l m same_dx pair.0 (offsets same_dx)
   where
     equal_from : (a b : ℤ) → a -ℤ b ≡ pos 0 → b ≡ a
-    equal_from a b e = omega (arith, ints)
+    equal_from a b zero = omega (arith, ints)
 
     offsets : l.dx ≡ m.dx → l.off ≡ m.off
     offsets same =
@@ -68,6 +68,7 @@ pub other_side_is_form : (l m : LineSide) → IsReducedSide l → IsReducedSide 
     → (l ≡ m → ⊥) → IsForm (clearance l m)
 other_side_is_form l m l_in m_in other zero = other (same_side l m l_in m_in zero)
 
+-- at two places at which they meet u is the same number
 pub meet_once : (l m : LineSide) → IsReducedSide l → IsReducedSide m → (l ≡ m → ⊥)
     → (u w : Arrow) → clearance_at l m u ≡ pos 0 → clearance_at l m w ≡ pos 0 → IsSame u w
 meet_once l m l_in m_in other u w at_u at_w =

@@ -1,11 +1,12 @@
 -- What a patch covers of its face: a part of the plane between two abscissae and two sides, its
 -- inner points and its closure on a line u = constant.
-use Rattle.std.specs.Prelude.{◌≡◌, pos, ◌≤ℤ◌, ◌*ℤ◌, Bool, ◌&&◌, not, int_lt, int_le}
+use Rattle.std.specs.Prelude.{◌≡◌, pos, ◌≤ℤ◌, Bool, ◌&&◌, not, int_le}
 use Rattle.std.specs.Ordering.{int_eq}
+use Rattle.sb_whole.specs.Tests.{is_positive}
 use Rattle.sb_whole.specs.Arrows.{Arrow, cross}
-use Rattle.sb_whole.specs.Rationals.{IsRational, IsBelow, IsAtMost, is_below, value_at}
+use Rattle.sb_whole.specs.Rationals.{IsRational, IsBelow, IsAtMost, is_below, is_at_most}
 use Rattle.sb_plane.specs.Sides.{LineSide, IsLineSide, clearance_at, is_same_side, value_on}
-use Rattle.sb_plane.specs.Points.{FacePoint, along, is_above, is_under}
+use Rattle.sb_plane.specs.Points.{FacePoint, abscissa_of, is_above_side, is_under_side}
 
 -- the points with low < u < high between two sides
 pub record Region : Type 0 where
@@ -13,10 +14,6 @@ pub record Region : Type 0 where
   pub high : Arrow
   pub lower : LineSide
   pub upper : LineSide
-
--- r <= s, as a test
-abbrev pub is_at_most : Arrow → Arrow → Bool
-is_at_most r s = int_le (pos 0) (cross r s)
 
 -- u lies strictly between the ends
 abbrev pub is_spanned : Region → Arrow → Bool
@@ -29,7 +26,15 @@ is_reached p u = is_at_most p.low u && is_at_most u p.high
 -- the point lies in the region: all four conditions are strict
 abbrev pub is_inside : Region → FacePoint → Bool
 is_inside p point =
-    is_spanned p (along point) && (is_above p.lower point && is_under p.upper point)
+    is_spanned p (abscissa_of point) && (is_above_side p.lower point && is_under_side p.upper point)
+
+-- the same of two rational numbers: strictly between its ends, and strictly between the values of
+-- its sides
+pub record IsInner (p : Region) (u v : Arrow) : Type 0 where
+  pub after : IsBelow p.low u
+  pub before : IsBelow u p.high
+  pub above : IsBelow (value_on p.lower u) v
+  pub under : IsBelow v (value_on p.upper u)
 
 -- the two sides are two lines of positive first part, the region is wide, its lower side is nowhere
 -- above its upper side between its ends, and the two meet at one of the ends at most
@@ -44,16 +49,35 @@ pub record IsRegion (p : Region) : Type 0 where
   pub one_meeting : clearance_at p.lower p.upper p.low ≡ pos 0
       → clearance_at p.lower p.upper p.high ≡ pos 0 → ⊥
 
--- the same as a test, of the ends alone
+-- both ends are rational numbers
+abbrev pub has_ends : Region → Bool
+has_ends p = is_positive p.low.x && is_positive p.high.x
+
+-- both sides are lines of positive first part
+abbrev pub has_sides : Region → Bool
+has_sides p = is_positive p.lower.dx && is_positive p.upper.dx
+
+-- the lower side is not above the upper side at u
+abbrev pub is_uncrossed_at : Region → Arrow → Bool
+is_uncrossed_at p u = int_le (pos 0) (clearance_at p.lower p.upper u)
+
+-- nor at either end
+abbrev pub is_uncrossed : Region → Bool
+is_uncrossed p = is_uncrossed_at p p.low && is_uncrossed_at p p.high
+
+-- the two sides meet at u
+abbrev pub meets_at : Region → Arrow → Bool
+meets_at p u = int_eq (clearance_at p.lower p.upper u) (pos 0)
+
+-- they meet at one of the ends at most
+abbrev pub meets_once : Region → Bool
+meets_once p = not (meets_at p p.low && meets_at p p.high)
+
+-- a region, as a test of the ends alone
 abbrev pub is_region : Region → Bool
 is_region p =
-    (int_lt (pos 0) p.low.x && int_lt (pos 0) p.high.x)
-    && ((int_lt (pos 0) p.lower.dx && int_lt (pos 0) p.upper.dx)
-    && (is_below p.low p.high
-    && ((int_le (pos 0) (clearance_at p.lower p.upper p.low)
-    && int_le (pos 0) (clearance_at p.lower p.upper p.high))
-    && not (int_eq (clearance_at p.lower p.upper p.low) (pos 0)
-    && int_eq (clearance_at p.lower p.upper p.high) (pos 0)))))
+    has_ends p
+    && (has_sides p && (is_below p.low p.high && (is_uncrossed p && meets_once p)))
 
 -- v lies in the closure of the region on the line u: between its sides there, both taken in, for u
 -- between its ends, both taken in
@@ -63,17 +87,29 @@ pub record IsInClosure (p : Region) (u v : Arrow) : Type 0 where
   pub above : IsAtMost (value_on p.lower u) v
   pub below : IsAtMost v (value_on p.upper u)
 
--- the closures of two regions have a common point on the line u, by clearances
+-- a common point of the closures of p and q on the line u
+pub record IsCommon (p q : Region) (u v : Arrow) : Type 0 where
+  pub rational : IsRational v
+  pub first : IsInClosure p u v
+  pub second : IsInClosure q u v
+
+-- the lower side of p is not above the upper side of q at u
+abbrev pub reaches_under : Region → Region → Arrow → Bool
+reaches_under p q u = int_le (pos 0) (clearance_at p.lower q.upper u)
+
+-- the closures of two regions have a common point on the line u: both reach it, and each lower side
+-- is at most the other's upper side there
 abbrev pub closures_meet : Region → Region → Arrow → Bool
 closures_meet p q u =
-    (is_reached p u && is_reached q u)
-    && (int_le (pos 0) (clearance_at p.lower q.upper u)
-    && int_le (pos 0) (clearance_at q.lower p.upper u))
+    (is_reached p u && is_reached q u) && (reaches_under p q u && reaches_under q p u)
 
--- the second begins where the first ends, and both have the same lower side and the same upper
--- side there, a positive length apart
+-- the two have the same lower and the same upper side
+abbrev pub have_same_sides : Region → Region → Bool
+have_same_sides p q = is_same_side p.lower q.lower && is_same_side p.upper q.upper
+
+-- the second begins where the first ends, both have the same two sides, and these stand a positive
+-- length apart there: the two share a whole side
 abbrev pub is_seam : Region → Region → Bool
 is_seam p q =
     int_eq (cross p.high q.low) (pos 0)
-    && ((is_same_side p.lower q.lower && is_same_side p.upper q.upper)
-    && int_lt (pos 0) (clearance_at p.lower p.upper p.high))
+    && (have_same_sides p q && is_positive (clearance_at p.lower p.upper p.high))

@@ -1,7 +1,7 @@
 -- Sides of patches. In the coordinates u (along) and v (across or up) of a face each side is a line
 -- that no line u = constant is parallel to, so it has one value v at each u. The side of a patch
 -- on a slab face runs along plan edges; on a side face it is a height.
-use Rattle.std.specs.Prelude.{◌≡◌, ℤ, pos, ◌+ℤ◌, ◌-ℤ◌, ◌*ℤ◌, ◌<ℤ◌, Bool, ◌&&◌}
+use Rattle.std.specs.Prelude.{ℤ, pos, ◌+ℤ◌, ◌-ℤ◌, ◌*ℤ◌, ◌<ℤ◌, Bool, ◌&&◌}
 use Rattle.std.specs.Ordering.{int_eq}
 use Rattle.sb_whole.specs.Arrows.{Arrow, arrow}
 use Rattle.sb_whole.specs.Rationals.{value_at}

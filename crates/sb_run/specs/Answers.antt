@@ -1,5 +1,5 @@
 -- The answers: their order, their statuses and the line that is said for each.
-use Rattle.std.specs.Prelude.{ℕ, ◌+◌, ◌/◌, ◌≤◌, ◌++◌, ◌==◌, Bool, not, List, [], ◌∷◌, length, codes, decimal, is_some, is_none, if◌then◌else◌}
+use Rattle.std.specs.Prelude.{ℕ, ◌+◌, ◌/◌, ◌≤◌, ◌++◌, ◌==◌, Bool, true, not, ◌&&◌, nat_le, List, [], ◌∷◌, length, codes, decimal, is_some, is_none, if◌then◌else◌}
 use Rattle.std.specs.List.{count_by, list_any}
 use Rattle.sb_model.specs.declared.boundary.Boundary.{Boundary}
 use Rattle.sb_run.specs.declared.answer.Answer.{Answer}
@@ -41,6 +41,11 @@ abbrev pub spaces_in : List Boundary → ℕ
 spaces_in [] = 0
 spaces_in (b ∷ bs) =
   (if list_any (λ c. c.patch.face.space == b.patch.face.space) bs then 0 else 1) + spaces_in bs
+
+-- the spaces of the boundaries do not fall, from this number on
+abbrev pub have_rising_spaces : ℕ → List Boundary → Bool
+have_rising_spaces from [] = true
+have_rising_spaces from (b ∷ bs) = nat_le from b.patch.face.space && have_rising_spaces b.patch.face.space bs
 
 -- the line that is said of a list: its spaces, its boundaries without a parent, its boundaries with
 -- one, and its couples of counterparts

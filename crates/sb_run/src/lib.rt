@@ -2,5 +2,8 @@
 //! program does. Read `specs/Promises.antt` first: each answer and when it comes.
 #![tactic(auto)]
 
+mod answer;
 mod asking;
+mod telling;
 
+pub use answer::{Answer, Code, status};

@@ -1,9 +1,9 @@
 -- Writing piece by piece loses nothing: the parts of a text that were written follow one another.
-use Rattle.std.proofs.Common.{◌≡◌, ◌≢◌, ℕ, ◌+◌, ◌<◌, ◌≤◌, List, ◌++◌, length, take, drop, refl, sym, ◌∙◌, ap, arith, append_assoc, Option, Some}
+use Rattle.std.proofs.Common.{◌≡◌, ℕ, ◌+◌, List, ◌++◌, take, drop, sym, ◌∙◌, ap, arith, append_assoc, Option, Some}
 use Rattle.std.specs.Option.{ForSome}
 use Rattle.std.proofs.Math.Seq.{take-add}
 use Rattle.sb_shelf.specs.declared.shelf.Out.{Out}
-use Rattle.sb_shelf.specs.Outside.{Outside, SameOut, OnlyOutput, OnlyWrites}
+use Rattle.sb_shelf.specs.Outside.{Outside, OnlyWrites}
 
 -- so far nothing but writing to this output was done, and the first bytes of the text stand there
 pub record IsWriting (out : Out) (text : List ℕ) (done : ℕ) (start now : Outside) : Type 0 where

@@ -1,10 +1,10 @@
 -- Reading piece by piece loses nothing: what was taken and what is left is the same text all along.
-use Rattle.std.proofs.Common.{◌≡◌, ◌↔◌, ℕ, ◌+◌, ◌<◌, ◌≤◌, List, [], ◌++◌, length, take, drop, Option, Some, None, refl, zero, suc, sym, ◌∙◌, ap, arith, append_assoc, true, false, Bool}
+use Rattle.std.proofs.Common.{◌≡◌, ℕ, ◌<◌, List, [], ◌++◌, length, take, drop, Option, Some, None, refl, zero, suc, ◌∙◌, arith, append_assoc}
 use Rattle.std.specs.Bool.{OnFalse}
 use Rattle.std.specs.Prelude.{is_some, nat_lt}
 use Rattle.std.specs.Option.{ForSome, option_map}
 use Rattle.std.proofs.lemmas.List.{take-append-drop}
-use Rattle.sb_shelf.specs.Outside.{Outside, SameOut, OnlyReads}
+use Rattle.sb_shelf.specs.Outside.{Outside, OnlyReads}
 use Rattle.sb_shelf.specs.Calls.{Moves}
 use Rattle.sb_shelf.specs.WholeTexts.{taken_and_left}
 

@@ -1,5 +1,5 @@
 -- What the four calls of a shelf do, each as a relation of the outside before and after it.
-use Rattle.std.specs.Prelude.{◌≡◌, ◌↔◌, ℕ, ◌<◌, ◌≤◌, Bool, true, List, [], ◌++◌, length, take, drop, Some, Result, IfOk, OnOk, OnErr}
+use Rattle.std.specs.Prelude.{◌≡◌, ◌↔◌, ℕ, ◌<◌, ◌≤◌, true, List, [], ◌++◌, length, take, drop, Some, Result, IfOk, OnOk, OnErr}
 use Rattle.std.specs.Option.{ForSome}
 use Rattle.sb_shelf.specs.declared.shelf.Out.{Out}
 use Rattle.sb_shelf.specs.declared.shelf.Failed.{Failed}

@@ -1,11 +1,11 @@
 -- What a shelf in memory stands for, and what its calls do beyond those of any shelf.
-use Rattle.std.specs.Prelude.{◌≡◌, ◌≢◌, ℕ, ◌==◌, min, Bool, true, false, List, [], length, drop, Option, Some, Result, is_ok, if◌then◌else◌}
+use Rattle.std.specs.Prelude.{◌≡◌, ◌≢◌, ℕ, min, Bool, true, List, [], drop, Some, if◌then◌else◌}
 use Rattle.std.specs.Str.{bytes_eq}
 use Rattle.sb_shelf.specs.declared.shelf.Out.{Out}
 use Rattle.sb_shelf.specs.declared.shelf.Out.TheVariants.{Ifc, Idf, Report, Said}
 use Rattle.sb_shelf.specs.declared.sheet.Sheet.{Sheet}
 use Rattle.sb_shelf.specs.declared.memory.MemoryShelf.{MemoryShelf}
-use Rattle.sb_shelf.specs.Outside.{Outside, one_more}
+use Rattle.sb_shelf.specs.Outside.{Outside, IsUntouched, one_more}
 use Rattle.sb_shelf.specs.Counting.{is_among}
 
 abbrev pub sheet_of : MemoryShelf → Out → Sheet
@@ -79,7 +79,7 @@ pub record IsNew (path bytes failing : List ℕ) (piece : ℕ) (m : MemoryShelf)
   pub calls : m.calls ≡ 0
   pub left : (memory_state m).left ≡ Some []
   pub message : (memory_state m).is_created Said ≡ true
-  pub files : (out : Out) → out ≢ Said → (memory_state m).is_created out ≡ false
+  pub files : IsUntouched (memory_state m)
   pub empty : (out : Out) → (memory_state m).bytes out ≡ Some []
   pub rooms : (out : Out) → room_of m out ≡ 0
   pub read_faults : m.read_faults ≡ 0

@@ -1,5 +1,5 @@
 -- What a shelf stands for: what can be read, what was written, and how often its calls have failed.
-use Rattle.std.specs.Prelude.{◌≡◌, ◌≢◌, ℕ, ◌+◌, ◌≤◌, min, Bool, List, Option, is_some}
+use Rattle.std.specs.Prelude.{◌≡◌, ◌≢◌, ℕ, ◌+◌, ◌≤◌, min, Bool, false, List, Option, is_some}
 use Rattle.sb_shelf.specs.declared.shelf.Out.{Out}
 use Rattle.sb_shelf.specs.declared.shelf.Out.TheVariants.{Ifc, Idf, Report, Said}
 
@@ -45,6 +45,12 @@ other_faults_of Ifc s = s.said_faults
 other_faults_of Idf s = s.said_faults
 other_faults_of Report s = s.said_faults
 other_faults_of Said s = s.file_faults
+
+-- none of the three files is created
+pub record IsUntouched (s : Outside) : Type 0 where
+  pub ifc : s.is_created Ifc ≡ false
+  pub idf : s.is_created Idf ≡ false
+  pub report : s.is_created Report ≡ false
 
 -- an output is as it was
 pub record SameOut (out : Out) (old new : Outside) : Type 0 where

@@ -1,5 +1,5 @@
 -- What reading a whole text and writing one promise beyond single calls.
-use Rattle.std.specs.Prelude.{◌≡◌, ℕ, ◌+◌, ◌-◌, ◌≤◌, List, ◌++◌, length, take, Option, Result, IsErrOf}
+use Rattle.std.specs.Prelude.{◌≡◌, ℕ, ◌-◌, List, ◌++◌, length, take, Option, Result, IsErrOf}
 use Rattle.std.specs.Option.{option_map}
 use Rattle.sb_shelf.specs.declared.reading.ReadError.{ReadError}
 use Rattle.sb_shelf.specs.declared.reading.ReadError.TheVariants.{ReadFault, NoMemory}

@@ -25,12 +25,14 @@ pub struct HostShelf<R: Files + Print + Drop> {
 }
 
 impl<R: Files + Print + Drop> HostShelf<R> {
+    ghost use Rattle.sb_shelf.specs.Outside.{IsUntouched};
     ghost use Rattle.sb_shelf.specs.Host.{host_state};
 
     /// A shelf over the files and the standard output of this runtime: nothing is open, and only the
     /// message is created.
     pub fn new(rt: R) -> Self
-        ensures { ⟦<HostShelf<R> as Shelf>⟧.state result ≡ host_state false false false 0 0 0 }
+        ensures state { ⟦<HostShelf<R> as Shelf>⟧.state result ≡ host_state false false false 0 0 0 }
+        ensures files { IsUntouched (⟦<HostShelf<R> as Shelf>⟧.state result) }
     {
         HostShelf {
             rt,

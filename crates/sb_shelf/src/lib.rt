@@ -12,6 +12,8 @@ mod memory;
 mod reading;
 mod sheet;
 mod shelf;
+#[cfg(test)]
+mod tests;
 mod writing;
 
 pub use calls::Calls;

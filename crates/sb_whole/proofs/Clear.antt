@@ -1,6 +1,6 @@
 -- After each number there is an interval in which finitely many forms keep their sign; and before
 -- each number there is one.
-use Rattle.std.proofs.Common.{◌≡◌, inl, inr, refl, ◌∙◌, arith}
+use Rattle.std.proofs.Common.{◌≡◌, ◌⊎◌, inl, inr, refl, ◌∙◌, arith}
 use Rattle.std.proofs.Common.{Bool, true, false, List, [], ◌∷◌, map, cond}
 use Rattle.std.proofs.Common.{ℤ, pos, ◌<ℤ◌, ◌≤ℤ◌, ◌+ℤ◌, ◌-ℤ◌, ◌*ℤ◌, neg_ℤ, negsuc, ◌+◌}
 use Rattle.std.proofs.Common.{unsigned_abs, ap}
@@ -13,6 +13,8 @@ use Rattle.sb_whole.specs.Intervals.{IsPositiveOn, IsNegativeOn, Keeps, AllKeep,
 use Rattle.sb_whole.specs.Intervals.{stop, clear_end, clear_start}
 use Rattle.sb_whole.proofs.Shapes.{var, num, plus, minus, negated, times, equal, cross_is, dot_is}
 use Rattle.sb_whole.proofs.Shapes.{cross_eq, dot_eq}
+use Rattle.sb_whole.proofs.Signs.{above_or_not, less_or_not}
+use Rattle.sb_whole.proofs.Products.{weak_negative_factor}
 use Rattle.sb_whole.proofs.Signs.{less_from, not_less_from, test_less, test_not_less}
 use Rattle.sb_whole.proofs.Products.{positive_product, positive_factor}
 use Rattle.sb_whole.proofs.Products.{negative_factor, negative_product}
@@ -23,7 +25,7 @@ use Rattle.sb_whole.proofs.Rationals.{at_most_from_below, at_most_trans}
 use Rattle.sb_whole.proofs.Rationals.{mediant-IsRational, mediant_between}
 use Rattle.sb_whole.proofs.Arrows.{opposite-dot, cross-mirror, dot-mirror, mirror-cross}
 use Rattle.sb_whole.proofs.Arrows.{cross-mirror_comm}
-use Rattle.sb_whole.proofs.Ring.{mul_comm, zero-mul, mul-zero, mul-one, mul-neg}
+use Rattle.sb_whole.proofs.Ring.{mul_comm, neg-mul, zero-mul, mul-zero, mul-one, mul-neg}
 use Rattle.sb_whole.proofs.Arrows.{cross-add, add-cross, cross-scale, scale-cross, cross-self}
 use Rattle.sb_whole.proofs.Arrows.{dot-add, dot-scale, mirror-dot}
 use Rattle.sb_whole.proofs.Products.{scale_at_most}
@@ -35,34 +37,34 @@ module _ (form r t : Arrow) (low : IsBelow r t) where
   pub positive_between : pos 0 ≤ℤ value_at form r → pos 0 ≤ℤ value_at form t
       → (value_at form r ≡ pos 0 → value_at form t ≡ pos 0 → ⊥) → IsPositiveOn r t form
   positive_between at_r at_t apart u u_in after before =
-      by_lt_z (pos 0) (value_at form r)
-      (λ above. between_from_low form r u t after before low above at_t)
-      (λ none.
-      by_lt_z (pos 0) (value_at form t)
-      (λ above. between_from_high form r u t after before low at_r above)
-      (λ none_t. absurd (apart (omega (arith, ints)) (omega (arith, ints)))))
-
-  -- at most 0 at both and 0 at one of them at most: below 0 between
-  pub negative_between : value_at form r ≤ℤ pos 0 → value_at form t ≤ℤ pos 0
-      → (value_at form r ≡ pos 0 → value_at form t ≡ pos 0 → ⊥) → IsNegativeOn r t form
-  negative_between at_r at_t apart u u_in after before =
-      let turned_r = opposite-dot form r in
-      let turned_t = opposite-dot form t in
-      let turned_u = opposite-dot form u in
-      let above : pos 0 <ℤ value_at (opposite form) u =
-      by_lt_z (pos 0) (value_at (opposite form) r)
-      (λ high. between_from_low (opposite form) r u t after before low high (omega (arith, ints)))
-      (λ none.
-      by_lt_z (pos 0) (value_at (opposite form) t)
-      (λ high. between_from_high (opposite form) r u t after before low (omega (arith, ints)) high)
-      (λ none_t. absurd (apart (omega (arith, ints)) (omega (arith, ints)))))
-      in omega (arith, ints)
+      from (above_or_not (value_at form r)) (above_or_not (value_at form t))
+    where
+      from : (pos 0 <ℤ value_at form r) ⊎ (value_at form r ≤ℤ pos 0)
+          → (pos 0 <ℤ value_at form t) ⊎ (value_at form t ≤ℤ pos 0) → pos 0 <ℤ value_at form u
+      from (inl above) _ = between_from_low form r u t after before low above at_t
+      from (inr none) (inl above) = between_from_high form r u t after before low at_r above
+      from (inr none) (inr none_t) =
+          absurd (apart (omega (arith, ints)) (omega (arith, ints)))
 
   -- a form that is not the zero form is 0 at one of two numbers at most
   pub not_both_zero : (IsZeroForm form → ⊥) → value_at form r ≡ pos 0
       → value_at form t ≡ pos 0 → ⊥
   not_both_zero apart at_r at_t =
       let same = one_zero form r t apart at_r at_t in omega (arith, ints)
+
+-- at most 0 at both and 0 at one of them at most: below 0 between
+pub negative_between : (form r t : Arrow) → IsBelow r t → value_at form r ≤ℤ pos 0
+    → value_at form t ≤ℤ pos 0 → (value_at form r ≡ pos 0 → value_at form t ≡ pos 0 → ⊥)
+    → IsNegativeOn r t form
+negative_between form r t low at_r at_t apart u u_in after before =
+    let turned_r = opposite-dot form r in
+    let turned_t = opposite-dot form t in
+    let turned_u = opposite-dot form u in
+    let above =
+    positive_between (opposite form) r t low (omega (arith, ints)) (omega (arith, ints))
+    (λ zero zero_t. apart (omega (arith, ints)) (omega (arith, ints))) u u_in after before
+    in
+    omega (arith, ints)
 
 -- ---- the zero of a form between two numbers at which its signs are strictly opposite
 
@@ -154,6 +156,40 @@ falling_zero form r t r_in t_in low at_r at_t =
         ∙ equal (plus (times (var form.x) (negated (var form.y))) (times (var form.y) (var form.x)))
         (num 0) (omega arith)
 
+-- of a product below 0 the other factor of one below 0 is above 0
+up_from_negative : (a b : ℤ) → (a *ℤ b) <ℤ pos 0 → a <ℤ pos 0 → pos 0 <ℤ b
+up_from_negative a b product low =
+    by_lt_z (pos 0) b (λ above. above)
+    (λ none.
+    let above = weak_product_of_negatives a b (omega (arith, ints)) none in
+    absurd (omega (arith, ints)))
+
+-- and a factor that is at least 0 is above 0
+up_from_weak : (a b : ℤ) → (a *ℤ b) <ℤ pos 0 → pos 0 ≤ℤ a → pos 0 <ℤ a
+up_from_weak a b product high =
+    by_lt_z (pos 0) a (λ above. above)
+    (λ none.
+    let zero : a ≡ pos 0 = omega (arith, ints) in
+    let below = rw zero at product in
+    let same = zero-mul b in
+    absurd (omega (arith, ints)))
+
+-- where the signs at r and t are strictly opposite, the zero of the form lies strictly between
+pub zero_between : (form r t : Arrow) → IsRational r → IsRational t → IsBelow r t
+    → changes_sign form r t ≡ true → IsZeroBetween form r t (zero_of form)
+zero_between form r t r_in t_in low answer =
+    by_lt_z (value_at form r) (pos 0)
+    (λ at_r.
+    rising_zero form r t r_in t_in low at_r
+    (up_from_negative (value_at form r) (value_at form t) product at_r))
+    (λ at_r.
+    let above = up_from_weak (value_at form r) (value_at form t) product at_r in
+    falling_zero form r t r_in t_in low above
+    (negative_factor (value_at form r) (value_at form t) above product))
+  where
+    product : (value_at form r *ℤ value_at form t) <ℤ pos 0
+    product = less_from (value_at form r *ℤ value_at form t) (pos 0) answer
+
 -- end lies above r and at most at t, and the form keeps its sign from r to end
 pub record IsStop (form r t end : Arrow) : Type 0 where
   pub rational : IsRational end
@@ -163,109 +199,68 @@ pub record IsStop (form r t end : Arrow) : Type 0 where
 
 stop_by : (form r t : Arrow) → IsForm form → IsRational r → IsRational t → IsBelow r t
     → (b : Bool) → changes_sign form r t ≡ b → IsStop form r t (cond b (zero_of form) t)
-stop_by form r t apart r_in t_in low true e =
-    by_lt_z (value_at form r) (pos 0)
-    (λ at_r.
-    let at_t : pos 0 <ℤ value_at form t = other_up at_r in
-    let z = rising_zero form r t r_in t_in low at_r at_t in
+stop_by form r t apart r_in t_in low true answer =
+    let z = zero_between form r t r_in t_in low answer in
     record {
       rational = z.rational;
       after = z.after;
       within = at_most_from_below (zero_of form) t z.before;
-      keep =
-          inr (negative_between form r (zero_of form) z.after (omega (arith, ints))
-          (at_most_zero z.zero) (λ zero. absurd (less_zero at_r zero)));
-    })
-    (λ at_r.
-    let at_r' : pos 0 <ℤ value_at form r = own_up at_r in
-    let at_t : value_at form t <ℤ pos 0 =
-    negative_factor (value_at form r) (value_at form t) at_r' product
-    in
-    let z = falling_zero form r t r_in t_in low at_r' at_t in
-    record {
-      rational = z.rational;
-      after = z.after;
-      within = at_most_from_below (zero_of form) t z.before;
-      keep =
-          inl (positive_between form r (zero_of form) z.after at_r
-          (at_least_zero z.zero) (λ zero. absurd (more_zero at_r' zero)));
-    })
+      keep = kept z;
+    }
   where
-    product : (value_at form r *ℤ value_at form t) <ℤ pos 0
-    product = less_from (value_at form r *ℤ value_at form t) (pos 0) e
-
-    other_up : value_at form r <ℤ pos 0 → pos 0 <ℤ value_at form t
-    other_up at_r =
-        by_lt_z (pos 0) (value_at form t) (λ above. above)
-        (λ none.
-        let low_r : value_at form r ≤ℤ pos 0 = omega (arith, ints) in
-        let above = weak_product_of_negatives (value_at form r) (value_at form t) low_r none in
-        let below = product in
-        absurd (omega (arith, ints)))
-
-    own_up : pos 0 ≤ℤ value_at form r → pos 0 <ℤ value_at form r
-    own_up at_r =
-        by_lt_z (pos 0) (value_at form r) (λ above. above)
-        (λ none.
-        let zero : value_at form r ≡ pos 0 = omega (arith, ints) in
-        let below = rw zero at product in
-        let same = zero-mul (value_at form t) in
-        absurd (omega (arith, ints)))
-
     at_most_zero : {a : ℤ} → a ≡ pos 0 → a ≤ℤ pos 0
     at_most_zero zero = omega (arith, ints)
 
     at_least_zero : {a : ℤ} → a ≡ pos 0 → pos 0 ≤ℤ a
     at_least_zero zero = omega (arith, ints)
 
-    less_zero : {a : ℤ} → a <ℤ pos 0 → a ≡ pos 0 → ⊥
-    less_zero less zero = omega (arith, ints)
-
-    more_zero : {a : ℤ} → pos 0 <ℤ a → a ≡ pos 0 → ⊥
-    more_zero more zero = omega (arith, ints)
-stop_by form r t apart r_in t_in low false e =
+    kept : IsZeroBetween form r t (zero_of form) → Keeps r (zero_of form) form
+    kept z =
+        by_lt_z (value_at form r) (pos 0)
+        (λ at_r.
+        inr (negative_between form r (zero_of form) z.after (omega (arith, ints))
+        (at_most_zero z.zero) (not_both_zero form r (zero_of form) z.after apart)))
+        (λ at_r.
+        inl (positive_between form r (zero_of form) z.after at_r (at_least_zero z.zero)
+        (not_both_zero form r (zero_of form) z.after apart)))
+stop_by form r t apart r_in t_in low false answer =
     record {
       rational = t_in;
       after = low;
       within = at_most_refl t;
-      keep =
-          by_lt_z (value_at form r) (pos 0)
-          (λ at_r.
-          inr (negative_between form r t low (omega (arith, ints)) (other_down at_r)
-          (λ zero zero_t. both zero zero_t)))
-          (λ at_r.
-          by_lt_z (value_at form t) (pos 0)
-          (λ at_t.
-          inr (negative_between form r t low (own_down at_r at_t) (omega (arith, ints))
-          (λ zero zero_t. both zero zero_t)))
-          (λ at_t.
-          inl (positive_between form r t low at_r at_t (λ zero zero_t. both zero zero_t))));
+      keep = kept (less_or_not (value_at form r) (pos 0)) (less_or_not (value_at form t) (pos 0));
     }
   where
     product : pos 0 ≤ℤ (value_at form r *ℤ value_at form t)
-    product = not_less_from (value_at form r *ℤ value_at form t) (pos 0) e
-
-    both : value_at form r ≡ pos 0 → value_at form t ≡ pos 0 → ⊥
-    both zero zero_t = not_both_zero form r t low apart zero zero_t
+    product = not_less_from (value_at form r *ℤ value_at form t) (pos 0) answer
 
     other_down : value_at form r <ℤ pos 0 → value_at form t ≤ℤ pos 0
     other_down at_r =
-        by_lt_z (pos 0) (value_at form t)
-        (λ above.
-        let same = mul_comm (value_at form r) (value_at form t) in
-        let below = negative_product (value_at form t) (value_at form r) above at_r in
-        let up = product in
-        absurd (omega (arith, ints)))
-        (λ none. none)
+        let turned : pos 0 <ℤ neg_ℤ (value_at form r) = omega (arith, ints) in
+        let same = neg-mul (value_at form r) (value_at form t) in
+        let high = product in
+        weak_negative_factor (neg_ℤ (value_at form r)) (value_at form t) turned
+        (omega (arith, ints))
 
     own_down : pos 0 ≤ℤ value_at form r → value_at form t <ℤ pos 0 → value_at form r ≤ℤ pos 0
     own_down at_r at_t =
-        by_lt_z (pos 0) (value_at form r)
-        (λ above.
-        let below = negative_product (value_at form r) (value_at form t) above at_t in
-        let up = product in
-        absurd (omega (arith, ints)))
-        (λ none. none)
+        let turned : pos 0 <ℤ neg_ℤ (value_at form t) = omega (arith, ints) in
+        let same = neg-mul (value_at form t) (value_at form r) in
+        let exchanged = mul_comm (value_at form r) (value_at form t) in
+        let high = product in
+        weak_negative_factor (neg_ℤ (value_at form t)) (value_at form r) turned
+        (omega (arith, ints))
+
+    kept : (value_at form r <ℤ pos 0) ⊎ (pos 0 ≤ℤ value_at form r)
+        → (value_at form t <ℤ pos 0) ⊎ (pos 0 ≤ℤ value_at form t) → Keeps r t form
+    kept (inl at_r) _ =
+        inr (negative_between form r t low (omega (arith, ints)) (other_down at_r)
+        (not_both_zero form r t low apart))
+    kept (inr at_r) (inl at_t) =
+        inr (negative_between form r t low (own_down at_r at_t) (omega (arith, ints))
+        (not_both_zero form r t low apart))
+    kept (inr at_r) (inr at_t) =
+        inl (positive_between form r t low at_r at_t (not_both_zero form r t low apart))
 
 -- up to the stop of a form it keeps its sign
 pub stop_is : (form r t : Arrow) → IsForm form → IsRational r → IsRational t → IsBelow r t
@@ -416,8 +411,8 @@ nearer k r t = add (scale k r) t
 module _ (k : ℤ) (r t : Arrow) where
   nearer-IsRational : pos 0 <ℤ k → IsRational r → IsRational t → IsRational (nearer k r t)
   unfolding nearer
-  nearer-IsRational f r_in t_in =
-      let up = positive_product k r.x f r_in in omega (arith, ints)
+  nearer-IsRational k_in r_in t_in =
+      let up = positive_product k r.x k_in r_in in omega (arith, ints)
 
   cross-nearer : cross r (nearer k r t) ≡ cross r t
   unfolding nearer
@@ -447,8 +442,8 @@ module _ (k : ℤ) (r t : Arrow) where
 outweighs : (a b : ℤ) → a <ℤ pos 0 → ((pos (unsigned_abs b + 1) *ℤ a) +ℤ b) <ℤ pos 0
 outweighs a b low =
     let many =
-      scale_at_most (pos (unsigned_abs b + 1)) a (negsuc 0) (omega (arith, ints))
-        (omega (arith, ints))
+    scale_at_most (pos (unsigned_abs b + 1)) a (negsuc 0) (omega (arith, ints))
+    (omega (arith, ints))
     in
     let turned = mul-neg (pos (unsigned_abs b + 1)) (pos 1) in
     let one = mul-one (pos (unsigned_abs b + 1)) in
@@ -460,9 +455,9 @@ pub weak_at_low : (form r t : Arrow) → IsRational r → IsRational t → IsBel
     → pos 0 ≤ℤ value_at form r
 weak_at_low form r t r_in t_in low high =
     by_lt_z (value_at form r) (pos 0)
-      (λ below.
-        absurd (clash below (pos (unsigned_abs (value_at form t) + 1)) refl))
-      (λ high. high)
+    (λ below.
+    absurd (clash below (pos (unsigned_abs (value_at form t) + 1)) refl))
+    (λ high. high)
   where
     clash : value_at form r <ℤ pos 0 → (k : ℤ) → k ≡ pos (unsigned_abs (value_at form t) + 1) → ⊥
     clash below k is =
@@ -470,7 +465,7 @@ weak_at_low form r t r_in t_in low high =
         let u_in = nearer-IsRational k r t above r_in t_in in
         let after : IsBelow r (nearer k r t) = rw (cross-nearer k r t) low in
         let before : IsBelow (nearer k r t) t =
-          rw (nearer-cross k r t) (positive_product k (cross r t) above low)
+        rw (nearer-cross k r t) (positive_product k (cross r t) above low)
         in
         let at_u = high (nearer k r t) u_in after before in
         let value = value-nearer k r t form in
@@ -484,7 +479,7 @@ pub weak_at_high : (form r t : Arrow) → IsRational r → IsRational t → IsBe
     → pos 0 ≤ℤ value_at form t
 weak_at_high form r t r_in t_in low high =
     rw (dot-mirror form t)
-      at (weak_at_low (mirror form) (mirror t) (mirror r) t_in r_in (rw (cross-mirror t r) low)
-        (λ u u_in after before.
-          rw (mirror-dot form u)
-            (high (mirror u) u_in (rw (cross-mirror_comm r u) before) (rw (mirror-cross u t) after))))
+    at (weak_at_low (mirror form) (mirror t) (mirror r) t_in r_in (rw (cross-mirror t r) low)
+    (λ u u_in after before.
+    rw (mirror-dot form u)
+    (high (mirror u) u_in (rw (cross-mirror_comm r u) before) (rw (mirror-cross u t) after))))

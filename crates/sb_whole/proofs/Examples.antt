@@ -1,18 +1,19 @@
 -- Worked numbers: each identity once, and each choice of a number computed. Wrong ones are refused.
 use Rattle.std.proofs.Common.{◌≡◌, refl, arith, true, false, List, [], ◌∷◌, map, ℤ, pos, negsuc}
-use Rattle.std.proofs.Common.{◌≤◌, ◌+ℤ◌, ◌-ℤ◌, ◌*ℤ◌, ◌<ℤ◌}
+use Rattle.std.proofs.Common.{◌≤◌, ◌+ℤ◌, ◌-ℤ◌, ◌*ℤ◌, ◌<ℤ◌, ◌≤ℤ◌}
 use Rattle.std.proofs.lemmas.Int.{ints}
 use Rattle.std.proofs.Math.Nat.{dvd-mul_right, le_of_dvd}
 use Rattle.sb_whole.specs.Tests.{is_positive, is_odd_number}
 use Rattle.sb_whole.specs.Arrows.{Arrow, arrow, cross, dot}
-use Rattle.sb_whole.specs.Rationals.{rational, IsSame, is_below}
-use Rattle.sb_whole.specs.Rationals.{zero_of, form_of}
+use Rattle.sb_whole.specs.Rationals.{rational, IsSame, is_below, mediant}
+use Rattle.sb_whole.specs.Rationals.{zero_of, value_at, form_of}
 use Rattle.sb_whole.specs.Intervals.{changes_sign, clear_end, clear_start, another}
 use Rattle.sb_whole.specs.Reduced.{IsReduced}
 use Rattle.sb_whole.proofs.Shapes.{var, num, plus, times, equal}
 use Rattle.sb_whole.proofs.ThreeTerms.{three_terms, three_terms_linear, cycle, cycle_x, cycle_y}
 use Rattle.sb_whole.proofs.ThreeTerms.{frame_cross, frame_dot}
 use Rattle.sb_whole.proofs.Products.{scale_less, positive_factor}
+use Rattle.sb_whole.proofs.Rationals.{between, one_zero}
 use Rattle.sb_whole.proofs.Avoid.{IsAnother, another_is}
 use Rattle.sb_whole.proofs.Reduced.{reduced_unique, whole_is_reduced}
 use Rattle.sb_whole.proofs.SignTables.{hit_of}
@@ -113,6 +114,26 @@ sevenths_not_below = refl
 negative_below : is_below (rational (negsuc 0) (pos 2)) (rational (pos 0) (pos 1)) ≡ true
 unfolding cross
 negative_below = refl
+
+-- 2/5 lies between 1/3 and 1/2
+mediant_of
+    : mediant (rational (pos 1) (pos 3)) (rational (pos 1) (pos 2)) ≡ rational (pos 2) (pos 5)
+mediant_of = refl
+
+-- 2N - D is 0 at 1/2 and 1 at 1, so it is at least 0 at 2/3
+between_on_numbers : pos 0 ≤ℤ value_at (arrow (negsuc 0) (pos 2)) (rational (pos 2) (pos 3))
+unfolding cross dot
+between_on_numbers =
+    between (arrow (negsuc 0) (pos 2)) (rational (pos 1) (pos 2)) (rational (pos 2) (pos 3))
+    (rational (pos 1) (pos 1)) (omega (arith, ints)) (omega (arith, ints)) (omega (arith, ints))
+    (omega (arith, ints)) (omega (arith, ints))
+
+-- it is 0 at 1/2 and at 2/4: one number
+one_zero_on_numbers : IsSame (rational (pos 1) (pos 2)) (rational (pos 2) (pos 4))
+unfolding dot
+one_zero_on_numbers =
+    one_zero (arrow (negsuc 0) (pos 2)) (rational (pos 1) (pos 2)) (rational (pos 2) (pos 4))
+    (λ zero. let none = zero.1 in omega (arith, ints)) refl refl
 
 -- 4N - 3D is 0 at 3/4, and so is 3D - 4N
 zero_of_rising : zero_of (arrow (negsuc 2) (pos 4)) ≡ rational (pos 3) (pos 4)

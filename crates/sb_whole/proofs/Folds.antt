@@ -10,30 +10,36 @@ use Rattle.sb_whole.specs.Tests.{differ, is_odd_number}
 
 -- ---- exclusive or
 
+-- a bit does not differ from itself
 pub differ-self : (b : Bool) → differ b b ≡ false
 differ-self true = refl
 differ-self false = refl
 
+-- to differ from false is to be true
 pub differ-false : (b : Bool) → differ b false ≡ b
 differ-false true = refl
 differ-false false = refl
 
+-- to differ from true is to be false
 pub differ-true : (b : Bool) → differ b true ≡ not b
 differ-true true = refl
 differ-true false = refl
 
+-- exclusive or does not see the order of its bits
 pub differ_comm : (b c : Bool) → differ b c ≡ differ c b
 differ_comm true true = refl
 differ_comm true false = refl
 differ_comm false true = refl
 differ_comm false false = refl
 
+-- nor how they are grouped
 pub differ_assoc : (b c d : Bool) → differ (differ b c) d ≡ differ b (differ c d)
 differ_assoc true true true = refl
 differ_assoc true true false = refl
 differ_assoc true false d = refl
 differ_assoc false c d = refl
 
+-- to turn one bit turns the answer
 pub not-differ : (b c : Bool) → differ (not b) c ≡ not (differ b c)
 not-differ true true = refl
 not-differ true false = refl
@@ -41,17 +47,17 @@ not-differ false c = refl
 
 -- two different bits are opposite
 pub differ-opposite : (b c : Bool) → b ≡ not c → differ b c ≡ true
-differ-opposite true false e = refl
-differ-opposite false true e = refl
-differ-opposite true true e = cc
-differ-opposite false false e = cc
+differ-opposite true false relation = refl
+differ-opposite false true relation = refl
+differ-opposite true true relation = cc
+differ-opposite false false relation = cc
 
 -- bits that do not differ are equal
 pub same_from_differ : (b c : Bool) → differ b c ≡ false → b ≡ c
-same_from_differ true true e = refl
-same_from_differ false false e = refl
-same_from_differ true false e = cc
-same_from_differ false true e = cc
+same_from_differ true true relation = refl
+same_from_differ false false relation = refl
+same_from_differ true false relation = cc
+same_from_differ false true relation = cc
 
 -- the middle two of four change places
 pub differ-differ : (a b c d : Bool)
@@ -81,9 +87,9 @@ module _ {X : Type 0} where
   -- of a test that never answers true it is false
   pub is_odd_number-none : (test : X → Bool) (xs : List X) → list_any test xs ≡ false
       → is_odd_number test xs ≡ false
-  is_odd_number-none test [] e = refl
-  is_odd_number-none test (x ∷ xs) e =
-      let parts = or_parts (test x) (list_any test xs) e in
+  is_odd_number-none test [] relation = refl
+  is_odd_number-none test (x ∷ xs) relation =
+      let parts = or_parts (test x) (list_any test xs) relation in
       rw (parts.0) (is_odd_number-none test xs parts.1)
 
   -- of two tests that answer alike it is the same

@@ -1,62 +1,70 @@
 -- Signs of products, and how an inequality is scaled by a factor and freed of one.
 -- In a name `weak` stands for "at least 0" and "at most 0".
-use Rattle.std.proofs.Common.{◌≡◌, ◌⊎◌, inl, inr, ⊎_elim, arith, mul-pos, ◌<◌}
+use Rattle.std.proofs.Common.{◌≡◌, ◌⊎◌, inl, inr, ap, ◌∙◌, arith, mul-pos, ◌<◌}
 use Rattle.std.proofs.Common.{ℤ, pos, negsuc, ◌<ℤ◌, ◌≤ℤ◌, ◌-ℤ◌, ◌*ℤ◌, neg_ℤ}
 use Rattle.std.proofs.lemmas.Int.{ints, by_lt_z}
-use Rattle.sb_whole.proofs.Ring.{mul-neg, neg-mul-neg, mul-sub}
-use Rattle.sb_whole.proofs.Ring.{mul_comm}
+use Rattle.sb_whole.proofs.Signs.{sign_cases}
+use Rattle.sb_whole.proofs.Ring.{mul-neg, neg-mul, neg-mul-neg, zero-mul, mul-sub}
 
 -- ---- the sign of a product, from the signs of its factors
 
+-- above 0 times above 0
 pub positive_product : (a b : ℤ) → pos 0 <ℤ a → pos 0 <ℤ b → pos 0 <ℤ (a *ℤ b)
-positive_product (pos a) (pos b) f g =
+positive_product (pos a) (pos b) sign_a sign_b =
     let up_a : 0 < a = omega (arith, ints) in
     let up_b : 0 < b = omega (arith, ints) in
     omega (arith, ints, mul-pos up_a up_b)
-positive_product (pos a) (negsuc b) f g = absurd (omega (arith, ints))
-positive_product (negsuc a) b f g = absurd (omega (arith, ints))
+positive_product (pos a) (negsuc b) sign_a sign_b = absurd (omega (arith, ints))
+positive_product (negsuc a) b sign_a sign_b = absurd (omega (arith, ints))
 
+-- above 0 times below 0
 pub negative_product : (a b : ℤ) → pos 0 <ℤ a → b <ℤ pos 0 → (a *ℤ b) <ℤ pos 0
-negative_product a b f g =
+negative_product a b sign_a sign_b =
     let turned : pos 0 <ℤ (neg_ℤ b) = omega (arith, ints) in
-    let above = positive_product a (neg_ℤ b) f turned in
+    let above = positive_product a (neg_ℤ b) sign_a turned in
     let same = mul-neg a b in
     omega (arith, ints)
 
+-- below 0 times below 0
 pub product_of_negatives : (a b : ℤ) → a <ℤ pos 0 → b <ℤ pos 0 → pos 0 <ℤ (a *ℤ b)
-product_of_negatives a b f g =
+product_of_negatives a b sign_a sign_b =
     let turned_a : pos 0 <ℤ (neg_ℤ a) = omega (arith, ints) in
     let turned_b : pos 0 <ℤ (neg_ℤ b) = omega (arith, ints) in
     let above = positive_product (neg_ℤ a) (neg_ℤ b) turned_a turned_b in
     let same = neg-mul-neg a b in
     omega (arith, ints)
 
+-- at least 0 times at least 0
 pub weak_product : (a b : ℤ) → pos 0 ≤ℤ a → pos 0 ≤ℤ b → pos 0 ≤ℤ (a *ℤ b)
-weak_product (pos a) (pos b) f g = omega (arith, ints)
-weak_product (pos a) (negsuc b) f g = absurd (omega (arith, ints))
-weak_product (negsuc a) b f g = absurd (omega (arith, ints))
+weak_product (pos a) (pos b) sign_a sign_b = omega (arith, ints)
+weak_product (pos a) (negsuc b) sign_a sign_b = absurd (omega (arith, ints))
+weak_product (negsuc a) b sign_a sign_b = absurd (omega (arith, ints))
 
+-- at least 0 times at most 0
 pub weak_negative_product : (a b : ℤ) → pos 0 ≤ℤ a → b ≤ℤ pos 0 → (a *ℤ b) ≤ℤ pos 0
-weak_negative_product a b f g =
+weak_negative_product a b sign_a sign_b =
     let turned : pos 0 ≤ℤ (neg_ℤ b) = omega (arith, ints) in
-    let above = weak_product a (neg_ℤ b) f turned in
+    let above = weak_product a (neg_ℤ b) sign_a turned in
     let same = mul-neg a b in
     omega (arith, ints)
 
+-- at most 0 times at most 0
 pub weak_product_of_negatives : (a b : ℤ) → a ≤ℤ pos 0 → b ≤ℤ pos 0 → pos 0 ≤ℤ (a *ℤ b)
-weak_product_of_negatives a b f g =
+weak_product_of_negatives a b sign_a sign_b =
     let turned_a : pos 0 ≤ℤ (neg_ℤ a) = omega (arith, ints) in
     let turned_b : pos 0 ≤ℤ (neg_ℤ b) = omega (arith, ints) in
     let above = weak_product (neg_ℤ a) (neg_ℤ b) turned_a turned_b in
     let same = neg-mul-neg a b in
     omega (arith, ints)
 
+-- a square is at least 0
 pub weak_square : (a : ℤ) → pos 0 ≤ℤ (a *ℤ a)
 weak_square a =
     by_lt_z a (pos 0)
     (λ low. weak_product_of_negatives a a (omega (arith, ints)) (omega (arith, ints)))
     (λ high. weak_product a a high high)
 
+-- the square of a number that is not 0 is above 0
 pub positive_square : (a : ℤ) → (a ≡ pos 0 → ⊥) → pos 0 <ℤ (a *ℤ a)
 positive_square a apart =
     by_lt_z a (pos 0) (λ low. product_of_negatives a a low low)
@@ -66,108 +74,103 @@ positive_square a apart =
 
 -- ---- a factor of known sign is taken away
 
+-- above 0, of a product above 0
 pub positive_factor : (a b : ℤ) → pos 0 <ℤ a → pos 0 <ℤ (a *ℤ b) → pos 0 <ℤ b
-positive_factor a b f h =
+positive_factor a b sign_a product =
     by_lt_z (pos 0) b (λ above. above)
     (λ low.
     let below = weak_negative_product a b (omega (arith, ints)) low in
     absurd (omega (arith, ints)))
 
+-- above 0, of a product below 0
 pub negative_factor : (a b : ℤ) → pos 0 <ℤ a → (a *ℤ b) <ℤ pos 0 → b <ℤ pos 0
-negative_factor a b f h =
+negative_factor a b sign_a product =
     by_lt_z b (pos 0) (λ below. below)
     (λ high.
     let above = weak_product a b (omega (arith, ints)) high in
     absurd (omega (arith, ints)))
 
+-- above 0, of a product that is at least 0
 pub weak_factor : (a b : ℤ) → pos 0 <ℤ a → pos 0 ≤ℤ (a *ℤ b) → pos 0 ≤ℤ b
-weak_factor a b f h =
+weak_factor a b sign_a product =
     by_lt_z b (pos 0)
     (λ low.
-    let below = negative_product a b f low in
+    let below = negative_product a b sign_a low in
     absurd (omega (arith, ints)))
     (λ high. high)
 
+-- above 0, of a product that is at most 0
 pub weak_negative_factor : (a b : ℤ) → pos 0 <ℤ a → (a *ℤ b) ≤ℤ pos 0 → b ≤ℤ pos 0
-weak_negative_factor a b f h =
+weak_negative_factor a b sign_a product =
     by_lt_z (pos 0) b
     (λ high.
-    let above = positive_product a b f high in
+    let above = positive_product a b sign_a high in
     absurd (omega (arith, ints)))
     (λ low. low)
 
+-- above 0, of a product that is 0
+pub zero_of_positive : (a b : ℤ) → pos 0 <ℤ a → a *ℤ b ≡ pos 0 → b ≡ pos 0
+zero_of_positive a b sign_a product =
+    let high = weak_factor a b sign_a (omega (arith, ints)) in
+    let low = weak_negative_factor a b sign_a (omega (arith, ints)) in
+    omega (arith, ints)
+
 -- of a product that is 0 one factor is 0
 pub zero_product : (a b : ℤ) → a *ℤ b ≡ pos 0 → (a ≡ pos 0) ⊎ (b ≡ pos 0)
-zero_product a b e =
-    by_lt_z a (pos 0)
-    (λ low.
-    by_lt_z b (pos 0)
-    (λ low_b. absurd (from_positive (product_of_negatives a b low low_b)))
-    (λ high_b.
-    by_lt_z (pos 0) b
-    (λ above_b. absurd (from_turned low above_b))
-    (λ low_b. inr (omega (arith, ints)))))
-    (λ high.
-    by_lt_z (pos 0) a
-    (λ above.
-    by_lt_z b (pos 0) (λ low_b. absurd (from_negative (negative_product a b above low_b)))
-    (λ high_b.
-    by_lt_z (pos 0) b
-    (λ above_b. absurd (from_positive (positive_product a b above above_b)))
-    (λ low_b. inr (omega (arith, ints)))))
-    (λ low. inl (omega (arith, ints))))
+zero_product a b product = from (sign_cases a)
   where
-    from_positive : pos 0 <ℤ (a *ℤ b) → ⊥
-    from_positive h = omega (arith, ints)
-
-    from_negative : (a *ℤ b) <ℤ pos 0 → ⊥
-    from_negative h = omega (arith, ints)
-
-    from_turned : a <ℤ pos 0 → pos 0 <ℤ b → ⊥
-    from_turned f g =
-        let same = mul_comm a b in
-        let below = negative_product b a g f in
-        omega (arith, ints)
+    from : ((pos 0 <ℤ a) ⊎ (a ≡ pos 0)) ⊎ (a <ℤ pos 0) → (a ≡ pos 0) ⊎ (b ≡ pos 0)
+    from (inl (inl above)) = inr (zero_of_positive a b above product)
+    from (inl (inr zero)) = inl zero
+    from (inr below) =
+        let turned : pos 0 <ℤ (neg_ℤ a) = omega (arith, ints) in
+        let turned_product = neg-mul a b in
+        inr (zero_of_positive (neg_ℤ a) b turned (omega (arith, ints)))
 
 -- a factor that is not 0 is taken away from a product that is 0
 pub zero_factor : (a b : ℤ) → (a ≡ pos 0 → ⊥) → a *ℤ b ≡ pos 0 → b ≡ pos 0
-zero_factor a b apart e = ⊎_elim (λ zero. absurd (apart zero)) (λ zero. zero) (zero_product a b e)
-
--- a factor above 0 is
-pub zero_of_positive : (a b : ℤ) → pos 0 <ℤ a → a *ℤ b ≡ pos 0 → b ≡ pos 0
-zero_of_positive a b f e = zero_factor a b (λ zero. omega (arith, ints)) e
+zero_factor a b apart product = from (zero_product a b product)
+  where
+    from : (a ≡ pos 0) ⊎ (b ≡ pos 0) → b ≡ pos 0
+    from (inl zero) = absurd (apart zero)
+    from (inr zero) = zero
 
 -- ---- an inequality is multiplied by a factor, and freed of one
 
+-- a strict inequality, by a factor above 0
 pub scale_less : (k a b : ℤ) → pos 0 <ℤ k → a <ℤ b → (k *ℤ a) <ℤ (k *ℤ b)
-scale_less k a b f h =
-    let above = positive_product k (b -ℤ a) f (omega (arith, ints)) in
+scale_less k a b sign_k order =
+    let above = positive_product k (b -ℤ a) sign_k (omega (arith, ints)) in
     let spread = mul-sub k b a in
     omega (arith, ints)
 
+-- a weak inequality, by a factor that is at least 0
 pub scale_at_most : (k a b : ℤ) → pos 0 ≤ℤ k → a ≤ℤ b → (k *ℤ a) ≤ℤ (k *ℤ b)
-scale_at_most k a b f h =
-    let above = weak_product k (b -ℤ a) f (omega (arith, ints)) in
+scale_at_most k a b sign_k order =
+    let above = weak_product k (b -ℤ a) sign_k (omega (arith, ints)) in
     let spread = mul-sub k b a in
     omega (arith, ints)
 
+-- a strict inequality loses a factor that is at least 0
 pub unscale_less : (k a b : ℤ) → pos 0 ≤ℤ k → (k *ℤ a) <ℤ (k *ℤ b) → a <ℤ b
-unscale_less k a b f h =
+unscale_less k a b sign_k order =
     by_lt_z a b (λ less. less)
     (λ more.
-    let turned = scale_at_most k b a f more in
+    let turned = scale_at_most k b a sign_k more in
     absurd (omega (arith, ints)))
 
+-- a weak inequality loses a factor above 0
 pub unscale_at_most : (k a b : ℤ) → pos 0 <ℤ k → (k *ℤ a) ≤ℤ (k *ℤ b) → a ≤ℤ b
-unscale_at_most k a b f h =
+unscale_at_most k a b sign_k order =
     by_lt_z b a
     (λ more.
-    let turned = scale_less k b a f more in
+    let turned = scale_less k b a sign_k more in
     absurd (omega (arith, ints)))
     (λ less. less)
 
+-- an equation loses a factor that is not 0
 pub unscale_equal : (k a b : ℤ) → (k ≡ pos 0 → ⊥) → k *ℤ a ≡ k *ℤ b → a ≡ b
-unscale_equal k a b apart e =
+unscale_equal k a b apart equation =
     let spread = mul-sub k a b in
     let zero = zero_factor k (a -ℤ b) apart (omega (arith, ints)) in
     omega (arith, ints)
@@ -177,22 +180,15 @@ unscale_equal k a b apart e =
 -- factors whose product is above 0 have one sign
 pub same_signs : (a b : ℤ) → pos 0 <ℤ (a *ℤ b)
     → ((pos 0 <ℤ a) × (pos 0 <ℤ b)) ⊎ ((a <ℤ pos 0) × (b <ℤ pos 0))
-same_signs a b h =
-    by_lt_z (pos 0) a (λ above. inl (above, positive_factor a b above h))
-    (λ low.
-    by_lt_z b (pos 0)
-    (λ low_b. inr (below low low_b, low_b))
-    (λ high_b. absurd (clash low high_b)))
+same_signs a b product = from (sign_cases a)
   where
-    clash : a ≤ℤ pos 0 → pos 0 ≤ℤ b → ⊥
-    clash f g =
-        let same = mul_comm a b in
-        let low = weak_negative_product b a g f in
-        omega (arith, ints)
-
-    below : a ≤ℤ pos 0 → b <ℤ pos 0 → a <ℤ pos 0
-    below f g =
-        by_lt_z a (pos 0) (λ less. less)
-        (λ more.
-        let low = weak_negative_product a b more (omega (arith, ints)) in
-        absurd (omega (arith, ints)))
+    from : ((pos 0 <ℤ a) ⊎ (a ≡ pos 0)) ⊎ (a <ℤ pos 0)
+        → ((pos 0 <ℤ a) × (pos 0 <ℤ b)) ⊎ ((a <ℤ pos 0) × (b <ℤ pos 0))
+    from (inl (inl above)) = inl (above, positive_factor a b above product)
+    from (inl (inr zero)) =
+        let none : a *ℤ b ≡ pos 0 = ap (λ n. n *ℤ b) zero ∙ zero-mul b in
+        absurd (omega (arith, ints))
+    from (inr below) =
+        let turned : pos 0 <ℤ (neg_ℤ a) = omega (arith, ints) in
+        let turned_product = neg-mul a b in
+        inr (below, negative_factor (neg_ℤ a) b turned (omega (arith, ints)))

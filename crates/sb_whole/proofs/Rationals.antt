@@ -22,6 +22,7 @@ denominators r s t =
 
 -- ---- the order
 
+-- below and below
 pub below_trans : (r s t : Arrow) → IsRational r → IsRational s → IsRational t
     → IsBelow r s → IsBelow s t → IsBelow r t
 below_trans r s t r_in s_in t_in low high =
@@ -30,6 +31,7 @@ below_trans r s t r_in s_in t_in low high =
     let parts = denominators r s t in
     positive_factor s.x (cross r t) s_in (omega (arith, ints))
 
+-- at most and at most
 pub at_most_trans : (r s t : Arrow) → IsRational r → IsRational s → IsRational t
     → IsAtMost r s → IsAtMost s t → IsAtMost r t
 at_most_trans r s t r_in s_in t_in low high =
@@ -38,6 +40,7 @@ at_most_trans r s t r_in s_in t_in low high =
     let parts = denominators r s t in
     weak_factor s.x (cross r t) s_in (omega (arith, ints))
 
+-- below and at most
 pub below_at_most_trans : (r s t : Arrow) → IsRational r → IsRational s → IsRational t
     → IsBelow r s → IsAtMost s t → IsBelow r t
 below_at_most_trans r s t r_in s_in t_in low high =
@@ -46,6 +49,7 @@ below_at_most_trans r s t r_in s_in t_in low high =
     let parts = denominators r s t in
     positive_factor s.x (cross r t) s_in (omega (arith, ints))
 
+-- at most and below
 pub at_most_below_trans : (r s t : Arrow) → IsRational r → IsRational s → IsRational t
     → IsAtMost r s → IsBelow s t → IsBelow r t
 at_most_below_trans r s t r_in s_in t_in low high =
@@ -54,9 +58,11 @@ at_most_below_trans r s t r_in s_in t_in low high =
     let parts = denominators r s t in
     positive_factor s.x (cross r t) s_in (omega (arith, ints))
 
+-- each number is at most itself
 pub at_most_refl : (r : Arrow) → IsAtMost r r
 at_most_refl r = let same = cross-self r in omega (arith, ints)
 
+-- and not below itself
 pub below_irrefl : (r : Arrow) → IsBelow r r → ⊥
 below_irrefl r low = let same = cross-self r in omega (arith, ints)
 
@@ -83,12 +89,15 @@ number_cases r s =
     by_lt_z (cross r s) (pos 0) (λ above. inr (omega (arith, ints)))
     (λ high. inl (inr (omega (arith, ints)))))
 
+-- two numbers each at most the other are the same
 pub same_from_at_most : (r s : Arrow) → IsAtMost r s → IsAtMost s r → IsSame r s
 same_from_at_most r s low high = let turn = cross-turn r s in omega (arith, ints)
 
+-- the same, the other way round
 pub same_sym : (r s : Arrow) → IsSame r s → IsSame s r
 same_sym r s same = let turn = cross-turn r s in omega (arith, ints)
 
+-- two numbers that are the same as a third are the same
 pub same_trans : (r s t : Arrow) → IsRational s → IsSame r s → IsSame s t → IsSame r t
 same_trans r s t s_in low high =
     let parts = denominators r s t in
@@ -99,6 +108,7 @@ same_trans r s t s_in low high =
 
 -- ---- the mediant
 
+-- it is a rational number
 pub mediant-IsRational : (r s : Arrow) → IsRational r → IsRational s → IsRational (mediant r s)
 mediant-IsRational r s r_in s_in = omega (arith, ints)
 

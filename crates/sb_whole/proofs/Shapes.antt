@@ -20,66 +20,67 @@ num n = record { diff = omega arith }
 
 -- a sum
 pub plus : {a b : ℤ} {p q r s : ℕ} → Is a p q → Is b r s → Is (a +ℤ b) (p + r) (q + s)
-plus {a} {b} f g = record { diff = omega (arith, sum_is_lem a b, f.diff, g.diff) }
+plus {a} {b} first second = record { diff = omega (arith, sum_is_lem a b, first.diff, second.diff) }
 
 -- a number with its sign turned
 pub negated : {a : ℤ} {p q : ℕ} → Is a p q → Is (neg_ℤ a) q p
-negated {a} f = record { diff = omega (arith, neg_is a, f.diff) }
+negated {a} first = record { diff = omega (arith, neg_is a, first.diff) }
 
 -- a difference
 pub minus : {a b : ℤ} {p q r s : ℕ} → Is a p q → Is b r s → Is (a -ℤ b) (p + s) (q + r)
-minus f g = plus f (negated g)
+minus first second = plus first (negated second)
 
-multiplied : (u d p q v e r s : ℕ) → u + q ≡ d + p → v + s ≡ e + r
-    → (u * v + d * e) + (p * s + q * r) ≡ (u * e + d * v) + (p * r + q * s)
-multiplied u d p q v e r s f g =
+multiplied : (u d p q v order r s : ℕ) → u + q ≡ d + p → v + s ≡ order + r
+    → (u * v + d * order) + (p * s + q * r) ≡ (u * order + d * v) + (p * r + q * s)
+multiplied u d p q v order r s first second =
     omega (
       arith,
-      ap (λ n. n * v) f,
-      ap (λ n. n * e) f,
-      ap (λ n. n * p) g,
-      ap (λ n. n * q) g,
+      ap (λ n. n * v) first,
+      ap (λ n. n * order) first,
+      ap (λ n. n * p) second,
+      ap (λ n. n * q) second,
     )
 
 -- a product
 pub times : {a b : ℤ} {p q r s : ℕ} → Is a p q → Is b r s
     → Is (a *ℤ b) (p * r + q * s) (p * s + q * r)
-times {a} {b} {p} {q} {r} {s} f g =
+times {a} {b} {p} {q} {r} {s} first second =
     record {
       diff =
-          let k = multiplied (up a) (down a) p q (up b) (down b) r s f.diff g.diff in
+          let k = multiplied (up a) (down a) p q (up b) (down b) r s first.diff second.diff in
           omega (arith, product_is a b, k);
     }
 
 -- two terms are equal where their shapes are: `equal shape shape (omega arith)`
 pub equal : {a b : ℤ} {p q r s : ℕ} → Is a p q → Is b r s → p + s ≡ r + q → a ≡ b
-equal {a} {b} f g e = same_in a b (omega (arith, f.diff, g.diff, e))
+equal {a} {b} first second order = same_in a b (omega (arith, first.diff, second.diff, order))
 
 -- one term is below another where its shape is
 pub less : {a b : ℤ} {p q r s : ℕ} → Is a p q → Is b r s → p + s < r + q → a <ℤ b
-less {a} {b} f g h = below_in a b (omega (arith, f.diff, g.diff, h))
+less {a} {b} first second order = below_in a b (omega (arith, first.diff, second.diff, order))
 
 -- one term is at most another where its shape is
 pub at_most : {a b : ℤ} {p q r s : ℕ} → Is a p q → Is b r s → p + s ≤ r + q → a ≤ℤ b
-at_most {a} {b} f g h = at_most_in a b (omega (arith, f.diff, g.diff, h))
+at_most {a} {b} first second order = at_most_in a b (omega (arith, first.diff, second.diff, order))
 
 -- the shapes of two equal terms are equal
 pub from_equal : {a b : ℤ} {p q r s : ℕ} → Is a p q → Is b r s → a ≡ b → p + s ≡ r + q
-from_equal {a} {b} f g e = omega (arith, f.diff, g.diff, same_out a b e)
+from_equal {a} {b} first second order = omega (arith, first.diff, second.diff, same_out a b order)
 
 -- the shape of a lesser term is less
 pub from_less : {a b : ℤ} {p q r s : ℕ} → Is a p q → Is b r s → a <ℤ b → p + s < r + q
-from_less {a} {b} f g h = omega (arith, f.diff, g.diff, lt_out a b h)
+from_less {a} {b} first second order = omega (arith, first.diff, second.diff, lt_out a b order)
 
 -- the shape of a term that is at most another is at most its shape
 pub from_at_most : {a b : ℤ} {p q r s : ℕ} → Is a p q → Is b r s → a ≤ℤ b → p + s ≤ r + q
-from_at_most {a} {b} f g h = omega (arith, f.diff, g.diff, le_out a b h)
+from_at_most {a} {b} first second order = omega (arith, first.diff, second.diff, le_out a b order)
 
--- the products of two vectors, written out
+-- the cross product, written out
 pub cross_eq : (a b : Arrow) → cross a b ≡ (a.x *ℤ b.y) -ℤ (a.y *ℤ b.x)
 unfolding cross
 cross_eq a b = refl
 
+-- the inner product, written out
 pub dot_eq : (a b : Arrow) → dot a b ≡ (a.x *ℤ b.x) +ℤ (a.y *ℤ b.y)
 unfolding dot
 dot_eq a b = refl

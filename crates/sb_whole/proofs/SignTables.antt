@@ -12,34 +12,34 @@ use Rattle.sb_whole.proofs.Ring.{mul_comm}
 
 alike_bits : (a b : ℤ) (s t : Bool) → is_positive a ≡ s → is_positive b ≡ t → s ≡ t
     → pos 0 ≤ℤ (a *ℤ b)
-alike_bits a b true true e f g =
-    let above = positive_product a b (less_from (pos 0) a e) (less_from (pos 0) b f) in
+alike_bits a b true true a_bit b_bit relation =
+    let above = positive_product a b (less_from (pos 0) a a_bit) (less_from (pos 0) b b_bit) in
     omega (arith, ints)
-alike_bits a b false false e f g =
-    weak_product_of_negatives a b (not_less_from (pos 0) a e) (not_less_from (pos 0) b f)
-alike_bits a b true false e f g = cc
-alike_bits a b false true e f g = cc
+alike_bits a b false false a_bit b_bit relation =
+    weak_product_of_negatives a b (not_less_from (pos 0) a a_bit) (not_less_from (pos 0) b b_bit)
+alike_bits a b true false a_bit b_bit relation = cc
+alike_bits a b false true a_bit b_bit relation = cc
 
 -- equal bits: the product is at least 0
 pub alike_up : (a b : ℤ) → is_positive a ≡ is_positive b → pos 0 ≤ℤ (a *ℤ b)
-alike_up a b e = alike_bits a b (is_positive a) (is_positive b) refl refl e
+alike_up a b a_bit = alike_bits a b (is_positive a) (is_positive b) refl refl a_bit
 
 apart_bits : (a b : ℤ) (s t : Bool) → is_positive a ≡ s → is_positive b ≡ t → s ≡ not t
     → (a *ℤ b) ≤ℤ pos 0
-apart_bits a b true false e f g =
-    let above = less_from (pos 0) a e in
-    weak_negative_product a b (omega (arith, ints)) (not_less_from (pos 0) b f)
-apart_bits a b false true e f g =
-    let above = less_from (pos 0) b f in
-    let low = weak_negative_product b a (omega (arith, ints)) (not_less_from (pos 0) a e) in
+apart_bits a b true false a_bit b_bit relation =
+    let above = less_from (pos 0) a a_bit in
+    weak_negative_product a b (omega (arith, ints)) (not_less_from (pos 0) b b_bit)
+apart_bits a b false true a_bit b_bit relation =
+    let above = less_from (pos 0) b b_bit in
+    let low = weak_negative_product b a (omega (arith, ints)) (not_less_from (pos 0) a a_bit) in
     let same = mul_comm a b in
     omega (arith, ints)
-apart_bits a b true true e f g = cc
-apart_bits a b false false e f g = cc
+apart_bits a b true true a_bit b_bit relation = cc
+apart_bits a b false false a_bit b_bit relation = cc
 
 -- different bits: the product is at most 0
 pub apart_down : (a b : ℤ) → is_positive a ≡ not (is_positive b) → (a *ℤ b) ≤ℤ pos 0
-apart_down a b e = apart_bits a b (is_positive a) (is_positive b) refl refl e
+apart_down a b a_bit = apart_bits a b (is_positive a) (is_positive b) refl refl a_bit
 
 -- ---- whether a ray strikes an edge, by bits: b and a say which ends lie left of the ray, over
 -- and under on which side of the edge it starts
@@ -56,14 +56,14 @@ hit_of-exchanged false true over under = refl
 hit_of-exchanged false false over under = refl
 
 turned_bit : (b c : Bool) → b ≡ not c → c ≡ not b
-turned_bit true false e = refl
-turned_bit false true e = refl
-turned_bit true true e = cc
-turned_bit false false e = cc
+turned_bit true false first = refl
+turned_bit false true first = refl
+turned_bit true true first = cc
+turned_bit false false first = cc
 
 true_from : (b c : Bool) → b ≡ false → b ≡ not c → c ≡ true
-true_from b true e f = refl
-true_from b false e f = cc
+true_from b true first second = refl
+true_from b false first second = cc
 
 -- Two rays r and s from one point and one edge: ra, sa, rb, sb say that the ends a and b lie left
 -- of r and of s, over and under that the turn of the edge is above 0 and below 0. What the signs of

@@ -5,31 +5,39 @@ use Rattle.std.proofs.lemmas.Int.{ints, by_lt_z}
 
 -- ---- a test answers true or false by the facts
 
+-- less: the strict test answers true
 pub test_less : (a b : ℤ) → a <ℤ b → int_lt a b ≡ true
-test_less a b h = grind (arith, ints)
+test_less a b order = grind (arith, ints)
 
+-- not less: it answers false
 pub test_not_less : (a b : ℤ) → b ≤ℤ a → int_lt a b ≡ false
-test_not_less a b h = grind (arith, ints)
+test_not_less a b order = grind (arith, ints)
 
+-- at most: the weak test answers true
 pub test_at_most : (a b : ℤ) → a ≤ℤ b → int_le a b ≡ true
-test_at_most a b h = grind (arith, ints)
+test_at_most a b order = grind (arith, ints)
 
+-- more: it answers false
 pub test_not_at_most : (a b : ℤ) → b <ℤ a → int_le a b ≡ false
-test_not_at_most a b h = grind (arith, ints)
+test_not_at_most a b order = grind (arith, ints)
 
 -- ---- and says a fact by its answer
 
+-- the strict test answered true: less
 pub less_from : (a b : ℤ) → int_lt a b ≡ true → a <ℤ b
-less_from a b e = omega (arith, ints)
+less_from a b answer = omega (arith, ints)
 
+-- it answered false: at least
 pub not_less_from : (a b : ℤ) → int_lt a b ≡ false → b ≤ℤ a
-not_less_from a b e = omega (arith, ints)
+not_less_from a b answer = omega (arith, ints)
 
+-- the weak test answered true: at most
 pub at_most_from : (a b : ℤ) → int_le a b ≡ true → a ≤ℤ b
-at_most_from a b e = omega (arith, ints)
+at_most_from a b answer = omega (arith, ints)
 
+-- it answered false: more
 pub not_at_most_from : (a b : ℤ) → int_le a b ≡ false → b <ℤ a
-not_at_most_from a b e = omega (arith, ints)
+not_at_most_from a b answer = omega (arith, ints)
 
 -- ---- two tests give one answer where one holds exactly where the other does
 
@@ -38,11 +46,12 @@ same_tests true t to from = sym (to refl)
 same_tests false true to from = from refl
 same_tests false false to from = refl
 
+-- two strict tests of order give one answer where their facts follow from each other
 pub same_less : (a b c d : ℤ) → (a <ℤ b → c <ℤ d) → (c <ℤ d → a <ℤ b) → int_lt a b ≡ int_lt c d
 same_less a b c d to from =
     same_tests (int_lt a b) (int_lt c d)
-    (λ e. test_less c d (to (less_from a b e)))
-    (λ e. test_less a b (from (less_from c d e)))
+    (λ answer. test_less c d (to (less_from a b answer)))
+    (λ answer. test_less a b (from (less_from c d answer)))
 
 -- ---- cases on a sign
 
@@ -69,11 +78,12 @@ order_cases a b =
 -- equal or not
 pub equal_or_not : (a b : ℤ) → (a ≡ b) ⊎ (a ≡ b → ⊥)
 equal_or_not a b =
-    by_lt_z a b (λ less. inr (λ e. omega (arith, ints)))
+    by_lt_z a b (λ less. inr (λ answer. omega (arith, ints)))
     (λ low.
-    by_lt_z b a (λ more. inr (λ e. omega (arith, ints))) (λ high. inl (omega (arith, ints))))
+    by_lt_z b a (λ more. inr (λ answer. omega (arith, ints))) (λ high. inl (omega (arith, ints))))
 
 -- ---- order of differences
 
+-- a difference is above 0 exactly where the first number is less than the second
 pub difference_positive : (a b : ℤ) → (pos 0 <ℤ (b -ℤ a)) ↔ (a <ℤ b)
-difference_positive a b = (λ h. omega (arith, ints), λ h. omega (arith, ints))
+difference_positive a b = (λ order. omega (arith, ints), λ order. omega (arith, ints))

@@ -24,11 +24,11 @@ Keeps r t form = IsPositiveOn r t form ⊎ IsNegativeOn r t form
 abbrev pub AllKeep : Arrow → Arrow → List Arrow → Type 0
 AllKeep r t forms = AllByRecursion (Keeps r t) forms
 
--- the form is 0 strictly between r and t
+-- the signs of the form at r and t are strictly opposite, so it is 0 strictly between them
 abbrev pub changes_sign : Arrow → Arrow → Arrow → Bool
 changes_sign form r t = is_negative (value_at form r *ℤ value_at form t)
 
--- the first of t and the form's zero after r
+-- the form's zero where it lies strictly between r and t, else t
 abbrev pub stop : Arrow → Arrow → Arrow → Arrow
 stop form r t = if changes_sign form r t then zero_of form else t
 

@@ -1,5 +1,5 @@
 -- Rational numbers as vectors (denominator, numerator), not reduced, and linear forms on them.
-use Rattle.std.specs.Prelude.{◌≡◌, ℤ, pos, neg_ℤ, ◌<ℤ◌, ◌≤ℤ◌, Bool, if◌then◌else◌}
+use Rattle.std.specs.Prelude.{◌≡◌, ℤ, pos, neg_ℤ, ◌<ℤ◌, ◌≤ℤ◌, Bool, int_le, if◌then◌else◌}
 use Rattle.sb_whole.specs.Arrows.{Arrow, arrow, cross, dot, add, turned}
 use Rattle.sb_whole.specs.Tests.{is_positive}
 
@@ -27,6 +27,10 @@ IsSame r s = cross r s ≡ pos 0
 -- r < s, as a test
 abbrev pub is_below : Arrow → Arrow → Bool
 is_below r s = is_positive (cross r s)
+
+-- r <= s, as a test
+abbrev pub is_at_most : Arrow → Arrow → Bool
+is_at_most r s = int_le (pos 0) (cross r s)
 
 -- (num + num')/(den + den'), which lies strictly between two different numbers
 abbrev pub mediant : Arrow → Arrow → Arrow

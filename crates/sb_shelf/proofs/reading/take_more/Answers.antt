@@ -1,4 +1,4 @@
-use Rattle.std.proofs.Common.{arith, vec_len}
+use Rattle.std.proofs.Common.{arith}
 use Rattle.sb_shelf.proofs.PiecesJoin.{pieces_join, nothing_left}
 use Rattle.sb_shelf.proofs.reading.take_more.Goals as goal
 

@@ -1,0 +1,149 @@
+-- Between two ends there is a number, and the order goes on through numbers between them.
+use Rattle.std.proofs.Common.{◌≡◌, refl, inl, inr, ⊎_elim, ◌⊎◌, arith, ◌∙◌, sym}
+use Rattle.std.proofs.Common.{Option, Some, None, ℤ, pos, ◌<ℤ◌, ◌+ℤ◌, ◌-ℤ◌, ◌*ℤ◌}
+use Rattle.std.proofs.lemmas.Int.{ints}
+use Rattle.sb_whole.specs.Arrows.{Arrow, arrow, cross, mirror}
+use Rattle.sb_whole.specs.Rationals.{IsRational, IsBelow, IsAtMost, IsSame, mediant, rational}
+use Rattle.sb_whole.specs.Reduced.{IsReduced}
+use Rattle.sb_whole.proofs.Shapes.{var, plus, minus, times, equal, cross_by, cross_eq}
+use Rattle.sb_whole.proofs.Products.{positive_product}
+use Rattle.sb_whole.proofs.Reduced.{reduced_unique}
+use Rattle.sb_whole.proofs.Arrows.{same_arrow, cross-mirror, mirror-mirror}
+use Rattle.sb_whole.proofs.Ring.{mul_comm}
+use Rattle.sb_whole.proofs.Rationals.{below_trans, below_or_not, at_most_below_trans}
+use Rattle.sb_whole.proofs.Rationals.{mediant-IsRational, mediant_between}
+use Rattle.sb_cuttings.specs.Ends.{IsEnd, IsOpen, IsAfter, IsBefore, mirror_end}
+use Rattle.sb_cuttings.specs.Cuttings.{IsFraction}
+
+-- ---- the order through the ends
+
+-- what is above a number that is above the lower end is above it
+pub after_trans : (low : Option Arrow) (b u : Arrow) → IsEnd low → IsRational b → IsRational u
+    → IsAfter low b → IsBelow b u → IsAfter low u
+after_trans None b u low_in b_in u_in after more = tt
+after_trans (Some r) b u low_in b_in u_in after more =
+    below_trans r b u low_in b_in u_in after more
+
+-- what is below a number that is below the upper end is below it
+pub before_trans : (u b : Arrow) (high : Option Arrow) → IsRational u → IsRational b → IsEnd high
+    → IsBelow u b → IsBefore b high → IsBefore u high
+before_trans u b None u_in b_in high_in less before = tt
+before_trans u b (Some t) u_in b_in high_in less before =
+    below_trans u b t u_in b_in high_in less before
+
+-- so is what is at most such a number
+pub before_at_most : (u b : Arrow) (high : Option Arrow) → IsRational u → IsRational b
+    → IsEnd high → IsAtMost u b → IsBefore b high → IsBefore u high
+before_at_most u b None u_in b_in high_in less before = tt
+before_at_most u b (Some t) u_in b_in high_in less before =
+    at_most_below_trans u b t u_in b_in high_in less before
+
+-- two ends with a number between them are open
+pub open_trans : (low : Option Arrow) (b : Arrow) (high : Option Arrow) → IsEnd low
+    → IsRational b → IsEnd high → IsAfter low b → IsBefore b high → IsOpen low high
+open_trans None b high low_in b_in high_in after before = tt
+open_trans (Some r) b None low_in b_in high_in after before = tt
+open_trans (Some r) b (Some t) low_in b_in high_in after before =
+    below_trans r b t low_in b_in high_in after before
+
+-- ---- a number between the ends
+
+-- u lies strictly between the ends
+pub record IsBetween (low high : Option Arrow) (u : Arrow) : Type 0 where
+  pub rational : IsRational u
+  pub after : IsAfter low u
+  pub before : IsBefore u high
+
+one_less : (t : Arrow) → cross (arrow t.x (t.y -ℤ t.x)) t ≡ t.x *ℤ t.x
+one_less t =
+    equal (cross_by (arrow t.x (t.y -ℤ t.x)) t (var t.x) (minus (var t.y) (var t.x)) (var t.x) (var t.y))
+    (times (var t.x) (var t.x)) (omega arith)
+
+one_more : (r : Arrow) → cross r (arrow r.x (r.y +ℤ r.x)) ≡ r.x *ℤ r.x
+one_more r =
+    equal (cross_by r (arrow r.x (r.y +ℤ r.x)) (var r.x) (var r.y) (var r.x) (plus (var r.y) (var r.x)))
+    (times (var r.x) (var r.x)) (omega arith)
+
+-- between open ends there is a number
+pub number_between : (low high : Option Arrow) → IsEnd low → IsEnd high → IsOpen low high
+    → (u : Arrow) × IsBetween low high u
+number_between None None low_in high_in wide = (
+  rational (pos 0) (pos 1),
+  record { rational = omega (arith, ints); after = tt; before = tt },
+)
+number_between None (Some t) low_in high_in wide = (
+  arrow t.x (t.y -ℤ t.x),
+  record {
+    rational = high_in;
+    after = tt;
+    before = rw (one_less t) (positive_product t.x t.x high_in high_in);
+  },
+)
+number_between (Some r) None low_in high_in wide = (
+  arrow r.x (r.y +ℤ r.x),
+  record {
+    rational = low_in;
+    after = rw (one_more r) (positive_product r.x r.x low_in low_in);
+    before = tt;
+  },
+)
+number_between (Some r) (Some t) low_in high_in wide =
+    let inside = mediant_between r t wide in (
+      mediant r t,
+      record {
+        rational = mediant-IsRational r t low_in high_in;
+        after = inside.0;
+        before = inside.1;
+      },
+    )
+
+-- a number above one end and below two others
+pub below_two_ends : (low high other : Option Arrow) → IsEnd low → IsEnd high → IsEnd other
+    → IsOpen low high → IsOpen low other
+    → (u : Arrow) × (IsBetween low high u × IsBetween low other u)
+below_two_ends low high other low_in high_in other_in wide wide_too =
+    lesser (number_between low high low_in high_in wide)
+    (number_between low other low_in other_in wide_too)
+  where
+    lesser : (u : Arrow) × IsBetween low high u → (v : Arrow) × IsBetween low other v
+        → (w : Arrow) × (IsBetween low high w × IsBetween low other w)
+    lesser (u, u_is) (v, v_is) = from (below_or_not u v)
+      where
+        from : IsBelow u v ⊎ IsAtMost v u
+            → (w : Arrow) × (IsBetween low high w × IsBetween low other w)
+        from (inl less) = (
+          u,
+          (u_is,
+          record {
+            rational = u_is.rational;
+            after = u_is.after;
+            before = before_trans u v other u_is.rational v_is.rational other_in less v_is.before;
+          }),
+        )
+        from (inr more) = (
+          v,
+          (record {
+            rational = v_is.rational;
+            after = v_is.after;
+            before = before_at_most v u high v_is.rational u_is.rational high_in more u_is.before;
+          },
+          v_is),
+        )
+
+-- ---- reduced fractions
+
+-- a reduced fraction is a rational number
+pub fraction-IsRational : (r : Arrow) → IsFraction r → IsRational r
+fraction-IsRational r r_in = r_in.positive
+
+-- and the only one of its value
+pub fraction_unique : (r s : Arrow) → IsFraction r → IsFraction s → IsSame r s → r ≡ s
+fraction_unique r s r_in s_in same =
+    let pair = reduced_unique r.y r.x s.y s.x r_in s_in proportion in
+    same_arrow r s pair.1 pair.0
+  where
+    proportion : r.y *ℤ s.x ≡ s.y *ℤ r.x
+    proportion =
+        let written : (r.x *ℤ s.y) -ℤ (r.y *ℤ s.x) ≡ pos 0 = sym (cross_eq r s) ∙ same in
+        let turned = mul_comm s.y r.x in
+        omega (arith, ints)

@@ -1,0 +1,100 @@
+-- What an input of the first form means: a box, or the first of three defects.
+use Rattle.std.specs.Prelude.{◌≡◌, ◌+ℤ◌, ◌-ℤ◌, ◌*ℤ◌, ◌/◌, ◌%◌, ◌==◌, ℕ, ℤ, pos, Bool, not, ◌&&◌, List, [], ◌∷◌, codes, int_lt, nat_le, unsigned_abs, Option, Some, None, if◌then◌else◌}
+use Rattle.sb_fraction.specs.declared.point.Point.{Point}
+use Rattle.sb_fraction.specs.declared.unit.Unit.TheVariants.{Millimetre}
+use Rattle.sb_model.specs.Building.{Building, building}
+use Rattle.sb_model.specs.Solids.{upright}
+use Rattle.sb_model.specs.Spots.{vector}
+use Rattle.sb_model.specs.Turns.{Quarter}
+use Rattle.sb_model.specs.declared.frame.Frame.{Frame}
+use Rattle.sb_model.specs.declared.products.Space.{Space}
+use Rattle.sb_box.specs.declared.extent.Extent.{Extent}
+use Rattle.sb_form.specs.declared.matcher.FirstForm.{FirstForm}
+use Rattle.sb_form.specs.declared.meaning.Defect.{Defect}
+use Rattle.sb_form.specs.declared.meaning.Defect.TheVariants.{Shape, Range, OffGrid}
+
+-- the three sizes are above 0
+abbrev pub has_shape : FirstForm → Bool
+has_shape f = int_lt (pos 0) f.size_x && (int_lt (pos 0) f.size_y && int_lt (pos 0) f.height)
+
+abbrev pub twice : ℤ → ℤ
+twice z = z +ℤ z
+
+-- twice a coordinate is at most twice 500,000 in size
+abbrev pub is_near_doubled : ℤ → Bool
+is_near_doubled twice = nat_le (unsigned_abs twice) 1000000
+
+-- from x - X/2 to x + X/2, no coordinate is more than 500,000 in size; X may be odd
+abbrev pub is_near_about : ℤ → ℤ → Bool
+is_near_about middle size =
+  is_near_doubled (twice middle -ℤ size) && is_near_doubled (twice middle +ℤ size)
+
+-- the same from z to z + H
+abbrev pub is_near_up : ℤ → ℤ → Bool
+is_near_up z height = is_near_doubled (twice z) && is_near_doubled (twice (z +ℤ height))
+
+-- no coordinate of the box is more than 500,000 in size
+abbrev pub is_near : FirstForm → Bool
+is_near f = is_near_about f.x f.size_x && (is_near_about f.y f.size_y && is_near_up f.z f.height)
+
+abbrev pub is_even : ℤ → Bool
+is_even z = unsigned_abs z % 2 == 0
+
+-- the corners of the box have whole coordinates
+abbrev pub is_on_grid : FirstForm → Bool
+is_on_grid f = is_even f.size_x && is_even f.size_y
+
+-- the first defect: a size that is not above 0, a coordinate out of range, a corner off the grid
+abbrev pub defect_of : FirstForm → Option Defect
+defect_of f =
+  if has_shape f then (if is_near f then (if is_on_grid f then None else Some OffGrid) else Some Range) else Some Shape
+
+-- half of a size that is above 0 and even
+abbrev pub half : ℤ → ℤ
+half size = pos (unsigned_abs size / 2)
+
+-- the box: from x - X/2 to x + X/2, from y - Y/2 to y + Y/2, and from z to z + H
+pub record IsExtentOf (f : FirstForm) (e : Extent) : Type 0 where
+  pub x0 : e.x0 ≡ f.x -ℤ half f.size_x
+  pub x1 : e.x1 ≡ f.x +ℤ half f.size_x
+  pub y0 : e.y0 ≡ f.y -ℤ half f.size_y
+  pub y1 : e.y1 ≡ f.y +ℤ half f.size_y
+  pub z0 : e.z0 ≡ f.z
+  pub z1 : e.z1 ≡ f.z +ℤ f.height
+
+abbrev pub corner : ℤ → ℤ → Point
+corner x y = record { x = x; y = y }
+
+-- the corners of a box in plan, counterclockwise from the least one
+abbrev pub rectangle : ℤ → ℤ → ℤ → ℤ → List Point
+rectangle x0 x1 y0 y1 = corner x0 y0 ∷ corner x1 y0 ∷ corner x1 y1 ∷ corner x0 y1 ∷ []
+
+abbrev pub plan_of : FirstForm → List Point
+plan_of f = rectangle (f.x -ℤ half f.size_x) (f.x +ℤ half f.size_x) (f.y -ℤ half f.size_y) (f.y +ℤ half f.size_y)
+
+-- no turn
+abbrev pub unturned : Quarter
+unturned = record { x = vector (pos 1) (pos 0) (pos 0); z = vector (pos 0) (pos 0) (pos 1) }
+
+-- a length in nanometres
+abbrev pub nanometres : ℤ → ℤ
+nanometres millimetres = millimetres *ℤ pos 1000000
+
+-- the number of the space
+abbrev pub space_number : ℕ
+space_number = 20
+
+abbrev pub frame_of : FirstForm → Frame
+frame_of f = record { turn = unturned; shift = nanometres f.x ∷ nanometres f.y ∷ nanometres f.z ∷ [] }
+
+abbrev pub space_of : FirstForm → Space
+space_of f = record {
+  number = space_number;
+  global_id = codes "0000000000000000000020";
+  prism = upright (plan_of f ∷ []) f.z (f.z +ℤ f.height);
+  frame = frame_of f;
+}
+
+-- the model: the one space #20 in millimetres, the ground at height 0, the reach of 1,000 mm
+abbrev pub model_of : FirstForm → Building
+model_of f = building Millimetre (pos 0) 1000 (space_of f ∷ []) [] [] []
