@@ -3,3 +3,6 @@ pub mod Passing
 pub mod OneSpaceIsNumbered
 pub mod EdgesByPlace
 pub mod StraightCorners
+pub mod ExamplePoints
+pub mod ExampleModels
+pub mod ExampleLabels

@@ -9,7 +9,7 @@ use Rattle.std.proofs.Math.IntN.{zero-*ℤ, *ℤ_comm}
 use Rattle.sb_fraction.specs.declared.point.Point.{Point}
 use Rattle.sb_whole.proofs.Products.{positive_product, negative_product, product_of_negatives, zero_product}
 use Rattle.sb_whole.proofs.Signs.{less_from}
-use Rattle.sb_model.specs.Loops.{is_rectangle, are_corners, is_in_range, are_loops, is_bent, bend, is_coordinate}
+use Rattle.sb_model.specs.Loops.{is_rectangle, are_corners, is_plan_point, are_loops, is_bent, bend, is_coordinate}
 
 -- a number that is not 0 is told apart from it
 not_zero : (z : ℤ) → (z ≡ pos 0 → ⊥) → not (int_eq z (pos 0)) ≡ true
@@ -89,7 +89,7 @@ corners_tell a b c d all =
 
 -- a point with these coordinates is in range
 in_range_at : (p : Point) (x y : ℤ) → p.x ≡ x → p.y ≡ y
-    → is_coordinate x ≡ true → is_coordinate y ≡ true → is_in_range p ≡ true
+    → is_coordinate x ≡ true → is_coordinate y ≡ true → is_plan_point p ≡ true
 in_range_at p x y ex ey at_x at_y = and_from (is_coordinate p.x) (is_coordinate p.y) (rw ex at_x) (rw ey at_y)
 
 all_true : (p q r s k l m n : Bool) → p ≡ true → q ≡ true → r ≡ true → s ≡ true
@@ -100,12 +100,12 @@ all_true p q r s k l m n ep eq er es ek el em en = rw (ep, eq, er, es, ek, el, e
 -- the four corners of a rectangle are a normalised loop
 pub rectangle_is_loop : (loops : List (List Point)) → IsTrue (is_rectangle loops) → IsTrue (are_loops loops)
 rectangle_is_loop ((a ∷ b ∷ c ∷ d ∷ []) ∷ []) is =
-    let parts = and_parts (are_corners a b c d) (is_in_range a && is_in_range c) is in
+    let parts = and_parts (are_corners a b c d) (is_plan_point a && is_plan_point c) is in
     let r = corners_tell a b c d parts.0 in
-    let range = and_parts (is_in_range a) (is_in_range c) parts.1 in
+    let range = and_parts (is_plan_point a) (is_plan_point c) parts.1 in
     let at_a = and_parts (is_coordinate a.x) (is_coordinate a.y) range.0 in
     let at_c = and_parts (is_coordinate c.x) (is_coordinate c.y) range.1 in
-    all_true (is_in_range a) (is_in_range b) (is_in_range c) (is_in_range d)
+    all_true (is_plan_point a) (is_plan_point b) (is_plan_point c) (is_plan_point d)
     (is_bent a b c) (is_bent b c d) (is_bent c d a) (is_bent d a b)
     range.0 (in_range_at b c.x a.y (sym r.cx) r.by at_c.0 at_a.1)
     range.1 (in_range_at d a.x c.y r.dx r.dy at_a.0 at_c.1)

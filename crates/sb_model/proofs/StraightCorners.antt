@@ -20,11 +20,11 @@ use Rattle.sb_whole.proofs.Shapes.{var, num, plus, minus, negated, times, equal}
 use Rattle.sb_whole.proofs.Ring.{mul-one, one-mul}
 use Rattle.sb_model.specs.declared.corner.Corner.{Corner}
 use Rattle.sb_model.specs.declared.face.Side.{Side}
-use Rattle.sb_model.specs.Spots.{Vector, vector, inner}
+use Rattle.sb_model.specs.Spots.{Vector, vector, inner, opposite}
 use Rattle.sb_model.specs.Plan.{Edge, edge}
 use Rattle.sb_model.specs.Sides.{line_of, is_patch, is_abscissa_size, is_side_of, region_between}
 use Rattle.sb_model.specs.declared.patch.Patch.{Patch}
-use Rattle.sb_model.specs.Faces.{step, runs_along, direction_of, offset_of, opposite}
+use Rattle.sb_model.specs.Faces.{step, runs_along, direction_of, offset_of}
 use Rattle.sb_model.specs.Corners.{level_corner, side_corner, whole, is_level_side, is_straight_edge}
 
 abbrev corner : Ratio → Ratio → Ratio → Corner

@@ -1,6 +1,6 @@
 -- The corners of patches, in the order in which they are listed.
 
-use Rattle.std.specs.Prelude.{ℤ, pos, ◌+ℤ◌, ◌-ℤ◌, ◌*ℤ◌, Bool, true, false, not, ◌&&◌, Option, Some, None, slice_get, is_some}
+use Rattle.std.specs.Prelude.{ℤ, pos, ◌+ℤ◌, ◌-ℤ◌, ◌*ℤ◌, Bool, true, false, not, ◌&&◌, Option, Some, None, slice_get}
 use Rattle.std.specs.Prelude.{if◌then◌else◌}
 use Rattle.std.specs.Ordering.{int_eq}
 use Rattle.sb_fraction.specs.Ratio.{Ratio, reduced}
@@ -9,7 +9,6 @@ use Rattle.sb_plane.specs.Sides.{LineSide}
 use Rattle.sb_model.specs.declared.corner.Corner.{Corner}
 use Rattle.sb_model.specs.declared.corner.Corners.{Corners}
 use Rattle.sb_model.specs.declared.corner.Corners.TheVariants.{Three, Four}
-use Rattle.sb_model.specs.declared.face.Face.{Face}
 use Rattle.sb_model.specs.declared.face.FaceKind.{FaceKind}
 use Rattle.sb_model.specs.declared.face.FaceKind.TheVariants as kind
 use Rattle.sb_model.specs.declared.face.Side.{Side}
@@ -19,7 +18,7 @@ use Rattle.sb_model.specs.Spots.{Vector, inner}
 use Rattle.sb_model.specs.Plan.{Edge, edges_of}
 use Rattle.sb_model.specs.Sides.{line_of}
 use Rattle.sb_model.specs.Building.{Building}
-use Rattle.sb_model.specs.Faces.{direction_of, runs_along, offset_of, space_numbered}
+use Rattle.sb_model.specs.Faces.{direction_of, runs_along, offset_of, edge_numbered, space_numbered}
 
 -- a whole number as a fraction
 abbrev pub whole : ℤ → Ratio
@@ -92,7 +91,7 @@ side_corners (Some e) p =
 abbrev pub corners_of_kind : Space → FaceKind → Patch → Option Corners
 corners_of_kind s kind.Bottom p = Some (backward (ends_by (λ u side. level_corner s.prism.z0 u (line_of side)) p))
 corners_of_kind s kind.Top p = Some (forward (ends_by (λ u side. level_corner s.prism.z1 u (line_of side)) p))
-corners_of_kind s (kind.Side k) p = side_corners (slice_get (edges_of s.prism.loops) k) p
+corners_of_kind s (kind.Side k) p = side_corners (edge_numbered s.prism k) p
 
 abbrev pub corners_in : Option Space → Patch → Option Corners
 corners_in None p = None
@@ -102,16 +101,6 @@ corners_in (Some s) p = corners_of_kind s p.face.kind p
 -- of the model
 abbrev pub corners_of : Building → Patch → Option Corners
 corners_of m p = corners_in (space_numbered m p.face.space) p
-
--- the space of this face has it
-abbrev pub has_face : Option Space → FaceKind → Bool
-has_face None k = false
-has_face (Some s) (kind.Side k) = is_some (slice_get (edges_of s.prism.loops) k)
-has_face (Some s) _ = true
-
--- the face is of the model
-abbrev pub is_face_of : Building → Face → Bool
-is_face_of m f = has_face (space_numbered m f.space) f.kind
 
 -- a line of direction (1, 0), or a height
 abbrev pub is_level_side : Side → Bool
@@ -125,7 +114,7 @@ is_straight_edge (Some e) = differ (int_eq e.a.x e.b.x) (int_eq e.a.y e.b.y)
 -- the face is Bottom or Top, or over an edge along x or y
 abbrev pub is_straight_face : Option Space → FaceKind → Bool
 is_straight_face None k = false
-is_straight_face (Some s) (kind.Side k) = is_straight_edge (slice_get (edges_of s.prism.loops) k)
+is_straight_face (Some s) (kind.Side k) = is_straight_edge (edge_numbered s.prism k)
 is_straight_face (Some s) _ = true
 
 -- sides along x, and a face along x or y

@@ -15,8 +15,8 @@ abbrev pub is_coordinate : ℤ → Bool
 is_coordinate z = nat_le (unsigned_abs z) greatest_coordinate
 
 -- both coordinates are within 500,000 mm
-abbrev pub is_in_range : Point → Bool
-is_in_range p = is_coordinate p.x && is_coordinate p.y
+abbrev pub is_plan_point : Point → Bool
+is_plan_point p = is_coordinate p.x && is_coordinate p.y
 
 -- (b - a) × (c - b): above 0 where the way from a over b to c turns left, 0 where it goes straight
 abbrev pub bend : Point → Point → Point → ℤ
@@ -41,7 +41,7 @@ is_bent_loop (a ∷ b ∷ rest) = are_bent a b rest a b
 abbrev pub is_loop : List Point → Bool
 is_loop points =
     nat_le 3 (length points)
-    && list_all is_in_range points
+    && list_all is_plan_point points
     && is_bent_loop points
 
 -- at least one loop, and each is one
@@ -56,5 +56,5 @@ are_corners a b c d =
 
 -- one loop, of the four corners of a rectangle in range
 abbrev pub is_rectangle : List (List Point) → Bool
-is_rectangle ((a ∷ b ∷ c ∷ d ∷ []) ∷ []) = are_corners a b c d && (is_in_range a && is_in_range c)
+is_rectangle ((a ∷ b ∷ c ∷ d ∷ []) ∷ []) = are_corners a b c d && (is_plan_point a && is_plan_point c)
 is_rectangle _ = false

@@ -1,8 +1,10 @@
--- Vertical prisms.
+-- Vertical prisms, and the points inside them.
 
-use Rattle.std.specs.Prelude.{ℤ, Bool, ◌&&◌, List, int_lt}
+use Rattle.std.specs.Prelude.{ℤ, Bool, ◌*ℤ◌, ◌&&◌, List, int_lt}
 use Rattle.sb_fraction.specs.declared.point.Point.{Point}
+use Rattle.sb_model.specs.Spots.{Spot}
 use Rattle.sb_model.specs.Loops.{is_coordinate, are_loops}
+use Rattle.sb_model.specs.Plan.{is_in_plan}
 
 -- a plan between two heights
 pub record Upright : Type 0 where
@@ -20,3 +22,11 @@ is_height z = is_coordinate z
 -- normalised loops, and the lower height below the upper one
 abbrev pub is_upright : Upright → Bool
 is_upright s = are_loops s.loops && int_lt s.z0 s.z1 && is_height s.z0 && is_height s.z1
+
+-- p lies strictly between two heights
+abbrev pub is_between_heights : ℤ → ℤ → Spot → Bool
+is_between_heights z0 z1 p = int_lt (z0 *ℤ p.w) p.z && int_lt p.z (z1 *ℤ p.w)
+
+-- p lies inside the prism: inside the loops, and strictly between the heights
+abbrev pub is_in_solid : Upright → Spot → Bool
+is_in_solid s p = is_in_plan s.loops p && is_between_heights s.z0 s.z1 p

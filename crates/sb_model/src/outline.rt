@@ -6,9 +6,9 @@ ghost use Rattle.std.specs.Option.{option_copied, option_map};
 ghost use Rattle.sb_fraction.specs.Ratio.{is_fraction};
 ghost use Rattle.sb_model.specs.Plan.{edge, edges_of, edges_of_loop, place_after};
 ghost use Rattle.sb_model.specs.Sides.{line_of};
-ghost use Rattle.sb_model.specs.Faces.{runs_along, space_numbered};
+ghost use Rattle.sb_model.specs.Faces.{runs_along, space_numbered, is_face_of};
 ghost use Rattle.sb_model.specs.Corners.{whole as whole_number, level_corner, side_corner, listed as corners_listed};
-ghost use Rattle.sb_model.specs.Corners.{corners_of, is_face_of, is_level_side, is_straight, is_straight_edge};
+ghost use Rattle.sb_model.specs.Corners.{corners_of, is_level_side, is_straight, is_straight_edge};
 ghost use Rattle.sb_model.specs.Corners.{corners_in, side_corners, is_straight_face};
 
 use crate::building::Model;
