@@ -75,9 +75,9 @@ pub levels_are_region : (v w low high : ℤ) (lower upper : Side) → line_of lo
     → int_lt v w ≡ true → int_lt low high ≡ true → is_region (region_between (whole low) (whole high) lower upper) ≡ true
 levels_are_region v w low high lower upper lower_is upper_is up along =
     let left : pos 0 <ℤ clearance_at (level v) (level w) (arrow_of (whole low)) =
-        clearance_of_levels v w low (less_from v w up) in
+    clearance_of_levels v w low (less_from v w up) in
     let right : pos 0 <ℤ clearance_at (level v) (level w) (arrow_of (whole high)) =
-        clearance_of_levels v w high (less_from v w up) in
+    clearance_of_levels v w high (less_from v w up) in
     rw (lower_is, upper_is)
     (and_from _ _ refl (and_from _ _ refl (and_from _ _ (whole_is_less low high along)
     (and_from _ _ (and_from _ _ (not_below _ left) (not_below _ right))

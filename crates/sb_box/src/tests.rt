@@ -1,5 +1,7 @@
 use crate::{Extent, box_boundaries};
 use sb_model::{Boundary, End, FaceKind, Side};
+use std::alloc::Global;
+use std::process::Abort;
 use std::test::Fail;
 
 /// Where a side of a patch lies: the offset of its line, or its height.
@@ -23,27 +25,18 @@ fn span(b: &Boundary) -> [i128; 4] {
 /// Which face, from where to where in u and in v, and the end.
 type Row = (FaceKind, [i128; 4], End);
 
-/// That the list of space 20 over [0,4000] and [0,3000] between two heights has these rows.
-fn expect_list(rt: HostRuntime, z0: i32, z1: i32, rows: &[Row]) -> Result<(), Fail> {
-    let extent = Extent {
-        x0: 0,
-        x1: 4000,
-        y0: 0,
-        y1: 3000,
-        z0,
-        z1,
-    };
-    let list = box_boundaries(rt.alloc(), 20, &extent)?;
-    assert_eq!(rt; list.len(), rows.len(), "boundaries from {z0} to {z1}");
-    let mut id = 1;
-    for (kind, numbers, end) in rows {
+/// That the list of this box has these rows.
+fn expect_list(rt: &impl Abort, alloc: Global, extent: &Extent, rows: &[Row]) -> Result<(), Fail> {
+    let list = box_boundaries(alloc, 20, extent)?;
+    assert_eq!(rt; list.len(), rows.len(), "one boundary a row");
+    for (i, (kind, numbers, end)) in rows.iter().enumerate() {
+        let id = i as u64 + 1;
         let Some(b) = list.get(id) else {
             panic!(rt; "boundary {id} is there");
         };
         assert!(rt; b.patch.face.kind == *kind, "face of boundary {id}");
         assert_eq!(rt; span(b), *numbers, "patch of boundary {id}");
         assert!(rt; b.walk.end == *end, "end of boundary {id}");
-        id += 1;
     }
     Ok(())
 }
@@ -58,7 +51,15 @@ fn the_box_on_the_ground_has_six_boundaries(rt: HostRuntime) -> Result<(), Fail>
         (FaceKind::Side(2), [0, 4000, 0, 2500], End::Outside),
         (FaceKind::Side(3), [0, 3000, 0, 2500], End::Outside),
     ];
-    expect_list(rt, 0, 2500, rows.as_slice())
+    let extent = Extent {
+        x0: 0,
+        x1: 4000,
+        y0: 0,
+        y1: 3000,
+        z0: 0,
+        z1: 2500,
+    };
+    expect_list(&rt, rt.alloc(), &extent, rows.as_slice())
 }
 
 #[test]
@@ -75,5 +76,13 @@ fn the_box_in_the_ground_has_ten(rt: HostRuntime) -> Result<(), Fail> {
         (FaceKind::Side(3), [0, 3000, -1000, 0], End::Earth),
         (FaceKind::Side(3), [0, 3000, 0, 1500], End::Outside),
     ];
-    expect_list(rt, -1000, 1500, rows.as_slice())
+    let extent = Extent {
+        x0: 0,
+        x1: 4000,
+        y0: 0,
+        y1: 3000,
+        z0: -1000,
+        z1: 1500,
+    };
+    expect_list(&rt, rt.alloc(), &extent, rows.as_slice())
 }

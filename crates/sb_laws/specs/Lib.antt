@@ -1,0 +1,2 @@
+-- What the laws speak of, in reading order.
+pub mod Rectangles
