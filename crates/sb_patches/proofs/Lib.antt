@@ -1,0 +1,12 @@
+-- The laws by topic.
+
+-- items of a list, and two items of it
+pub mod Lists
+-- intervals without a number of a list
+pub mod NoneBetween
+-- intervals of one line: one of them covers what all cover
+pub mod OneLine
+-- two patches of a trimmed list
+pub mod Spaced
+-- one line u = constant
+pub mod CutLine
