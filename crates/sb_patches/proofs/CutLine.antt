@@ -87,6 +87,30 @@ others_of : {M : Type 0} (P : Arrow → Type 0) (u : Arrow) (qs : List (MarkedPa
 others_of P u [] others all = all
 others_of P u (q ∷ qs) others all = others_of P u qs others all.1.1
 
+-- ---- order of sides on a line
+
+-- a patch within one that is within a third touches the third
+touches : (u : Arrow) → IsRational u → (p q r : Region) → IsRegion p → IsRegion q → IsRegion r → IsOver p u
+    → pos 0 ≤ℤ clearance_at r.lower q.lower u → pos 0 ≤ℤ clearance_at q.lower p.lower u
+    → pos 0 ≤ℤ clearance_at p.upper q.upper u → pos 0 ≤ℤ clearance_at q.upper r.upper u
+    → (pos 0 ≤ℤ clearance_at p.lower r.upper u) × (pos 0 ≤ℤ clearance_at r.lower p.upper u)
+touches u u_in p q r p_in q_in r_in over lower lower_p upper_p upper =
+    let open_p = open_between p p_in u u_in over.after over.before in
+    let wide : pos 0 ≤ℤ clearance_at p.lower p.upper u = omega (arith, ints) in (
+      at_most_trans p.lower q.upper r.upper u p_in.lower_in q_in.upper_in r_in.upper_in
+          (at_most_trans p.lower p.upper q.upper u p_in.lower_in p_in.upper_in q_in.upper_in wide
+          upper_p)
+          upper,
+      at_most_trans r.lower q.lower p.upper u r_in.lower_in q_in.lower_in p_in.upper_in lower
+          (at_most_trans q.lower p.lower p.upper u q_in.lower_in p_in.lower_in p_in.upper_in
+          lower_p wide),
+    )
+
+-- two sides each of which is not above the other have one value
+one_value : (u : Arrow) (l m : LineSide) → pos 0 ≤ℤ clearance_at l m u → pos 0 ≤ℤ clearance_at m l u
+    → clearance_at l m u ≡ pos 0
+one_value u l m low high = let turn = clearance-turn l m u in omega (arith, ints)
+
 -- ---- the patches of one mark on the line
 
 -- q stands in the list, has the mark, and u lies strictly between its ends
@@ -95,6 +119,20 @@ pub record IsOnLine {M : Type 0} (qs : List (MarkedPatch M)) (mark : M) (u : Arr
   pub stands : Stands q qs
   pub same_mark : q.mark ≡ mark
   pub over : IsOver q.region u
+
+-- moreover it has the mark of p, and lies around it: its sides are nowhere between those of p
+pub record IsAround {M : Type 0} (qs : List (MarkedPatch M)) (p : MarkedPatch M) (u : Arrow)
+    (q : MarkedPatch M) : Type 0 where
+  pub on : IsOnLine qs p.mark u q
+  pub lower : pos 0 ≤ℤ clearance_at q.region.lower p.region.lower u
+  pub upper : pos 0 ≤ℤ clearance_at p.region.upper q.region.upper u
+
+-- or its sides have the values of those of p
+pub record HasValuesOf {M : Type 0} (qs : List (MarkedPatch M)) (p : MarkedPatch M) (u : Arrow)
+    (q : MarkedPatch M) : Type 0 where
+  pub on : IsOnLine qs p.mark u q
+  pub lower : clearance_at p.region.lower q.region.lower u ≡ pos 0
+  pub upper : clearance_at p.region.upper q.region.upper u ≡ pos 0
 
 -- the patches of one mark on the line
 abbrev OnLine : {M : Type 0} → List (MarkedPatch M) → M → Arrow → Type 0
@@ -159,9 +197,7 @@ module _ {M : Type 0} (sheet : Sheet) (u : Arrow) (u_in : IsRational u)
   -- a patch on the line lies within one of the other list, which has its mark
   within_one : (ps qs : List (MarkedPatch M)) → AreTwoCovers sheet ps qs → (p : MarkedPatch M)
       → Stands p ps → IsOver p.region u
-      → (q : MarkedPatch M) × IsOnLine qs p.mark u q
-      × (pos 0 ≤ℤ clearance_at q.region.lower p.region.lower u)
-      × (pos 0 ≤ℤ clearance_at p.region.upper q.region.upper u)
+      → (q : MarkedPatch M) × IsAround qs p u q
   within_one ps qs two p stands over =
       let p_in = patch_there ps two.first.patches p stands in
       let found =
@@ -176,9 +212,11 @@ module _ {M : Type 0} (sheet : Sheet) (u : Arrow) (u_in : IsRational u)
       in
       let q : MarkedPatch M = found.0.0 in (
         q,
-        found.0.1,
-        (at_least_is q.region.lower p.region.lower u u_in).0 found.1,
-        (at_least_is p.region.upper q.region.upper u u_in).0 found.2,
+        record {
+          on = found.0.1;
+          lower = (at_least_is q.region.lower p.region.lower u u_in).0 found.1;
+          upper = (at_least_is p.region.upper q.region.upper u u_in).0 found.2;
+        },
       )
     where
       covered : Covers (low_of qs p.mark u) (high_of qs p.mark u) (ends_on sheet u qs)
@@ -205,11 +243,44 @@ module _ {M : Type 0} (sheet : Sheet) (u : Arrow) (u_in : IsRational u)
   -- and has the same values there
   pub cut_line : (ps qs : List (MarkedPatch M)) → AreTwoCovers sheet ps qs → (p : MarkedPatch M)
       → Stands p ps → IsOver p.region u
-      → (q : MarkedPatch M) × IsOnLine qs p.mark u q
-      × (clearance_at p.region.lower q.region.lower u ≡ pos 0)
-      × (clearance_at p.region.upper q.region.upper u ≡ pos 0)
-  cut_line ps qs two p stands over =
-      let found = within_one ps qs two p stands over in
-      let q : MarkedPatch M = found.0 in
-      let q_on : IsOnLine qs p.mark u q = found.1 in
-      let again = within_one qs ps (exchanged sheet ps qs two) q q_on.stands q_on.over in ?
+      → (q : MarkedPatch M) × HasValuesOf qs p u q
+  cut_line ps qs two p stands over = outer (within_one ps qs two p stands over)
+    where
+      outer : (q : MarkedPatch M) × IsAround qs p u q
+          → (q : MarkedPatch M) × HasValuesOf qs p u q
+      outer (q, q_is) =
+          inner (within_one qs ps (exchanged sheet ps qs two) q q_is.on.stands q_is.on.over)
+        where
+          inner : (r : MarkedPatch M) × IsAround ps q u r
+              → (q : MarkedPatch M) × HasValuesOf qs p u q
+          inner (r, r_is) =
+              from
+              (two.first.spaced p r stands r_is.on.stands
+              (sym (r_is.on.same_mark ∙ q_is.on.same_mark)))
+            where
+              from : (p ≡ r) ⊎ AreSpaced sheet p.region r.region
+                  → (q : MarkedPatch M) × HasValuesOf qs p u q
+              from (inl same) = (
+                q,
+                record {
+                  on = q_is.on;
+                  lower =
+                      one_value u p.region.lower q.region.lower
+                      (subst (λ s. pos 0 ≤ℤ clearance_at s.region.lower q.region.lower u)
+                      (sym same) r_is.lower)
+                      q_is.lower;
+                  upper =
+                      one_value u p.region.upper q.region.upper q_is.upper
+                      (subst (λ s. pos 0 ≤ℤ clearance_at q.region.upper s.region.upper u)
+                      (sym same) r_is.upper);
+                },
+              )
+              from (inr spaced) =
+                  let touch =
+                  touches u u_in p.region q.region r.region
+                  (patch_there ps two.first.patches p stands).region
+                  (patch_there qs two.second.patches q q_is.on.stands).region
+                  (patch_there ps two.first.patches r r_is.on.stands).region over r_is.lower
+                  q_is.lower q_is.upper r_is.upper
+                  in
+                  absurd (spaced.apart u u_in off over r_is.on.over touch.0 touch.1)

@@ -10,3 +10,9 @@ pub mod OneLine
 pub mod Spaced
 -- one line u = constant
 pub mod CutLine
+-- the same two sides over each stretch
+pub mod SameLines
+-- patches of the other list are at least as long
+pub mod AsLong
+-- the law itself
+pub mod OneList
