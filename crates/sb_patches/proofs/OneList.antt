@@ -3,25 +3,31 @@
 use Rattle.std.proofs.Common.{◌≡◌, ◌↔◌, refl, sym, ◌∙◌, inl, inr, ◌⊎◌, ap, subst, arith, List, [], ◌∷◌}
 use Rattle.std.proofs.Common.{pos, ◌<ℤ◌, ◌≤ℤ◌, ◌-ℤ◌, ◌*ℤ◌, Bool, true, false, IsTrue}
 use Rattle.std.proofs.lemmas.Int.{ints}
+use Rattle.std.proofs.lemmas.Bool.{false_from_ne_true}
 use Rattle.std.specs.List.{AllByRecursion}
 use Rattle.sb_whole.specs.Arrows.{Arrow, cross}
 use Rattle.sb_whole.specs.Rationals.{IsRational, IsBelow, IsAtMost, IsSame}
 use Rattle.sb_whole.specs.Reduced.{IsReduced}
-use Rattle.sb_whole.proofs.Shapes.{cross_eq}
+use Rattle.sb_whole.proofs.Shapes.{var, plus, times, equal, cross_by, cross_is, cross_eq}
 use Rattle.sb_whole.proofs.Ring.{mul_comm}
 use Rattle.sb_whole.proofs.Products.{positive_product, zero_of_positive}
 use Rattle.sb_whole.proofs.Arrows.{same_arrow}
 use Rattle.sb_whole.proofs.Reduced.{reduced_unique}
-use Rattle.sb_whole.proofs.Rationals.{same_from_at_most, at_most_refl}
-use Rattle.sb_plane.specs.Points.{FacePoint, IsFacePoint, point_at}
+use Rattle.sb_whole.proofs.Rationals.{same_from_at_most, at_most_refl, at_most_trans}
+use Rattle.sb_whole.proofs.Rationals.{at_most_below_trans, below_at_most_trans}
+use Rattle.sb_plane.specs.Sides.{LineSide, value_on}
+use Rattle.sb_plane.specs.Points.{FacePoint, IsFacePoint, point_at, abscissa_of, ordinate_of}
+use Rattle.sb_plane.specs.Points.{is_on_side}
 use Rattle.sb_plane.specs.Regions.{Region, IsRegion}
-use Rattle.sb_plane.proofs.Points.{inner_from, inner_passes}
+use Rattle.sb_plane.proofs.Points.{inner_from, inner_passes, on_is}
 use Rattle.sb_patches.specs.Lists.{Stands}
 use Rattle.sb_patches.specs.Marked.{MarkedPatch, IsPatch}
-use Rattle.sb_patches.specs.Sheets.{Sheet, IsSheet, ArePlainOffCuts, HaveSameMarks}
+use Rattle.sb_patches.specs.Sheets.{Sheet, IsNoAbscissa, IsOffCuts, IsMarkedAt}
+use Rattle.sb_patches.specs.Sheets.{ArePlainOffCuts}
 use Rattle.sb_patches.specs.Laws.{CoverAlike, HaveSamePatches, HasLawOfPatches}
 use Rattle.sb_patches.proofs.Spaced.{IsSpacedList, patch_there, trimmed_is_spaced}
-use Rattle.sb_patches.proofs.CutLine.{AreTwoCovers, CoversAlso, exchanged, IsOnLine}
+use Rattle.sb_patches.proofs.CutLine.{AreTwoCovers, CoversAlso, IsOnNoCut, exchanged}
+use Rattle.sb_patches.proofs.Lists.{all_follow}
 use Rattle.sb_patches.proofs.SameLines.{IsOverStretch, same_lines}
 use Rattle.sb_patches.proofs.AsLong.{HaveOneSides, one_if_overlapping, starts_by, ends_by}
 
@@ -33,12 +39,27 @@ same_fraction r s r_in s_in same =
     let pair = reduced_unique r.y r.x s.y s.x r_in s_in (omega (arith, ints)) in
     same_arrow r s pair.1 pair.0
 
+abbrev region_of : Arrow → Arrow → LineSide → LineSide → Region
+region_of low high lower upper =
+    record { low = low; high = high; lower = lower; upper = upper }
+
+abbrev marked : {M : Type 0} → Region → M → MarkedPatch M
+marked region mark = record { region = region; mark = mark }
+
 -- regions with the same data are equal
 same_region : (p q : Region) → p.low ≡ q.low → p.high ≡ q.high → p.lower ≡ q.lower
     → p.upper ≡ q.upper → p ≡ q
 same_region p q low high lower upper =
-    let whole : region_of p.low p.high p.lower p.upper ≡ region_of q.low q.high q.lower q.upper = cc in
+    let whole
+        : region_of p.low p.high p.lower p.upper ≡ region_of q.low q.high q.lower q.upper =
+    cc
+    in
     whole
+
+-- and so are marked patches
+same_patch : {M : Type 0} (p q : MarkedPatch M) → p.region ≡ q.region → p.mark ≡ q.mark → p ≡ q
+same_patch p q region mark =
+    let whole : marked p.region p.mark ≡ marked q.region q.mark = cc in whole
 
 -- q has the mark and the sides of p, and is at least as long
 record IsAsLong {M : Type 0} (qs : List (MarkedPatch M)) (p q : MarkedPatch M) : Type 0 where
@@ -56,4 +77,166 @@ as_long sheet ps qs two p at_p =
     same_lines sheet ps qs two p at_p p.region.low p.region.high p_in.low_in p_in.high_in p_in.wide
     (at_most_refl p.region.low) (at_most_refl p.region.high)
     in
-    let q : MarkedPatch _ = found.0 in ?
+    let is = found.2 in (
+      found.0,
+      record {
+        stands = is.on.stands;
+        same_mark = is.on.same_mark;
+        sides = record { lower = is.same_lower; upper = is.same_upper };
+        low = starts_by sheet ps qs two p at_p found.0 found.1 is;
+        high = ends_by sheet ps qs two p at_p found.0 found.1 is;
+      },
+    )
+
+-- of two that are each as long as the other the data are the same
+same_if_as_long : {M : Type 0} (ps qs : List (MarkedPatch M)) (p q : MarkedPatch M)
+    → IsPatch p.region → IsPatch q.region → IsAsLong qs p q
+    → IsAtMost p.region.low q.region.low → IsAtMost q.region.high p.region.high → p ≡ q
+same_if_as_long ps qs p q p_in q_in long low high =
+    same_patch p q
+    (same_region p.region q.region
+    (same_fraction p.region.low q.region.low p_in.low_reduced q_in.low_reduced
+    (same_from_at_most p.region.low q.region.low low long.low))
+    (same_fraction p.region.high q.region.high p_in.high_reduced q_in.high_reduced
+    (same_from_at_most p.region.high q.region.high long.high high))
+    long.sides.lower long.sides.upper)
+    (sym long.same_mark)
+
+-- the law for spaced lists: each patch is in the other list. One there is at least as long, one here
+-- is at least as long as that, and the last is the first, since the two overlap
+pub stands_there : {M : Type 0} (sheet : Sheet) (ps qs : List (MarkedPatch M))
+    → AreTwoCovers sheet ps qs → (p : MarkedPatch M) → Stands p ps → Stands p qs
+stands_there {M} sheet ps qs two p at_p = from (as_long sheet ps qs two p at_p)
+  where
+    p_in : IsPatch p.region
+    p_in = patch_there ps two.first.patches p at_p
+
+    from : (q : MarkedPatch M) × IsAsLong qs p q → Stands p qs
+    from (q, q_is) = back (as_long sheet qs ps (exchanged sheet ps qs two) q q_is.stands)
+      where
+        q_in : IsPatch q.region
+        q_in = patch_there qs two.second.patches q q_is.stands
+
+        back : (r : MarkedPatch M) × IsAsLong ps q r → Stands p qs
+        back (r, r_is) =
+            let r_in = patch_there ps two.first.patches r r_is.stands in
+            let low =
+            at_most_trans r.region.low q.region.low p.region.low r_in.region.low_in
+            q_in.region.low_in p_in.region.low_in r_is.low q_is.low
+            in
+            let high =
+            at_most_trans p.region.high q.region.high r.region.high p_in.region.high_in
+            q_in.region.high_in r_in.region.high_in q_is.high r_is.high
+            in
+            let one : r ≡ p =
+            one_if_overlapping sheet two.sheet_in ps two.first r p r_is.stands at_p
+            (r_is.same_mark ∙ q_is.same_mark)
+            (record {
+              lower = sym (q_is.sides.lower ∙ r_is.sides.lower);
+              upper = sym (q_is.sides.upper ∙ r_is.sides.upper);
+            })
+            (at_most_below_trans r.region.low p.region.low p.region.high r_in.region.low_in
+            p_in.region.low_in p_in.region.high_in low p_in.region.wide)
+            (below_at_most_trans p.region.low p.region.high r.region.high p_in.region.low_in
+            p_in.region.high_in r_in.region.high_in p_in.region.wide high)
+            in
+            let same : p ≡ q =
+            same_if_as_long ps qs p q p_in q_in q_is
+            (subst (λ x. IsAtMost x.region.low q.region.low) one r_is.low)
+            (subst (λ x. IsAtMost q.region.high x.region.high) one r_is.high)
+            in
+            subst (λ x. Stands x qs) (sym same) q_is.stands
+
+-- ---- from the points of the face
+
+cross-abscissa_at : (r u v : Arrow) → cross r (abscissa_of (point_at u v)) ≡ v.x *ℤ cross r u
+cross-abscissa_at r u v =
+    equal
+    (cross_by r (abscissa_of (point_at u v)) (var r.x) (var r.y) (times (var u.x) (var v.x))
+    (times (var u.y) (var v.x)))
+    (times (var v.x) (cross_is r u)) (omega arith)
+
+cross-value_at : (l : LineSide) (u v : Arrow)
+    → cross (value_on l (abscissa_of (point_at u v))) (ordinate_of (point_at u v))
+    ≡ (u.x *ℤ v.x) *ℤ cross (value_on l u) v
+unfolding value_on
+cross-value_at l u v =
+    equal
+    (cross_by (value_on l (abscissa_of (point_at u v))) (ordinate_of (point_at u v))
+    (times (var l.dx) (times (var u.x) (var v.x)))
+    (plus (times (var l.dy) (times (var u.y) (var v.x)))
+    (times (var l.off) (times (var u.x) (var v.x))))
+    (times (var u.x) (var v.x)) (times (var v.y) (var u.x)))
+    (times (times (var u.x) (var v.x))
+    (cross_by (value_on l u) v (times (var l.dx) (var u.x))
+    (plus (times (var l.dy) (var u.y)) (times (var l.off) (var u.x))) (var v.x) (var v.y)))
+    (omega arith)
+
+-- a point off the cuts, said by its two numbers
+off_cuts_at : (sheet : Sheet) (u v : Arrow) → IsRational u → IsRational v → IsNoAbscissa sheet u
+    → IsOnNoCut sheet u v → IsOffCuts sheet (point_at u v)
+off_cuts_at sheet u v u_in v_in off no_cut =
+    record {
+      no_abscissa =
+          all_follow
+          (λ f apart same.
+          apart (zero_of_positive v.x (cross f u) v_in (rw (cross-abscissa_at f u v) at same)))
+          sheet.abscissae off;
+      no_cut =
+          all_follow
+          (λ cut apart.
+          false_from_ne_true (is_on_side cut (point_at u v))
+          (λ answer.
+          apart
+          (zero_of_positive (u.x *ℤ v.x) (cross (value_on cut u) v) point_in
+          (rw (cross-value_at cut u v) at (on_is cut (point_at u v) point_in).0 answer))))
+          sheet.cuts no_cut;
+    }
+  where
+    point_in : IsFacePoint (point_at u v)
+    point_in = positive_product u.x v.x u_in v_in
+
+-- lists that put the same plain points under the same marks cover alike
+covers_from_marks : {M : Type 0} (sheet : Sheet) (IsPlain : FacePoint → Type 0)
+    (ps qs : List (MarkedPatch M)) → ArePlainOffCuts sheet IsPlain ps
+    → ((point : FacePoint) → IsFacePoint point → IsPlain point → (mark : M)
+    → IsMarkedAt ps point mark → IsMarkedAt qs point mark)
+    → CoversAlso sheet ps qs
+covers_from_marks sheet IsPlain ps qs plain marks u v u_in v_in off no_cut p at_p inner =
+    let point = point_at u v in
+    let point_in : IsFacePoint point = positive_product u.x v.x u_in v_in in
+    let here : IsMarkedAt ps point p.mark =
+    (p, at_p, refl, inner_passes p.region u v v_in inner)
+    in
+    let found =
+    marks point point_in
+    (plain point point_in (off_cuts_at sheet u v u_in v_in off no_cut) p.mark here) p.mark here
+    in
+    (found.0, found.1, found.2, inner_from found.0.region u v v_in found.3)
+
+-- ---- the law
+
+-- so they hold the same patches, whatever plain means, and for marks of any type
+pub law_of_patches : {M : Type 0} (sheet : Sheet) (IsPlain : FacePoint → Type 0)
+    (ps qs : List (MarkedPatch M)) → CoverAlike sheet IsPlain ps qs → HaveSamePatches ps qs
+law_of_patches {M} sheet IsPlain ps qs alike p =
+    (stands_there sheet ps qs two p, stands_there sheet qs ps (exchanged sheet ps qs two) p)
+  where
+    two : AreTwoCovers sheet ps qs
+    two =
+        record {
+          sheet_in = alike.sheet_in;
+          first = trimmed_is_spaced sheet ps alike.first;
+          second = trimmed_is_spaced sheet qs alike.second;
+          there =
+              covers_from_marks sheet IsPlain ps qs alike.first_plain
+              (λ point point_in plain mark. (alike.same_marks point point_in plain mark).0);
+          back =
+              covers_from_marks sheet IsPlain qs ps alike.second_plain
+              (λ point point_in plain mark. (alike.same_marks point point_in plain mark).1);
+        }
+
+-- as the contract has it
+pub has_law_of_patches : (M : Type 0) → HasLawOfPatches M
+has_law_of_patches M sheet is_plain ps qs alike =
+    law_of_patches sheet (λ point. IsTrue (is_plain point)) ps qs alike
