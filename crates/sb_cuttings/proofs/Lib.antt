@@ -14,3 +14,4 @@ pub mod Backwards
 pub mod Parts
 -- the passages of a ray
 pub mod OnePassages
+mod Examples

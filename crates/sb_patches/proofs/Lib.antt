@@ -14,5 +14,9 @@ pub mod CutLine
 pub mod SameLines
 -- patches of the other list are at least as long
 pub mod AsLong
+-- no patch twice; lists with the same members
+pub mod SameMembers
+pub mod StandsOnce
 -- the law itself
 pub mod OneList
+mod Examples

@@ -1,7 +1,7 @@
 -- The law of patches: two spaced lists that cover alike hold the same patches; and so do two trimmed
 -- lists that put the same plain points under the same marks.
 use Rattle.std.proofs.Common.{◌≡◌, ◌↔◌, refl, sym, ◌∙◌, inl, inr, ◌⊎◌, ap, subst, arith, List, [], ◌∷◌}
-use Rattle.std.proofs.Common.{pos, ◌<ℤ◌, ◌≤ℤ◌, ◌-ℤ◌, ◌*ℤ◌, Bool, true, false, IsTrue}
+use Rattle.std.proofs.Common.{pos, ◌<ℤ◌, ◌≤ℤ◌, ◌-ℤ◌, ◌*ℤ◌, Bool, true, false, IsTrue, IsPermutation}
 use Rattle.std.proofs.lemmas.Int.{ints}
 use Rattle.std.proofs.lemmas.Bool.{false_from_ne_true}
 use Rattle.std.specs.List.{AllByRecursion}
@@ -25,6 +25,9 @@ use Rattle.sb_patches.specs.Marked.{MarkedPatch, IsPatch}
 use Rattle.sb_patches.specs.Sheets.{Sheet, IsNoAbscissa, IsOffCuts, IsMarkedAt}
 use Rattle.sb_patches.specs.Sheets.{ArePlainOffCuts}
 use Rattle.sb_patches.specs.Laws.{CoverAlike, HaveSamePatches, HasLawOfPatches}
+use Rattle.sb_patches.specs.Laws.{HasOneListOfPatches}
+use Rattle.sb_patches.proofs.SameMembers.{permuted_if_same_members}
+use Rattle.sb_patches.proofs.StandsOnce.{stands_once}
 use Rattle.sb_patches.proofs.Spaced.{IsSpacedList, patch_there, trimmed_is_spaced}
 use Rattle.sb_patches.proofs.CutLine.{AreTwoCovers, CoversAlso, IsOnNoCut, exchanged}
 use Rattle.sb_patches.proofs.Lists.{all_follow}
@@ -236,7 +239,19 @@ law_of_patches {M} sheet IsPlain ps qs alike p =
               (λ point point_in plain mark. (alike.same_marks point point_in plain mark).1);
         }
 
--- as the contract has it
+-- and the one is the other in another order
+pub one_list_of_patches : {M : Type 0} (sheet : Sheet) (IsPlain : FacePoint → Type 0)
+    (ps qs : List (MarkedPatch M)) → CoverAlike sheet IsPlain ps qs → IsPermutation ps qs
+one_list_of_patches sheet IsPlain ps qs alike =
+    let same = law_of_patches sheet IsPlain ps qs alike in
+    permuted_if_same_members ps qs (stands_once sheet alike.sheet_in ps alike.first)
+    (stands_once sheet alike.sheet_in qs alike.second) (λ p. (same p).0) (λ p. (same p).1)
+
+-- both as the contract has them
 pub has_law_of_patches : (M : Type 0) → HasLawOfPatches M
 has_law_of_patches M sheet is_plain ps qs alike =
     law_of_patches sheet (λ point. IsTrue (is_plain point)) ps qs alike
+
+pub has_one_list_of_patches : (M : Type 0) → HasOneListOfPatches M
+has_one_list_of_patches M sheet is_plain ps qs alike =
+    one_list_of_patches sheet (λ point. IsTrue (is_plain point)) ps qs alike

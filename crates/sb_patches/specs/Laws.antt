@@ -1,5 +1,5 @@
 -- The law of patches.
-use Rattle.std.specs.Prelude.{◌↔◌, Bool, IsTrue, List}
+use Rattle.std.specs.Prelude.{◌↔◌, Bool, IsTrue, List, IsPermutation}
 use Rattle.sb_plane.specs.Points.{FacePoint}
 use Rattle.sb_patches.specs.Lists.{Stands}
 use Rattle.sb_patches.specs.Marked.{MarkedPatch}
@@ -27,3 +27,10 @@ HasLawOfPatches M =
     (sheet : Sheet) (is_plain : FacePoint → Bool) (ps qs : List (MarkedPatch M))
     → CoverAlike sheet (λ point. IsTrue (is_plain point)) ps qs
     → HaveSamePatches ps qs
+
+-- and each as often: the one is the other in another order
+abbrev pub HasOneListOfPatches : Type 0 → Type 0
+HasOneListOfPatches M =
+    (sheet : Sheet) (is_plain : FacePoint → Bool) (ps qs : List (MarkedPatch M))
+    → CoverAlike sheet (λ point. IsTrue (is_plain point)) ps qs
+    → IsPermutation ps qs

@@ -5,12 +5,13 @@
 //! itself is in `specs/Laws.antt`.
 #![tactic(auto)]
 
-ghost use Rattle.sb_patches.specs.Laws.{HasLawOfPatches};
+ghost use Rattle.sb_patches.specs.Laws.{HasLawOfPatches, HasOneListOfPatches};
 
 /// The law of patches: two trimmed lists of patches of one plane, all of whose points are plain off
 /// the cuts, and which put the same plain points under the same marks, hold the same patches with
 /// the same marks. The marks are of any type.
 pub fn law_of_patches<M>()
-    ensures { HasLawOfPatches M }
+    ensures same_patches { HasLawOfPatches M }
+    ensures one_list { HasOneListOfPatches M }
 {
 }
