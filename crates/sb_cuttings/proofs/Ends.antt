@@ -1,11 +1,10 @@
 -- Between two ends there is a number, and the order goes on through numbers between them.
-use Rattle.std.proofs.Common.{◌≡◌, refl, inl, inr, ⊎_elim, ◌⊎◌, arith, ◌∙◌, sym}
-use Rattle.std.proofs.Common.{Option, Some, None, ℤ, pos, negsuc, ◌<ℤ◌, ◌+ℤ◌, ◌-ℤ◌, ◌*ℤ◌, neg_ℤ}
+use Rattle.std.proofs.Common.{◌≡◌, refl, inl, inr, ◌⊎◌, arith, ◌∙◌, sym}
+use Rattle.std.proofs.Common.{Option, Some, None, ℤ, pos, negsuc, ◌+ℤ◌, ◌-ℤ◌, ◌*ℤ◌, neg_ℤ}
 use Rattle.std.proofs.Common.{zero, suc, unsigned_abs}
 use Rattle.std.proofs.lemmas.Int.{ints}
 use Rattle.sb_whole.specs.Arrows.{Arrow, arrow, cross, mirror}
 use Rattle.sb_whole.specs.Rationals.{IsRational, IsBelow, IsAtMost, IsSame, mediant, rational}
-use Rattle.sb_whole.specs.Reduced.{IsReduced}
 use Rattle.sb_whole.proofs.Shapes.{var, plus, minus, times, equal, cross_by, cross_eq}
 use Rattle.sb_whole.proofs.Products.{positive_product}
 use Rattle.sb_whole.proofs.Reduced.{reduced_unique}
@@ -129,21 +128,25 @@ below_two_ends low high other low_in high_in other_in wide wide_too =
             → (w : Arrow) × (IsBetween low high w × IsBetween low other w)
         from (inl less) = (
           u,
-          (u_is,
-          record {
-            rational = u_is.rational;
-            after = u_is.after;
-            before = before_trans u v other u_is.rational v_is.rational other_in less v_is.before;
-          }),
+          (
+            u_is,
+            record {
+              rational = u_is.rational;
+              after = u_is.after;
+              before = before_trans u v other u_is.rational v_is.rational other_in less v_is.before;
+            },
+          ),
         )
         from (inr more) = (
           v,
-          (record {
-            rational = v_is.rational;
-            after = v_is.after;
-            before = before_at_most v u high v_is.rational u_is.rational high_in more u_is.before;
-          },
-          v_is),
+          (
+            record {
+              rational = v_is.rational;
+              after = v_is.after;
+              before = before_at_most v u high v_is.rational u_is.rational high_in more u_is.before;
+            },
+            v_is,
+          ),
         )
 
 -- ---- reduced fractions

@@ -1,14 +1,14 @@
 -- Worked cuttings, wrong ones that are refused, and a function with an odd point, which squash cuts
 -- wrongly.
-use Rattle.std.proofs.Common.{◌≡◌, refl, sym, ◌∙◌, ap, inl, inr, ◌⊎◌, ℕ, pos, negsuc, true, false, Bool}
-use Rattle.std.proofs.Common.{List, [], ◌∷◌, Option, Some, None, arith, ◌==◌, if◌then◌else◌}
+use Rattle.std.proofs.Common.{◌≡◌, refl, sym, ◌∙◌, ap, ℕ, pos, negsuc, false, Bool}
+use Rattle.std.proofs.Common.{List, [], ◌∷◌, None, arith, ◌==◌, if◌then◌else◌}
 use Rattle.std.proofs.lemmas.Int.{ints}
 use Rattle.std.proofs.lemmas.Bool.{false_from_ne_true}
 use Rattle.std.specs.Cmp.{signed_Decides, both_ways}
 use Rattle.std.proofs.Math.Bool.{beq}
 use Rattle.std.proofs.Math.Nat.{dvd_refl, eq-one_of_dvd-one, dvd-mul_left}
 use Rattle.std.specs.Int.{◌∣◌}
-use Rattle.std.proofs.Common.{ℤ, ◌-ℤ◌, ◌*ℤ◌}
+use Rattle.std.proofs.Common.{◌-ℤ◌, ◌*ℤ◌}
 use Rattle.sb_whole.proofs.Shapes.{cross_eq}
 use Rattle.sb_whole.proofs.Ring.{zero-mul}
 use Rattle.sb_whole.proofs.Products.{zero_of_positive}
@@ -19,12 +19,11 @@ use Rattle.sb_whole.specs.Rationals.{IsRational, IsBelow, IsSame, rational, is_b
 use Rattle.sb_whole.proofs.Signs.{test_less, test_not_less}
 use Rattle.sb_whole.proofs.Arrows.{cross-turn}
 use Rattle.sb_whole.proofs.Reduced.{whole_is_reduced}
-use Rattle.sb_cuttings.specs.Ends.{IsOpen, mirror_end}
-use Rattle.sb_cuttings.specs.Cuttings.{Break, IsAlike, HasLabel, IsCutting, AreDifferent, IsFraction}
+use Rattle.sb_cuttings.specs.Cuttings.{Break, IsAlike, IsCutting, AreDifferent, IsFraction}
 use Rattle.sb_cuttings.specs.Cuttings.{IsReducedCutting, HasNoOddPoint}
-use Rattle.sb_cuttings.specs.Changes.{break_at, squash, map_labels, group, run_breaks, in_runs}
+use Rattle.sb_cuttings.specs.Changes.{break_at, squash, group, run_breaks}
 use Rattle.sb_cuttings.specs.Changes.{flip_onto, last_label, label_after, breaks_after}
-use Rattle.sb_cuttings.specs.Changes.{breaks_before, Run, Grouped}
+use Rattle.sb_cuttings.specs.Changes.{breaks_before}
 use Rattle.sb_cuttings.specs.Passages.{ray_start, ArePassages}
 
 abbrev whole : ℕ → Arrow
@@ -87,7 +86,7 @@ wrong_label cut = not_six_and_five refl (cut.1 (whole 2) (omega (arith, ints)) t
 
 -- a break that is no reduced fraction
 not_reduced : IsFraction (rational (pos 2) (pos 4)) → ⊥
-not_reduced reduced = 
+not_reduced reduced =
     let two_divides_one : 2 ∣ 1 = reduced.no_divisor.2 2 (dvd_refl 2) (dvd-mul_left 2 2) in
     not_two_and_one 2 refl (eq-one_of_dvd-one two_divides_one)
   where

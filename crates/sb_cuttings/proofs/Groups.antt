@@ -1,7 +1,7 @@
 -- Mapping the labels of a cutting of f by g gives a cutting of g after f, and grouping its breaks into
 -- runs of one g-label gives the reduced one.
 use Rattle.std.proofs.Common.{◌≡◌, refl, sym, ◌∙◌, ap, subst, Bool, true, false, cond, Decides}
-use Rattle.std.proofs.Common.{Option, Some, None, List, [], ◌∷◌, ◌++◌, map}
+use Rattle.std.proofs.Common.{Option, Some, List, [], ◌∷◌, ◌++◌}
 use Rattle.std.specs.List.{AllByRecursion}
 use Rattle.sb_whole.specs.Arrows.{Arrow}
 use Rattle.sb_cuttings.specs.Ends.{IsEnd}
@@ -41,7 +41,7 @@ module _ {L K : Type 0} (same : K → K → Bool) (decides : (a b : K) → Decid
           → run_breaks g rest.runs ≡ squash same (g b.label) (map_labels g bs)
           → run_breaks g ((put_before answer b rest).runs)
           ≡ cond answer (squash same (g first) (map_labels g bs))
-            (break_at b.start (g b.label) ∷ squash same (g b.label) (map_labels g bs))
+          (break_at b.start (g b.label) ∷ squash same (g b.label) (map_labels g bs))
       from true equal later =
           later
           ∙ ap (λ k. squash same k (map_labels g bs))
@@ -85,7 +85,7 @@ module _ {L K : Type 0} (same : K → K → Bool) (decides : (a b : K) → Decid
   -- and each run has one g-label
   pub runs_have_label : (first : L) (bs : List (Break L))
       → AllByRecursion (λ run. AllByRecursion (λ d. g run.head.label ≡ g d.label) run.rest)
-        ((group same g first bs).runs)
+      ((group same g first bs).runs)
   runs_have_label first [] = tt
   runs_have_label first (b ∷ bs) =
       from (same (g first) (g b.label)) (before_has_label b.label bs) (runs_have_label b.label bs)
@@ -98,9 +98,9 @@ module _ {L K : Type 0} (same : K → K → Bool) (decides : (a b : K) → Decid
 
       from : (answer : Bool) → AllByRecursion (λ d. g b.label ≡ g d.label) rest.before
           → AllByRecursion (λ run. AllByRecursion (λ d. g run.head.label ≡ g d.label) run.rest)
-            rest.runs
+          rest.runs
           → AllByRecursion (λ run. AllByRecursion (λ d. g run.head.label ≡ g d.label) run.rest)
-            ((put_before answer b rest).runs)
+          ((put_before answer b rest).runs)
       from true before later = later
       from false before later = (before, later)
 
@@ -111,7 +111,7 @@ pub group_is : {L K : Type 0} (f : Arrow → L) → IsAlike f → (g : L → K)
     → (first : L) (bs : List (Break L)) → IsCutting f low high first bs
     → HasNoOddPoint (λ u. g (f u)) (g first) (map_labels g bs)
     → IsReducedCutting (λ u. g (f u)) low high (g first)
-      (run_breaks g ((group same g first bs).runs))
+    (run_breaks g ((group same g first bs).runs))
 group_is f alike g same decides low high low_in high_in first bs cut plain =
     rw (runs_are_squashed same decides g first bs)
     (squash_is (λ u. g (f u)) (λ r s r_in s_in e. ap g (alike r s r_in s_in e)) high high_in same

@@ -1,5 +1,5 @@
 -- A ray has one list of passages: they are a reduced cutting from depth 0 on.
-use Rattle.std.proofs.Common.{◌≡◌, sym, ◌∙◌, ap₂, Some, None, List, [], ◌∷◌, pos, arith}
+use Rattle.std.proofs.Common.{◌≡◌, sym, ◌∙◌, ap₂, Some, None, List, [], ◌∷◌, arith}
 use Rattle.std.proofs.lemmas.Int.{ints}
 use Rattle.sb_whole.specs.Arrows.{Arrow}
 use Rattle.sb_cuttings.specs.Cuttings.{Break}

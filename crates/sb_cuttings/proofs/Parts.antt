@@ -1,17 +1,16 @@
 -- Two cuttings that meet at x are glued to one, and a cutting is cut off to a part of its interval.
-use Rattle.std.proofs.Common.{◌≡◌, refl, sym, Option, Some, None, List, [], ◌∷◌, ◌++◌, Bool, true, false}
+use Rattle.std.proofs.Common.{◌≡◌, refl, Option, Some, List, [], ◌∷◌, Bool, true, false}
 use Rattle.std.proofs.Common.{cond, pos, arith}
 use Rattle.std.proofs.lemmas.Int.{ints}
 use Rattle.sb_whole.specs.Arrows.{Arrow, cross}
 use Rattle.sb_whole.specs.Rationals.{IsRational, IsBelow, IsAtMost, is_below}
 use Rattle.sb_whole.proofs.Signs.{less_from, not_less_from}
 use Rattle.sb_whole.proofs.Arrows.{cross-turn}
-use Rattle.sb_whole.proofs.Rationals.{at_most_from_below, below_at_most_trans, below_trans}
-use Rattle.sb_cuttings.specs.Ends.{IsEnd, IsOpen, IsAfter, IsBefore, IsFrom, IsUpTo}
+use Rattle.sb_cuttings.specs.Ends.{IsEnd, IsAfter, IsBefore, IsFrom, IsUpTo}
 use Rattle.sb_cuttings.specs.Cuttings.{Break, HasLabel, IsCutting, IsReducedCutting, AreDifferent}
 use Rattle.sb_cuttings.specs.Cuttings.{IsFraction}
 use Rattle.sb_cuttings.specs.Changes.{glue, last_label, label_after, breaks_after, breaks_before}
-use Rattle.sb_cuttings.proofs.Ends.{from_trans, up_to_trans, before_trans}
+use Rattle.sb_cuttings.proofs.Ends.{from_trans, up_to_trans}
 
 -- ---- glue
 
@@ -81,7 +80,7 @@ cut_front_is {L} f low high s low_in high_in s_in reached before first (b ∷ bs
         → (IsAtMost b.start s
         → IsCutting f (Some s) high (label_after s b.label bs) (breaks_after s bs))
         → IsCutting f (Some s) high (cond answer first (label_after s b.label bs))
-          (cond answer (b ∷ bs) (breaks_after s bs))
+        (cond answer (b ∷ bs) (breaks_after s bs))
     from true answer later = (
       cut.0,
       less_from (pos 0) (cross s b.start) answer,
@@ -127,7 +126,7 @@ different_after {L} s first (b ∷ bs) differ =
   where
     from : (answer : Bool) → AreDifferent (label_after s b.label bs) (breaks_after s bs)
         → AreDifferent (cond answer first (label_after s b.label bs))
-          (cond answer (b ∷ bs) (breaks_after s bs))
+        (cond answer (b ∷ bs) (breaks_after s bs))
     from true later = differ
     from false later = later
 
@@ -147,7 +146,7 @@ pub cut_off_is_reduced : {L : Type 0} (f : Arrow → L) (low high : Option Arrow
     → IsEnd low → IsEnd high → IsRational s → IsRational t → IsFrom low s → IsBelow s t
     → IsUpTo t high → (first : L) (bs : List (Break L)) → IsReducedCutting f low high first bs
     → IsReducedCutting f (Some s) (Some t) (label_after s first bs)
-      (breaks_before t (breaks_after s bs))
+    (breaks_before t (breaks_after s bs))
 cut_off_is_reduced f low high s t low_in high_in s_in t_in reached wide reached_t first bs reduced =
     record {
       cutting =

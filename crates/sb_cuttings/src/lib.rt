@@ -11,12 +11,10 @@ ghost use Rattle.sb_cuttings.specs.Laws.{HasOneCutting, IsReducedBySquash};
 /// type.
 pub fn one_cutting<L>()
     ensures { HasOneCutting L }
-{
-}
+{}
 
 /// Squash: where no point is odd, dropping each break whose label is the one before it leaves a
 /// reduced cutting of the same function. The labels are of any type with a test of equality.
 pub fn squash<L>()
     ensures { IsReducedBySquash L }
-{
-}
+{}

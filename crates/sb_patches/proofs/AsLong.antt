@@ -1,5 +1,5 @@
 -- Each patch has in the other list one with its mark and its sides that is at least as long.
-use Rattle.std.proofs.Common.{◌≡◌, refl, sym, ◌∙◌, inl, inr, ◌⊎◌, ap, subst, arith, List, [], ◌∷◌}
+use Rattle.std.proofs.Common.{◌≡◌, sym, ◌∙◌, inl, inr, ◌⊎◌, ap, subst, arith, List, [], ◌∷◌}
 use Rattle.std.proofs.Common.{pos, ◌<ℤ◌, ◌≤ℤ◌, Bool, true, false, ◌&&◌}
 use Rattle.std.proofs.lemmas.Int.{ints}
 use Rattle.std.proofs.lemmas.Bool.{and_from}
@@ -13,7 +13,7 @@ use Rattle.sb_whole.specs.Tests.{is_positive}
 use Rattle.sb_whole.proofs.Signs.{test_less}
 use Rattle.sb_whole.proofs.Rationals.{below_trans, below_irrefl, below_or_not, number_cases}
 use Rattle.sb_whole.proofs.Rationals.{at_most_below_trans, below_at_most_trans, at_most_refl}
-use Rattle.sb_whole.proofs.Rationals.{at_most_from_below, at_most_trans, below_clash, same_sym}
+use Rattle.sb_whole.proofs.Rationals.{at_most_from_below, below_clash, same_sym}
 use Rattle.sb_whole.proofs.Avoid.{another_is}
 use Rattle.sb_plane.specs.Sides.{clearance_at, is_same_side}
 use Rattle.sb_plane.specs.Regions.{Region, IsRegion, is_seam, have_same_sides}
@@ -22,12 +22,11 @@ use Rattle.sb_plane.proofs.Regions.{open_between}
 use Rattle.sb_patches.specs.Lists.{Stands}
 use Rattle.sb_patches.specs.Marked.{MarkedPatch, IsPatch}
 use Rattle.sb_patches.specs.Sheets.{Sheet, IsSheet}
-use Rattle.sb_patches.specs.Trimmed.{HaveNoSeam}
 use Rattle.sb_patches.proofs.NoneBetween.{IsFreeBefore, IsFreeAfter, free_before, free_after}
 use Rattle.sb_patches.proofs.NoneBetween.{beyond_end, before_start, at_least_if_not_below}
 use Rattle.sb_patches.proofs.NoneBetween.{at_most_from_same}
 use Rattle.sb_patches.proofs.Spaced.{IsOver, AreSpaced, IsSpacedList, patch_there}
-use Rattle.sb_patches.proofs.CutLine.{AreTwoCovers, IsOnLine}
+use Rattle.sb_patches.proofs.CutLine.{AreTwoCovers}
 use Rattle.sb_patches.proofs.SameLines.{IsOverStretch, same_lines}
 
 -- the region reaches from r to t

@@ -1,13 +1,13 @@
 -- On a line u = constant that is no abscissa a patch of the one list has between the same two values
 -- a patch of the other, with its mark.
-use Rattle.std.proofs.Common.{◌≡◌, refl, sym, ◌∙◌, inl, inr, ◌⊎◌, ap, subst, arith, List, [], ◌∷◌, map}
-use Rattle.std.proofs.Common.{pos, ◌<ℤ◌, ◌≤ℤ◌}
+use Rattle.std.proofs.Common.{◌≡◌, sym, ◌∙◌, inl, inr, ◌⊎◌, ap, subst, arith, List, [], ◌∷◌, map}
+use Rattle.std.proofs.Common.{pos, ◌≤ℤ◌}
 use Rattle.std.proofs.lemmas.Int.{ints}
 use Rattle.std.specs.List.{AllByRecursion}
 use Rattle.sb_whole.specs.Arrows.{Arrow}
-use Rattle.sb_whole.specs.Rationals.{IsRational, IsBelow, IsAtMost, IsSame}
+use Rattle.sb_whole.specs.Rationals.{IsRational, IsAtMost, IsSame}
 use Rattle.sb_whole.proofs.Avoid.{IsOther}
-use Rattle.sb_plane.specs.Sides.{LineSide, IsLineSide, value_on, clearance_at}
+use Rattle.sb_plane.specs.Sides.{LineSide, value_on, clearance_at}
 use Rattle.sb_plane.specs.Regions.{Region, IsRegion, IsInner}
 use Rattle.sb_plane.proofs.Clearance.{value_on-IsRational, higher_is, at_least_is, clearance-turn}
 use Rattle.sb_plane.proofs.Clearance.{at_most_trans}
@@ -16,7 +16,7 @@ use Rattle.sb_patches.specs.Lists.{Stands}
 use Rattle.sb_patches.specs.Marked.{MarkedPatch, IsPatch}
 use Rattle.sb_patches.specs.Sheets.{Sheet, IsSheet, IsNoAbscissa}
 use Rattle.sb_patches.proofs.Lists.{all_of_images, all_images, all_follow}
-use Rattle.sb_patches.proofs.OneLine.{AreIntervals, Covers, IsWithin, one_covers}
+use Rattle.sb_patches.proofs.OneLine.{AreIntervals, Covers, one_covers}
 use Rattle.sb_patches.proofs.Spaced.{IsOver, AreSpaced, IsSpacedList, patch_there}
 
 -- ---- what the law rests on
@@ -66,8 +66,10 @@ values_in : {M : Type 0} (u : Arrow) → IsRational u → (qs : List (MarkedPatc
 values_in u u_in [] others patches others_in = others_in
 values_in u u_in (q ∷ qs) others patches others_in = (
   value_on-IsRational q.region.lower u patches.0.region.lower_in u_in,
-  (value_on-IsRational q.region.upper u patches.0.region.upper_in u_in,
-  values_in u u_in qs others patches.1 others_in),
+  (
+    value_on-IsRational q.region.upper u patches.0.region.upper_in u_in,
+    values_in u u_in qs others patches.1 others_in,
+  ),
 )
 
 lower_listed : {M : Type 0} (u : Arrow) (q : MarkedPatch M) (qs : List (MarkedPatch M))
@@ -231,12 +233,14 @@ module _ {M : Type 0} (sheet : Sheet) (u : Arrow) (u_in : IsRational u)
           (record { after = over.after; before = over.before; above = above; under = under })
           in
           let inner : IsInner found.0.region u v = found.3 in (
-            (found.0,
-            record {
-              stands = found.1;
-              same_mark = found.2;
-              over = record { after = inner.after; before = inner.before };
-            }),
+            (
+              found.0,
+              record {
+                stands = found.1;
+                same_mark = found.2;
+                over = record { after = inner.after; before = inner.before };
+              },
+            ),
             record { after = inner.above; before = inner.under },
           )
 

@@ -1,27 +1,24 @@
 -- Worked lists: the premises of the law hold for two equal lists, and fail, as its conclusion does,
 -- where a patch is cut in two.
-use Rattle.std.proofs.Common.{◌≡◌, refl, sym, ap, inl, inr, ℕ, pos, true, false, Bool, List, [], ◌∷◌}
-use Rattle.std.proofs.Common.{◌<ℤ◌, ◌≤ℤ◌, ◌-ℤ◌, arith, IsTrue, ℤ, ◌*ℤ◌, ◌+ℤ◌}
+use Rattle.std.proofs.Common.{◌≡◌, refl, ap, inl, inr, ℕ, pos, true, false, Bool, List, [], ◌∷◌}
+use Rattle.std.proofs.Common.{◌-ℤ◌, arith, IsTrue}
 use Rattle.std.proofs.lemmas.Int.{ints}
-use Rattle.std.specs.List.{AllByRecursion}
-use Rattle.sb_whole.specs.Arrows.{Arrow, arrow, cross, dot}
-use Rattle.sb_whole.specs.Rationals.{IsRational, rational, IsSame}
-use Rattle.sb_whole.specs.Reduced.{IsReduced}
+use Rattle.sb_whole.specs.Arrows.{Arrow, cross, dot}
+use Rattle.sb_whole.specs.Rationals.{IsRational, rational}
 use Rattle.std.proofs.lemmas.Bool.{and_parts}
 use Rattle.std.proofs.Common.{◌&&◌}
 use Rattle.sb_whole.proofs.Signs.{at_most_from}
 use Rattle.sb_whole.proofs.Reduced.{whole_is_reduced}
-use Rattle.sb_plane.specs.Sides.{LineSide, level, clearance, clearance_at}
-use Rattle.sb_plane.specs.Points.{FacePoint, IsFacePoint, face_point}
-use Rattle.sb_plane.specs.Regions.{Region, IsRegion, is_region, is_inside, is_seam, IsCommon}
+use Rattle.sb_plane.specs.Sides.{level, clearance, clearance_at}
+use Rattle.sb_plane.specs.Points.{face_point}
+use Rattle.sb_plane.specs.Regions.{is_region, is_seam}
 use Rattle.sb_plane.specs.Regions.{closures_meet, is_reached, reaches_under}
 use Rattle.sb_plane.proofs.Regions.{region_from}
 use Rattle.sb_plane.proofs.Closures.{test_from_common, common_from_test}
-use Rattle.sb_patches.specs.Lists.{Stands, AllOfTwo}
+use Rattle.sb_patches.specs.Lists.{Stands}
 use Rattle.sb_patches.specs.Marked.{MarkedPatch, IsPatch}
-use Rattle.sb_patches.specs.Sheets.{Sheet, IsSheet, IsNoAbscissa, IsOffCuts, IsMarkedAt}
-use Rattle.sb_patches.specs.Sheets.{ArePlainOffCuts, HaveSameMarks}
-use Rattle.sb_patches.specs.Trimmed.{AreApart, HaveNoSeam, AreTrimmed, IsTrimmed, IsTrimmedList}
+use Rattle.sb_patches.specs.Sheets.{Sheet, IsSheet, IsNoAbscissa, IsMarkedAt}
+use Rattle.sb_patches.specs.Trimmed.{AreApart, HaveNoSeam, AreTrimmed, IsTrimmedList}
 use Rattle.sb_patches.specs.Laws.{CoverAlike, HaveSamePatches}
 
 -- ---- patches: rectangles [from, to] x [bottom, top], marked by a number
@@ -126,22 +123,32 @@ left_above_no_seam = record { first_before = refl; second_before = refl }
 squares_are_trimmed : IsTrimmedList sheet squares
 squares_are_trimmed =
     record {
-      patches =
-          (block_is_patch 7 0 1 0 1 left_is_region,
-          (block_is_patch 8 1 2 0 1 right_is_region,
-          (block_is_patch 7 0 1 2 3 above_is_region, tt)));
-      trimmed =
-          ((record {
+      patches = (
+        block_is_patch 7 0 1 0 1 left_is_region,
+        (
+          block_is_patch 8 1 2 0 1 right_is_region,
+          (block_is_patch 7 0 1 2 3 above_is_region, tt),
+        ),
+      );
+      trimmed = (
+        (
+          record {
             apart = λ same. absurd (omega arith);
             no_seam = λ same. absurd (omega arith);
           },
-          (record { apart = λ same. left_apart_above; no_seam = λ same. left_above_no_seam }, tt)),
-          ((record {
-            apart = λ same. absurd (omega arith);
-            no_seam = λ same. absurd (omega arith);
-          },
-          tt),
-          (tt, tt)));
+          (record { apart = λ same. left_apart_above; no_seam = λ same. left_above_no_seam }, tt),
+        ),
+        (
+          (
+            record {
+              apart = λ same. absurd (omega arith);
+              no_seam = λ same. absurd (omega arith);
+            },
+            tt,
+          ),
+          (tt, tt),
+        ),
+      );
     }
 
 -- where all points are plain, the premises of the law hold for the list and itself

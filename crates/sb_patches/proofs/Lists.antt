@@ -1,6 +1,6 @@
 -- What holds of all items of a list holds of one that stands in it; two items are one, or stand at
 -- different places.
-use Rattle.std.proofs.Common.{◌≡◌, refl, sym, ◌∙◌, inl, inr, ◌⊎◌, subst, List, [], ◌∷◌, map}
+use Rattle.std.proofs.Common.{◌≡◌, sym, ◌∙◌, inl, inr, ◌⊎◌, subst, List, [], ◌∷◌, map}
 use Rattle.std.specs.List.{AllByRecursion}
 use Rattle.sb_patches.specs.Lists.{Stands, AllOfTwo}
 

@@ -1,16 +1,16 @@
 -- Just before and just after each number there is an interval without a number of a finite list.
-use Rattle.std.proofs.Common.{◌≡◌, ◌∙◌, ◌⊎◌, inl, inr, arith, pos, ◌≤ℤ◌, List, [], ◌∷◌, map}
+use Rattle.std.proofs.Common.{◌∙◌, ◌⊎◌, inl, inr, arith, List, [], ◌∷◌, map}
 use Rattle.std.proofs.lemmas.Int.{ints}
 use Rattle.std.specs.List.{AllByRecursion}
-use Rattle.sb_whole.specs.Arrows.{Arrow, cross}
+use Rattle.sb_whole.specs.Arrows.{Arrow}
 use Rattle.sb_whole.specs.Rationals.{IsRational, IsBelow, IsAtMost, IsSame, form_of}
 use Rattle.sb_whole.specs.Rationals.{IsForm}
-use Rattle.sb_whole.specs.Intervals.{Keeps, AllKeep, clear_end, clear_start}
+use Rattle.sb_whole.specs.Intervals.{AllKeep, clear_end, clear_start}
 use Rattle.sb_whole.proofs.Arrows.{cross-self}
 use Rattle.sb_whole.proofs.Rationals.{below_at_most_trans, at_most_below_trans, same_sym}
 use Rattle.sb_whole.proofs.Rationals.{below_or_not}
 use Rattle.sb_whole.proofs.Clear.{clear_to, clear_from}
-use Rattle.sb_whole.proofs.Avoid.{IsOffZero, IsOther, not_zero_where_kept, value-form_of}
+use Rattle.sb_whole.proofs.Avoid.{IsOther, not_zero_where_kept, value-form_of}
 use Rattle.sb_whole.proofs.Avoid.{form_of_is_form}
 use Rattle.sb_patches.specs.Lists.{Stands}
 use Rattle.sb_patches.proofs.Lists.{all_stands}

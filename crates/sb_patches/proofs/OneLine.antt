@@ -1,17 +1,17 @@
 -- Intervals on one line that are apart and cover what lies strictly between a and b, but for
 -- finitely many numbers: one of them covers all of it.
-use Rattle.std.proofs.Common.{◌≡◌, sym, inl, inr, ◌⊎◌, subst, List}
+use Rattle.std.proofs.Common.{◌≡◌, sym, subst, List}
 use Rattle.std.specs.List.{AllByRecursion}
 use Rattle.sb_whole.specs.Arrows.{Arrow}
 use Rattle.sb_whole.specs.Rationals.{IsRational, IsBelow, IsAtMost, mediant}
 use Rattle.sb_whole.specs.Intervals.{another}
-use Rattle.sb_whole.proofs.Rationals.{below_trans, below_irrefl, below_or_not}
+use Rattle.sb_whole.proofs.Rationals.{below_trans, below_irrefl}
 use Rattle.sb_whole.proofs.Rationals.{at_most_below_trans, below_at_most_trans}
 use Rattle.sb_whole.proofs.Rationals.{at_most_from_below, mediant-IsRational, mediant_between}
 use Rattle.sb_whole.proofs.Avoid.{IsOther, another_is}
 use Rattle.sb_patches.specs.Lists.{Stands}
 use Rattle.sb_patches.proofs.Lists.{all_stands}
-use Rattle.sb_patches.proofs.NoneBetween.{IsNoneBetween, IsFreeBefore, IsFreeAfter, free_before}
+use Rattle.sb_patches.proofs.NoneBetween.{IsFreeBefore, IsFreeAfter, free_before}
 use Rattle.sb_patches.proofs.NoneBetween.{free_after, other_between, beyond_end}
 use Rattle.sb_patches.proofs.NoneBetween.{before_start, at_least_if_not_below}
 

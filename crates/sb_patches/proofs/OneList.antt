@@ -1,12 +1,11 @@
 -- The law of patches: two spaced lists that cover alike hold the same patches; and so do two trimmed
 -- lists that put the same plain points under the same marks.
-use Rattle.std.proofs.Common.{◌≡◌, ◌↔◌, refl, sym, ◌∙◌, inl, inr, ◌⊎◌, ap, subst, arith, List, [], ◌∷◌}
-use Rattle.std.proofs.Common.{pos, ◌<ℤ◌, ◌≤ℤ◌, ◌-ℤ◌, ◌*ℤ◌, Bool, true, false, IsTrue, IsPermutation}
+use Rattle.std.proofs.Common.{◌≡◌, refl, sym, ◌∙◌, subst, arith, List}
+use Rattle.std.proofs.Common.{pos, ◌-ℤ◌, ◌*ℤ◌, IsTrue, IsPermutation}
 use Rattle.std.proofs.lemmas.Int.{ints}
 use Rattle.std.proofs.lemmas.Bool.{false_from_ne_true}
-use Rattle.std.specs.List.{AllByRecursion}
 use Rattle.sb_whole.specs.Arrows.{Arrow, cross}
-use Rattle.sb_whole.specs.Rationals.{IsRational, IsBelow, IsAtMost, IsSame}
+use Rattle.sb_whole.specs.Rationals.{IsRational, IsAtMost, IsSame}
 use Rattle.sb_whole.specs.Reduced.{IsReduced}
 use Rattle.sb_whole.proofs.Shapes.{var, plus, times, equal, cross_by, cross_is, cross_eq}
 use Rattle.sb_whole.proofs.Ring.{mul_comm}
@@ -18,7 +17,7 @@ use Rattle.sb_whole.proofs.Rationals.{at_most_below_trans, below_at_most_trans}
 use Rattle.sb_plane.specs.Sides.{LineSide, value_on}
 use Rattle.sb_plane.specs.Points.{FacePoint, IsFacePoint, point_at, abscissa_of, ordinate_of}
 use Rattle.sb_plane.specs.Points.{is_on_side}
-use Rattle.sb_plane.specs.Regions.{Region, IsRegion}
+use Rattle.sb_plane.specs.Regions.{Region}
 use Rattle.sb_plane.proofs.Points.{inner_from, inner_passes, on_is}
 use Rattle.sb_patches.specs.Lists.{Stands}
 use Rattle.sb_patches.specs.Marked.{MarkedPatch, IsPatch}
@@ -28,10 +27,10 @@ use Rattle.sb_patches.specs.Laws.{CoverAlike, HaveSamePatches, HasLawOfPatches}
 use Rattle.sb_patches.specs.Laws.{HasOneListOfPatches}
 use Rattle.sb_patches.proofs.SameMembers.{permuted_if_same_members}
 use Rattle.sb_patches.proofs.StandsOnce.{stands_once}
-use Rattle.sb_patches.proofs.Spaced.{IsSpacedList, patch_there, trimmed_is_spaced}
+use Rattle.sb_patches.proofs.Spaced.{patch_there, trimmed_is_spaced}
 use Rattle.sb_patches.proofs.CutLine.{AreTwoCovers, CoversAlso, IsOnNoCut, exchanged}
 use Rattle.sb_patches.proofs.Lists.{all_follow}
-use Rattle.sb_patches.proofs.SameLines.{IsOverStretch, same_lines}
+use Rattle.sb_patches.proofs.SameLines.{same_lines}
 use Rattle.sb_patches.proofs.AsLong.{HaveOneSides, one_if_overlapping, starts_by, ends_by}
 
 -- reduced fractions of one value are equal
@@ -54,7 +53,7 @@ same_region : (p q : Region) → p.low ≡ q.low → p.high ≡ q.high → p.low
     → p.upper ≡ q.upper → p ≡ q
 same_region p q low high lower upper =
     let whole
-        : region_of p.low p.high p.lower p.upper ≡ region_of q.low q.high q.lower q.upper =
+    : region_of p.low p.high p.lower p.upper ≡ region_of q.low q.high q.lower q.upper =
     cc
     in
     whole

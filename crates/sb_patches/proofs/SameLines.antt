@@ -1,14 +1,13 @@
 -- Over each stretch of a patch stands a patch of the other list with its mark and its two sides: a u
 -- is chosen at which no two different sides have one value.
-use Rattle.std.proofs.Common.{◌≡◌, refl, sym, ◌∙◌, inl, inr, ◌⊎◌, arith, List, [], ◌∷◌, map}
-use Rattle.std.proofs.Common.{Bool, true, false, cond, if◌then◌else◌, pos, ◌≤ℤ◌, Decides}
+use Rattle.std.proofs.Common.{◌≡◌, refl, ◌∙◌, inl, inr, arith, List, [], ◌∷◌, map}
+use Rattle.std.proofs.Common.{Bool, true, false, if◌then◌else◌, pos}
 use Rattle.std.proofs.lemmas.Int.{ints}
 use Rattle.std.specs.List.{AllByRecursion}
-use Rattle.sb_whole.specs.Arrows.{Arrow, arrow, cross}
-use Rattle.sb_whole.specs.Rationals.{IsRational, IsBelow, IsAtMost, IsSame, IsForm, value_at}
+use Rattle.sb_whole.specs.Arrows.{Arrow, arrow}
+use Rattle.sb_whole.specs.Rationals.{IsRational, IsBelow, IsAtMost, IsForm}
 use Rattle.sb_whole.specs.Rationals.{form_of}
 use Rattle.sb_whole.specs.Intervals.{avoiding}
-use Rattle.sb_whole.proofs.Shapes.{dot_eq}
 use Rattle.sb_whole.proofs.Rationals.{at_most_below_trans, below_at_most_trans}
 use Rattle.sb_whole.proofs.Avoid.{IsOffZero, avoiding_is, value-form_of, form_of_is_form}
 use Rattle.sb_plane.specs.Sides.{LineSide, IsReducedSide, clearance, clearance_at, is_same_side}
@@ -16,8 +15,8 @@ use Rattle.sb_plane.proofs.SameSide.{same_side_decides, other_side_is_form}
 use Rattle.sb_patches.specs.Lists.{Stands}
 use Rattle.sb_patches.specs.Marked.{MarkedPatch, IsPatch}
 use Rattle.sb_patches.specs.Sheets.{Sheet, IsNoAbscissa}
-use Rattle.sb_patches.proofs.Lists.{all_stands, all_of_images, all_images, all_follow}
-use Rattle.sb_patches.proofs.Spaced.{IsOver, patch_there}
+use Rattle.sb_patches.proofs.Lists.{all_of_images, all_images, all_follow}
+use Rattle.sb_patches.proofs.Spaced.{patch_there}
 use Rattle.sb_patches.proofs.CutLine.{AreTwoCovers, IsOnLine, cut_line}
 
 -- ---- the forms that tell two sides apart
@@ -71,8 +70,10 @@ unfolding forms_with
 forms_with_are_forms p p_in [] patches others others_in = others_in
 forms_with_are_forms p p_in (q ∷ qs) patches others others_in = (
   difference_is_form p.region.lower q.region.lower p_in.lower_reduced patches.0.lower_reduced,
-  (difference_is_form p.region.upper q.region.upper p_in.upper_reduced patches.0.upper_reduced,
-  forms_with_are_forms p p_in qs patches.1 others others_in),
+  (
+    difference_is_form p.region.upper q.region.upper p_in.upper_reduced patches.0.upper_reduced,
+    forms_with_are_forms p p_in qs patches.1 others others_in,
+  ),
 )
 
 others_with : {M : Type 0} (P : Arrow → Type 0) (p : MarkedPatch M) (qs : List (MarkedPatch M))

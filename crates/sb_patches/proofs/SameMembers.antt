@@ -1,13 +1,13 @@
 -- Two lists with the same members, in neither of which one stands twice, are the same list in another
 -- order.
-use Rattle.std.proofs.Common.{◌≡◌, refl, sym, ◌∙◌, inl, inr, ◌⊎◌, ap, subst, List, [], ◌∷◌, ◌++◌}
+use Rattle.std.proofs.Common.{◌≡◌, refl, sym, inl, inr, ◌⊎◌, ap, subst, List, [], ◌∷◌, ◌++◌}
 use Rattle.std.proofs.Common.{IsPermutation}
 use Rattle.std.specs.List.{AllByRecursion}
 use Rattle.std.proofs.lemmas.List.Sorted.{IsPermutation-refl, IsPermutation-cons}
 use Rattle.std.proofs.lemmas.List.Sorted.{IsPermutation-trans, IsPermutation-sym}
 use Rattle.std.proofs.lemmas.List.Sorted.{IsPermutation-middle}
 use Rattle.sb_patches.specs.Lists.{Stands, AllOfTwo}
-use Rattle.sb_patches.proofs.Lists.{all_stands, all_follow}
+use Rattle.sb_patches.proofs.Lists.{all_stands}
 
 -- no item stands at two places
 abbrev pub AreOnce : {X : Type 0} → List X → Type 0

@@ -1,6 +1,6 @@
 -- Two patches of one mark in a trimmed list are one, or lie apart: strictly inside both, on no line
 -- that is no abscissa, do their sides let them touch.
-use Rattle.std.proofs.Common.{◌≡◌, refl, sym, ◌∙◌, inl, inr, ◌⊎◌, pos, ◌≤ℤ◌, true, false, ◌&&◌, List}
+use Rattle.std.proofs.Common.{◌≡◌, sym, inl, inr, ◌⊎◌, pos, ◌≤ℤ◌, true, ◌&&◌, List}
 use Rattle.std.specs.List.{AllByRecursion}
 use Rattle.std.proofs.lemmas.Bool.{and_from}
 use Rattle.sb_whole.specs.Arrows.{Arrow, cross}
@@ -9,9 +9,8 @@ use Rattle.sb_whole.proofs.Signs.{test_at_most}
 use Rattle.sb_whole.proofs.Rationals.{at_most_from_below}
 use Rattle.sb_plane.specs.Sides.{clearance_at}
 use Rattle.sb_plane.specs.Regions.{Region, IsRegion, closures_meet, is_reached, reaches_under}
-use Rattle.sb_plane.specs.Regions.{is_seam}
 use Rattle.sb_plane.proofs.Closures.{common_from_test}
-use Rattle.sb_patches.specs.Lists.{Stands, AllOfTwo}
+use Rattle.sb_patches.specs.Lists.{Stands}
 use Rattle.sb_patches.specs.Marked.{MarkedPatch, IsPatch}
 use Rattle.sb_patches.specs.Sheets.{Sheet, IsNoAbscissa}
 use Rattle.sb_patches.specs.Trimmed.{AreApart, HaveNoSeam, AreTrimmed, IsTrimmedList}

@@ -1,8 +1,7 @@
 -- In a trimmed list no patch stands twice: it would touch itself.
-use Rattle.std.proofs.Common.{◌≡◌, refl, ap, subst, sym, arith, pos, ◌≤ℤ◌, List, [], ◌∷◌}
+use Rattle.std.proofs.Common.{◌≡◌, ap, subst, sym, arith, pos, ◌≤ℤ◌, List, [], ◌∷◌}
 use Rattle.std.proofs.lemmas.Int.{ints}
 use Rattle.std.specs.List.{AllByRecursion}
-use Rattle.sb_whole.specs.Arrows.{Arrow}
 use Rattle.sb_whole.specs.Intervals.{another}
 use Rattle.sb_whole.proofs.Rationals.{at_most_from_below, at_most_refl}
 use Rattle.sb_whole.proofs.Avoid.{another_is}
@@ -10,7 +9,6 @@ use Rattle.sb_plane.specs.Sides.{value_on, clearance_at}
 use Rattle.sb_plane.specs.Regions.{Region, IsRegion, IsInClosure}
 use Rattle.sb_plane.proofs.Clearance.{value_on-IsRational, at_least_is}
 use Rattle.sb_plane.proofs.Regions.{open_between}
-use Rattle.sb_patches.specs.Lists.{AllOfTwo}
 use Rattle.sb_patches.specs.Marked.{MarkedPatch, IsPatch}
 use Rattle.sb_patches.specs.Sheets.{Sheet, IsSheet}
 use Rattle.sb_patches.specs.Trimmed.{AreApart, AreTrimmed, IsTrimmed, IsTrimmedList}

@@ -13,5 +13,4 @@ ghost use Rattle.sb_patches.specs.Laws.{HasLawOfPatches, HasOneListOfPatches};
 pub fn law_of_patches<M>()
     ensures same_patches { HasLawOfPatches M }
     ensures one_list { HasOneListOfPatches M }
-{
-}
+{}
