@@ -10,7 +10,8 @@ use Rattle.sb_whole.proofs.Products.{positive_product}
 use Rattle.sb_whole.proofs.Reduced.{reduced_unique}
 use Rattle.sb_whole.proofs.Arrows.{same_arrow, cross-mirror, mirror-cross, cross-mirror_comm}
 use Rattle.sb_whole.proofs.Ring.{mul_comm}
-use Rattle.sb_whole.proofs.Rationals.{below_trans, below_or_not, at_most_below_trans, below_at_most_trans}
+use Rattle.sb_whole.proofs.Rationals.{below_trans, below_or_not, at_most_below_trans}
+use Rattle.sb_whole.proofs.Rationals.{below_at_most_trans}
 use Rattle.sb_whole.proofs.Rationals.{mediant-IsRational, mediant_between}
 use Rattle.sb_cuttings.specs.Ends.{IsEnd, IsOpen, IsAfter, IsBefore, IsFrom, IsUpTo}
 use Rattle.sb_cuttings.specs.Ends.{mirror_end}
@@ -71,12 +72,16 @@ pub record IsBetween (low high : Option Arrow) (u : Arrow) : Type 0 where
 
 one_less : (t : Arrow) → cross (arrow t.x (t.y -ℤ t.x)) t ≡ t.x *ℤ t.x
 one_less t =
-    equal (cross_by (arrow t.x (t.y -ℤ t.x)) t (var t.x) (minus (var t.y) (var t.x)) (var t.x) (var t.y))
+    equal
+    (cross_by (arrow t.x (t.y -ℤ t.x)) t (var t.x) (minus (var t.y) (var t.x)) (var t.x)
+    (var t.y))
     (times (var t.x) (var t.x)) (omega arith)
 
 one_more : (r : Arrow) → cross r (arrow r.x (r.y +ℤ r.x)) ≡ r.x *ℤ r.x
 one_more r =
-    equal (cross_by r (arrow r.x (r.y +ℤ r.x)) (var r.x) (var r.y) (var r.x) (plus (var r.y) (var r.x)))
+    equal
+    (cross_by r (arrow r.x (r.y +ℤ r.x)) (var r.x) (var r.y) (var r.x)
+    (plus (var r.y) (var r.x)))
     (times (var r.x) (var r.x)) (omega arith)
 
 -- between open ends there is a number

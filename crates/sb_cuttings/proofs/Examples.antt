@@ -161,7 +161,8 @@ squash_drops_zero = refl
 
 -- and what is left is no cutting: so squash needs its premise
 nothing_is_left : IsReducedCutting spike None None 5 [] → ⊥
-nothing_is_left reduced = not_six_and_five refl (reduced.cutting.1 ray_start (omega (arith, ints)) tt tt)
+nothing_is_left reduced =
+    not_six_and_five refl (reduced.cutting.1 ray_start (omega (arith, ints)) tt tt)
 
 -- ---- changes, computed on labels 1, 1, 2, 4 with breaks at 1, 2, 3
 

@@ -1,5 +1,5 @@
--- Mapping the labels of a cutting of f by g gives a cutting of g after f, and grouping its breaks into
--- runs of one g-label gives the reduced one.
+-- Mapping the labels of a cutting of f by g gives a cutting of g after f, and grouping its breaks
+-- into runs of one g-label gives the reduced one.
 use Rattle.std.proofs.Common.{◌≡◌, refl, sym, ◌∙◌, ap, subst, Bool, true, false, cond, Decides}
 use Rattle.std.proofs.Common.{Option, Some, List, [], ◌∷◌, ◌++◌}
 use Rattle.std.specs.List.{AllByRecursion}

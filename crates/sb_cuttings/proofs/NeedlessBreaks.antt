@@ -1,4 +1,5 @@
--- Where no point is odd, dropping the needless breaks leaves a reduced cutting of the same function.
+-- Where no point is odd, dropping the needless breaks leaves a reduced cutting of the same
+-- function.
 use Rattle.std.proofs.Common.{◌≡◌, refl, sym, ◌∙◌, inl, inr, ◌⊎◌, subst, Bool, true, false, cond}
 use Rattle.std.proofs.Common.{Option, Some, List, [], ◌∷◌, Decides}
 use Rattle.sb_whole.specs.Arrows.{Arrow}

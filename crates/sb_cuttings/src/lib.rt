@@ -1,8 +1,8 @@
 //! Cuttings of a line: functions of the rational numbers that have one label on each piece of an
 //! interval. Theory alone: the two functions have no body, their contracts are laws.
 //!
-//! Start with `specs/Cuttings.antt`, which says what a cutting is; `specs/Changes.antt` says what is
-//! done with cuttings, and `specs/Laws.antt` what is promised here.
+//! Start with `specs/Cuttings.antt`, which says what a cutting is; `specs/Changes.antt` says what
+//! is done with cuttings, and `specs/Laws.antt` what is promised here.
 #![tactic(auto)]
 
 ghost use Rattle.sb_cuttings.specs.Laws.{HasOneCutting, IsReducedBySquash};

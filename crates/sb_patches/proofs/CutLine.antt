@@ -1,11 +1,11 @@
--- On a line u = constant that is no abscissa a patch of the one list has between the same two values
--- a patch of the other, with its mark.
+-- On a line u = constant that is no abscissa a patch of the one list has between the same two
+-- values a patch of the other, with its mark.
 use Rattle.std.proofs.Common.{◌≡◌, sym, ◌∙◌, inl, inr, ◌⊎◌, ap, subst, arith, List, [], ◌∷◌, map}
 use Rattle.std.proofs.Common.{pos, ◌≤ℤ◌}
 use Rattle.std.proofs.lemmas.Int.{ints}
 use Rattle.std.specs.List.{AllByRecursion}
 use Rattle.sb_whole.specs.Arrows.{Arrow}
-use Rattle.sb_whole.specs.Rationals.{IsRational, IsAtMost, IsSame}
+use Rattle.sb_whole.specs.Rationals.{IsRational, IsAtMost}
 use Rattle.sb_whole.proofs.Avoid.{IsOther}
 use Rattle.sb_plane.specs.Sides.{LineSide, value_on, clearance_at}
 use Rattle.sb_plane.specs.Regions.{Region, IsRegion, IsInner}
@@ -18,39 +18,7 @@ use Rattle.sb_patches.specs.Sheets.{Sheet, IsSheet, IsNoAbscissa}
 use Rattle.sb_patches.proofs.Lists.{all_of_images, all_images, all_follow}
 use Rattle.sb_patches.proofs.OneLine.{AreIntervals, Covers, one_covers}
 use Rattle.sb_patches.proofs.Spaced.{IsOver, AreSpaced, IsSpacedList, patch_there}
-
--- ---- what the law rests on
-
--- v lies on no cut at u
-abbrev pub IsOnNoCut : Sheet → Arrow → Arrow → Type 0
-IsOnNoCut sheet u v = AllByRecursion (λ cut. IsSame (value_on cut u) v → ⊥) sheet.cuts
-
--- where a patch of the first list contains a point off the cuts, one of the second with its mark does
-abbrev pub CoversAlso : {M : Type 0} → Sheet → List (MarkedPatch M) → List (MarkedPatch M) → Type 0
-CoversAlso {M} sheet ps qs =
-    (u v : Arrow) → IsRational u → IsRational v → IsNoAbscissa sheet u → IsOnNoCut sheet u v
-    → (p : MarkedPatch M) → Stands p ps → IsInner p.region u v
-    → (q : MarkedPatch M) × Stands q qs × (q.mark ≡ p.mark) × IsInner q.region u v
-
--- two spaced lists that cover alike
-pub record AreTwoCovers {M : Type 0} (sheet : Sheet) (ps qs : List (MarkedPatch M)) : Type 0 where
-  pub sheet_in : IsSheet sheet
-  pub first : IsSpacedList sheet ps
-  pub second : IsSpacedList sheet qs
-  pub there : CoversAlso sheet ps qs
-  pub back : CoversAlso sheet qs ps
-
--- the same, seen from the other list
-pub exchanged : {M : Type 0} (sheet : Sheet) (ps qs : List (MarkedPatch M))
-    → AreTwoCovers sheet ps qs → AreTwoCovers sheet qs ps
-exchanged sheet ps qs two =
-    record {
-      sheet_in = two.sheet_in;
-      first = two.second;
-      second = two.first;
-      there = two.back;
-      back = two.there;
-    }
+use Rattle.sb_patches.proofs.SamePoints.{AreTwoCovers, exchanged}
 
 -- ---- the values at u of all cuts and sides
 

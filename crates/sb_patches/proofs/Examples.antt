@@ -1,6 +1,6 @@
--- Worked lists: the premises of the law hold for two equal lists, and fail, as its conclusion does,
--- where a patch is cut in two.
-use Rattle.std.proofs.Common.{◌≡◌, refl, ap, inl, inr, ℕ, pos, true, false, Bool, List, [], ◌∷◌}
+-- Worked lists of patches: the premises of the law hold for two equal lists, and patches of one mark
+-- that touch are refused.
+use Rattle.std.proofs.Common.{◌≡◌, refl, inl, ℕ, pos, true, List, [], ◌∷◌}
 use Rattle.std.proofs.Common.{◌-ℤ◌, arith, IsTrue}
 use Rattle.std.proofs.lemmas.Int.{ints}
 use Rattle.sb_whole.specs.Arrows.{Arrow, cross, dot}
@@ -11,19 +11,18 @@ use Rattle.sb_whole.proofs.Signs.{at_most_from}
 use Rattle.sb_whole.proofs.Reduced.{whole_is_reduced}
 use Rattle.sb_plane.specs.Sides.{level, clearance, clearance_at}
 use Rattle.sb_plane.specs.Points.{face_point}
-use Rattle.sb_plane.specs.Regions.{is_region, is_seam}
+use Rattle.sb_plane.specs.Regions.{is_region}
 use Rattle.sb_plane.specs.Regions.{closures_meet, is_reached, reaches_under}
 use Rattle.sb_plane.proofs.Regions.{region_from}
 use Rattle.sb_plane.proofs.Closures.{test_from_common, common_from_test}
-use Rattle.sb_patches.specs.Lists.{Stands}
 use Rattle.sb_patches.specs.Marked.{MarkedPatch, IsPatch}
 use Rattle.sb_patches.specs.Sheets.{Sheet, IsSheet, IsNoAbscissa, IsMarkedAt}
-use Rattle.sb_patches.specs.Trimmed.{AreApart, HaveNoSeam, AreTrimmed, IsTrimmedList}
-use Rattle.sb_patches.specs.Laws.{CoverAlike, HaveSamePatches}
+use Rattle.sb_patches.specs.Trimmed.{AreApart, HaveNoSeam, IsTrimmedList}
+use Rattle.sb_patches.specs.Laws.{CoverAlike}
 
 -- ---- patches: rectangles [from, to] x [bottom, top], marked by a number
 
-abbrev block : ℕ → ℕ → ℕ → ℕ → ℕ → MarkedPatch ℕ
+abbrev pub block : ℕ → ℕ → ℕ → ℕ → ℕ → MarkedPatch ℕ
 block mark from to bottom top =
     record {
       region =
@@ -37,7 +36,8 @@ block mark from to bottom top =
     }
 
 -- a rectangle of whole numbers is a patch where it passes the test of a region
-block_is_patch : (mark from to bottom top : ℕ) → is_region (block mark from to bottom top).region ≡ true
+pub block_is_patch : (mark from to bottom top : ℕ)
+    → is_region (block mark from to bottom top).region ≡ true
     → IsPatch (block mark from to bottom top).region
 block_is_patch mark from to bottom top answer =
     record {
@@ -62,7 +62,7 @@ abbrev squares : List (MarkedPatch ℕ)
 squares = left ∷ right ∷ above ∷ []
 
 -- a sheet with the abscissae 0, 1 and 2 and no cut
-abbrev sheet : Sheet
+abbrev pub sheet : Sheet
 sheet =
     record {
       abscissae =
@@ -70,7 +70,7 @@ sheet =
       cuts = [];
     }
 
-sheet_is : IsSheet sheet
+pub sheet_is : IsSheet sheet
 sheet_is =
     record {
       abscissae_in =
@@ -167,38 +167,6 @@ squares_cover_alike =
 middle_is_marked : IsMarkedAt squares (face_point (pos 1) (pos 1) (pos 2)) 7
 unfolding cross
 middle_is_marked = (left, inl refl, refl, refl)
-
--- ---- one patch cut in two
-
-abbrev whole : MarkedPatch ℕ
-whole = block 7 0 2 0 1
-
-abbrev halves : List (MarkedPatch ℕ)
-halves = left ∷ block 7 1 2 0 1 ∷ []
-
--- the two lists do not hold the same patches
-halves_are_not_whole : HaveSamePatches (whole ∷ []) halves → ⊥
-halves_are_not_whole same = from ((same whole).0 (inl refl))
-  where
-    from : Stands whole halves → ⊥
-    from (inl one) =
-        let ends : pos 2 ≡ pos 1 = ap (λ p. p.region.high.y) one in omega (arith, ints)
-    from (inr (inl one)) =
-        let ends : pos 0 ≡ pos 1 = ap (λ p. p.region.low.y) one in omega (arith, ints)
-    from (inr (inr none)) = none
-
--- and the halves are not trimmed: they have a seam, though 1 is an abscissa
-halves_have_seam : is_seam left.region (block 7 1 2 0 1).region ≡ true
-unfolding cross dot clearance
-halves_have_seam = refl
-
-halves_are_not_trimmed : IsTrimmedList sheet halves → ⊥
-halves_are_not_trimmed list =
-    let two : AreTrimmed sheet left (block 7 1 2 0 1) = list.trimmed.0.0 in
-    clash (two.no_seam refl).first_before halves_have_seam
-  where
-    clash : {b : Bool} → b ≡ false → b ≡ true → ⊥
-    clash none both = cc
 
 -- ---- two patches of one mark that touch
 

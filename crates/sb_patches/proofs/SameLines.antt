@@ -1,12 +1,11 @@
--- Over each stretch of a patch stands a patch of the other list with its mark and its two sides: a u
--- is chosen at which no two different sides have one value.
-use Rattle.std.proofs.Common.{◌≡◌, refl, ◌∙◌, inl, inr, arith, List, [], ◌∷◌, map}
-use Rattle.std.proofs.Common.{Bool, true, false, if◌then◌else◌, pos}
+-- Over each stretch of a patch stands a patch of the other list with its mark and its two sides: a
+-- u is chosen at which no two different sides have one value.
+use Rattle.std.proofs.Common.{if◌then◌else◌, ◌≡◌, refl, ◌∙◌, inl, inr, arith, List, [], ◌∷◌, map, Bool, true}
+use Rattle.std.proofs.Common.{false, pos}
 use Rattle.std.proofs.lemmas.Int.{ints}
 use Rattle.std.specs.List.{AllByRecursion}
 use Rattle.sb_whole.specs.Arrows.{Arrow, arrow}
-use Rattle.sb_whole.specs.Rationals.{IsRational, IsBelow, IsAtMost, IsForm}
-use Rattle.sb_whole.specs.Rationals.{form_of}
+use Rattle.sb_whole.specs.Rationals.{IsRational, IsBelow, IsAtMost, IsForm, form_of}
 use Rattle.sb_whole.specs.Intervals.{avoiding}
 use Rattle.sb_whole.proofs.Rationals.{at_most_below_trans, below_at_most_trans}
 use Rattle.sb_whole.proofs.Avoid.{IsOffZero, avoiding_is, value-form_of, form_of_is_form}
@@ -17,7 +16,8 @@ use Rattle.sb_patches.specs.Marked.{MarkedPatch, IsPatch}
 use Rattle.sb_patches.specs.Sheets.{Sheet, IsNoAbscissa}
 use Rattle.sb_patches.proofs.Lists.{all_of_images, all_images, all_follow}
 use Rattle.sb_patches.proofs.Spaced.{patch_there}
-use Rattle.sb_patches.proofs.CutLine.{AreTwoCovers, IsOnLine, cut_line}
+use Rattle.sb_patches.proofs.CutLine.{IsOnLine, cut_line}
+use Rattle.sb_patches.proofs.SamePoints.{AreTwoCovers}
 
 -- ---- the forms that tell two sides apart
 

@@ -1,5 +1,5 @@
--- Two lists with the same members, in neither of which one stands twice, are the same list in another
--- order.
+-- Two lists with the same members, in neither of which one stands twice, are the same list in
+-- another order.
 use Rattle.std.proofs.Common.{◌≡◌, refl, sym, inl, inr, ◌⊎◌, ap, subst, List, [], ◌∷◌, ◌++◌}
 use Rattle.std.proofs.Common.{IsPermutation}
 use Rattle.std.specs.List.{AllByRecursion}
