@@ -1,0 +1,2 @@
+pub mod StringsByRuns
+pub mod RunsAreLongest

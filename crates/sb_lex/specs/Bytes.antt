@@ -1,0 +1,86 @@
+-- The bytes that the grammar of tokens names, and its classes of bytes. White space is the bytes 9 to
+-- 13 and 32: ISO 10303-21 allows fewer, and this project reads them all.
+use Rattle.std.specs.Prelude.{ℕ, Bool, false, ◌&&◌, ◌||◌, ◌==◌, List, [], ◌∷◌}
+use Rattle.std.specs.Int.{is_in_range}
+use Rattle.std.specs.Char.{is_ascii_digit, is_ascii_uppercase}
+
+abbrev pub exclamation : ℕ
+exclamation = 33
+
+abbrev pub quote : ℕ
+quote = 34
+
+abbrev pub hash : ℕ
+hash = 35
+
+abbrev pub dollar : ℕ
+dollar = 36
+
+abbrev pub apostrophe : ℕ
+apostrophe = 39
+
+abbrev pub open_parenthesis : ℕ
+open_parenthesis = 40
+
+abbrev pub close_parenthesis : ℕ
+close_parenthesis = 41
+
+abbrev pub asterisk : ℕ
+asterisk = 42
+
+abbrev pub plus : ℕ
+plus = 43
+
+abbrev pub comma : ℕ
+comma = 44
+
+abbrev pub minus : ℕ
+minus = 45
+
+abbrev pub point : ℕ
+point = 46
+
+abbrev pub slash : ℕ
+slash = 47
+
+abbrev pub semicolon : ℕ
+semicolon = 59
+
+abbrev pub equals : ℕ
+equals = 61
+
+abbrev pub capital_e : ℕ
+capital_e = 69
+
+abbrev pub underscore : ℕ
+underscore = 95
+
+-- what a keyword or an enumeration begins with
+abbrev pub is_letter : ℕ → Bool
+is_letter b = is_ascii_uppercase b || b == underscore
+
+-- what it goes on with
+abbrev pub is_word_byte : ℕ → Bool
+is_word_byte b = is_letter b || is_ascii_digit b
+
+-- a digit of a binary, a to f only as capitals
+abbrev pub is_hex : ℕ → Bool
+is_hex b = is_ascii_digit b || is_in_range 65 70 b
+
+-- how many of the first four bits of a binary are filling: from 0 to 3
+abbrev pub is_filling : ℕ → Bool
+is_filling b = is_in_range 48 51 b
+
+abbrev pub is_sign : ℕ → Bool
+is_sign b = b == plus || b == minus
+
+abbrev pub is_white : ℕ → Bool
+is_white b = is_in_range 9 13 b || b == 32
+
+abbrev pub is_apostrophe : ℕ → Bool
+is_apostrophe b = b == apostrophe
+
+-- the first byte passes the test; there is one
+abbrev pub begins_with : (ℕ → Bool) → List ℕ → Bool
+begins_with test [] = false
+begins_with test (b ∷ bs) = test b

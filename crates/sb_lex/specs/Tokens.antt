@@ -1,0 +1,78 @@
+-- Where the tokens of an input lie, and where it has none.
+use Rattle.std.specs.Prelude.{◌≡◌, ◌≢◌, ℕ, ◌<◌, ◌≤◌, ◌↔◌, false, List, [], ◌∷◌, length, drop, slice_range, Option, Some, None, Result, Ok, Err}
+use Rattle.sb_lex.specs.declared.kinds.Kind.{Kind}
+use Rattle.sb_lex.specs.declared.kinds.Kind.TheVariants as kind
+use Rattle.sb_lex.specs.declared.kinds.Token.{Token}
+use Rattle.sb_lex.specs.declared.kinds.BadToken.{BadToken}
+use Rattle.sb_lex.specs.Sets.{Begins}
+use Rattle.sb_lex.specs.Bytes.{begins_with}
+use Rattle.sb_lex.specs.Kinds.{IsOf, not_after, BlankPiece, Blank}
+
+-- what stands at the span is of the kind, and what may not follow it does not
+pub record IsCandidate (input : List ℕ) (t : Token) : Type 0 where
+  pub ordered : t.start ≤ t.end
+  pub within : t.end ≤ length input
+  pub of_kind : IsOf t.kind (slice_range input t.start t.end)
+  pub free : begins_with (not_after t.kind) (drop t.end input) ≡ false
+
+-- the token at its place is the longest that could be there
+pub record IsToken (input : List ℕ) (t : Token) : Type 0 where
+  pub candidate : IsCandidate input t
+  pub longest : (other : Token) → IsCandidate input other → other.start ≡ t.start → other.end ≤ t.end
+
+-- from one place to another there are only white space and comments
+pub record IsGap (input : List ℕ) (from to : ℕ) : Type 0 where
+  pub ordered : from ≤ to
+  pub within : to ≤ length input
+  pub blank : Blank (slice_range input from to)
+
+-- the first token from a place on
+pub record IsNext (input : List ℕ) (from : ℕ) (t : Token) : Type 0 where
+  pub gap : IsGap input from t.start
+  pub token : IsToken input t
+
+-- behind white space and comments a byte stands with which no white space, comment or token begins
+pub record IsBadFrom (input : List ℕ) (from place : ℕ) : Type 0 where
+  pub gap : IsGap input from place
+  pub within : place < length input
+  pub no_blank : Begins BlankPiece (drop place input) → ⊥
+  pub no_token : (t : Token) → IsCandidate input t → t.start ≢ place
+
+-- only white space and comments are left
+abbrev pub IsEnd : List ℕ → ℕ → Type 0
+IsEnd input from = IsGap input from (length input)
+
+-- The tokens of the input from a place on, and what ends them: the end of the input, or a place where
+-- neither white space, a comment nor a token begins.
+abbrev pub AreTokensFrom : List ℕ → ℕ → List Token → Option BadToken → Type 0
+AreTokensFrom input from [] None = IsEnd input from
+AreTokensFrom input from [] (Some bad) = IsBadFrom input from bad.0
+AreTokensFrom input from (t ∷ ts) fault = IsNext input from t × AreTokensFrom input t.end ts fault
+
+abbrev pub AreTokens : List ℕ → List Token → Option BadToken → Type 0
+AreTokens input = AreTokensFrom input 0
+
+-- what a reader of tokens has: its input, and the place where it stands
+pub record Reading : Type 0 where
+  pub input : List ℕ
+  pub place : ℕ
+
+-- a call for the next token: what it answers, and where the reader stands after it
+abbrev pub Answers : Reading → Result (Option Token) BadToken → Type 0
+Answers at (Ok (Some t)) = IsNext at.input at.place t
+Answers at (Ok None) = IsEnd at.input at.place
+Answers at (Err bad) = IsBadFrom at.input at.place bad.0
+
+-- behind the token, at the end of the input, or at the bad place
+abbrev pub place_after : Reading → Result (Option Token) BadToken → ℕ
+place_after at (Ok (Some t)) = t.end
+place_after at (Ok None) = length at.input
+place_after at (Err bad) = bad.0
+
+-- a token, a string, an enumeration and a binary have bytes: the inside of the last three lies between
+-- the first byte and the last
+abbrev pub least_length : Kind → ℕ
+least_length kind.Str = 2
+least_length kind.Enumeration = 3
+least_length kind.Binary = 3
+least_length _ = 1
