@@ -1,2 +1,8 @@
 pub mod StringsByRuns
 pub mod RunsAreLongest
+pub mod PiecesJoin
+pub mod CommentsClose
+pub mod StringsEnd
+pub mod GapsAgree
+pub mod ScannedIsToken
+pub mod TokenIsScanned

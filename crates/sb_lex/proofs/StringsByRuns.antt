@@ -20,7 +20,7 @@ after-after m n None = refl
 after-after m n (Some k) = ap (λ i. Some i) (omega arith)
 
 -- a plain byte is one byte of the string
-string_len-plain : (b : ℕ) (bs : List ℕ) → is_apostrophe b ≡ false → string_len (b ∷ bs) ≡ after 1 (string_len bs)
+pub string_len-plain : (b : ℕ) (bs : List ℕ) → is_apostrophe b ≡ false → string_len (b ∷ bs) ≡ after 1 (string_len bs)
 string_len-plain b [] plain = rw plain
 string_len-plain b (c ∷ bs) plain = rw plain
 

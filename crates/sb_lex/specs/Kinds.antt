@@ -59,6 +59,10 @@ Exponent = Text (codes "E") ⋅ Signed Digits
 abbrev pub StringPiece : List ℕ → Type 0
 StringPiece xs = Byte (λ b. not (is_apostrophe b)) xs ⊎ Text (codes "''") xs
 
+-- a digit from 0 to 3, which counts the bits that fill up, and then hexadecimal digits
+abbrev pub HexDigits : List ℕ → Type 0
+HexDigits = Byte is_filling ⋅ Bytes is_hex
+
 -- the byte strings of a kind. That a string, an enumeration and a binary are longer than two bytes or
 -- just so long says where their inside lies: between their first byte and their last
 abbrev pub IsOf : Kind → List ℕ → Type 0
@@ -69,7 +73,7 @@ IsOf kind.Integer = Signed Digits
 IsOf kind.Real = Signed (Digits ⋅ Text (codes ".") ⋅ Bytes is_ascii_digit ⋅ Optional Exponent)
 IsOf kind.Str = Text (codes "'") ⋅ Repeated StringPiece ⋅ Text (codes "'")
 IsOf kind.Enumeration = Text (codes ".") ⋅ Letters ⋅ Text (codes ".")
-IsOf kind.Binary = Text (codes "\"") ⋅ Byte is_filling ⋅ Bytes is_hex ⋅ Text (codes "\"")
+IsOf kind.Binary = Text (codes "\"") ⋅ HexDigits ⋅ Text (codes "\"")
 IsOf (kind.Mark m) = Text (mark_byte m ∷ [])
 
 -- The bytes that may not follow a token of the kind directly. So a name takes all its digits, and the

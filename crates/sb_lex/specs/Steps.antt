@@ -24,25 +24,33 @@ abbrev pub after : ℕ → Option ℕ → Option ℕ
 after n None = None
 after n (Some m) = Some (n + m)
 
+-- which bytes begin what; the first row that has the byte counts
+abbrev pub heads : List ((ℕ → Bool) × Head)
+heads =
+    (is_letter, head.Letter)
+    ∷ (is_ascii_digit, head.Digit)
+    ∷ (is_sign, head.Sign)
+    ∷ ((λ b. b == exclamation), head.Exclamation)
+    ∷ ((λ b. b == hash), head.Hash)
+    ∷ (is_apostrophe, head.Apostrophe)
+    ∷ ((λ b. b == point), head.Point)
+    ∷ ((λ b. b == quote), head.Quote)
+    ∷ ((λ b. b == dollar), head.Mark mark.Dollar)
+    ∷ ((λ b. b == asterisk), head.Mark mark.Asterisk)
+    ∷ ((λ b. b == open_parenthesis), head.Mark mark.Open)
+    ∷ ((λ b. b == close_parenthesis), head.Mark mark.Close)
+    ∷ ((λ b. b == comma), head.Mark mark.Comma)
+    ∷ ((λ b. b == semicolon), head.Mark mark.Semicolon)
+    ∷ ((λ b. b == equals), head.Mark mark.Equals)
+    ∷ []
+
+abbrev pub first_head : List ((ℕ → Bool) × Head) → ℕ → Head
+first_head [] b = head.Other
+first_head (row ∷ rows) b = if row.0 b then row.1 else first_head rows b
+
 -- what a token that begins with the byte may be
 abbrev pub head_of : ℕ → Head
-head_of b =
-    if is_letter b then head.Letter
-    else if is_ascii_digit b then head.Digit
-    else if is_sign b then head.Sign
-    else if b == exclamation then head.Exclamation
-    else if b == hash then head.Hash
-    else if b == apostrophe then head.Apostrophe
-    else if b == point then head.Point
-    else if b == quote then head.Quote
-    else if b == dollar then head.Mark mark.Dollar
-    else if b == asterisk then head.Mark mark.Asterisk
-    else if b == open_parenthesis then head.Mark mark.Open
-    else if b == close_parenthesis then head.Mark mark.Close
-    else if b == comma then head.Mark mark.Comma
-    else if b == semicolon then head.Mark mark.Semicolon
-    else if b == equals then head.Mark mark.Equals
-    else head.Other
+head_of = first_head heads
 
 abbrev pub scan_words : List ℕ → Found
 scan_words rest =
