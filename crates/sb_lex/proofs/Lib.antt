@@ -6,3 +6,4 @@ pub mod StringsEnd
 pub mod GapsAgree
 pub mod ScannedIsToken
 pub mod TokenIsScanned
+pub mod OneAnswer

@@ -33,7 +33,7 @@ abbrev pub IsFront : Found → List ℕ → Type 0
 IsFront None bytes = Unit {0}
 IsFront (Some x) bytes = Front bytes x.0 x.1
 
-le_zero : (n : ℕ) → n ≤ 0 → n ≡ 0
+pub le_zero : (n : ℕ) → n ≤ 0 → n ≡ 0
 le_zero n none = omega arith
 
 positive : (n : ℕ) → n ≢ 0 → 0 < n

@@ -1,5 +1,5 @@
 -- Where the tokens of an input lie, and where it has none.
-use Rattle.std.specs.Prelude.{◌≡◌, ◌≢◌, ℕ, ◌<◌, ◌≤◌, ◌↔◌, false, List, [], ◌∷◌, length, drop, slice_range, Option, Some, None, Result, Ok, Err}
+use Rattle.std.specs.Prelude.{◌≡◌, ◌≢◌, ℕ, ◌+◌, ◌<◌, ◌≤◌, ◌↔◌, false, List, [], ◌∷◌, length, drop, slice_range, Option, Some, None, Result, Ok, Err}
 use Rattle.sb_lex.specs.declared.kinds.Kind.{Kind}
 use Rattle.sb_lex.specs.declared.kinds.Kind.TheVariants as kind
 use Rattle.sb_lex.specs.declared.kinds.Token.{Token}
@@ -57,7 +57,7 @@ pub record Reading : Type 0 where
   pub input : List ℕ
   pub place : ℕ
 
--- a call for the next token: what it answers, and where the reader stands after it
+-- the answer to a call for the next token is so
 abbrev pub Answers : Reading → Result (Option Token) BadToken → Type 0
 Answers at (Ok (Some t)) = IsNext at.input at.place t
 Answers at (Ok None) = IsEnd at.input at.place
@@ -69,10 +69,57 @@ place_after at (Ok (Some t)) = t.end
 place_after at (Ok None) = length at.input
 place_after at (Err bad) = bad.0
 
--- a token, a string, an enumeration and a binary have bytes: the inside of the last three lies between
--- the first byte and the last
+-- the reader after the answer
+abbrev pub moved : Reading → Result (Option Token) BadToken → Reading
+moved at answer = record { input = at.input; place = place_after at answer }
+
+-- A token of the kind has so many bytes at least. A string, an enumeration and a binary have a first byte
+-- and a last one, between which their inside lies.
 abbrev pub least_length : Kind → ℕ
 least_length kind.Str = 2
-least_length kind.Enumeration = 3
-least_length kind.Binary = 3
+least_length kind.Enumeration = 2
+least_length kind.Binary = 2
 least_length _ = 1
+
+pub record LiesBehind (at : Reading) (t : Token) : Type 0 where
+  pub behind : at.place ≤ t.start
+  pub long : t.start + least_length t.kind ≤ t.end
+  pub within : t.end ≤ length at.input
+
+-- where the answer lies: in the input, not before the reader
+abbrev pub Lies : Reading → Result (Option Token) BadToken → Type 0
+Lies at (Ok (Some t)) = LiesBehind at t
+Lies at (Ok None) = Unit {0}
+Lies at (Err bad) = (at.place ≤ bad.0) × (bad.0 < length at.input)
+
+-- Calls for the next token, one after another from the first byte on: they answered these tokens, and then
+-- the end or the fault.
+abbrev pub Calls : Reading → List Token → Option BadToken → Type 0
+Calls at [] None = Answers at (Ok None)
+Calls at [] (Some bad) = Answers at (Err bad)
+Calls at (t ∷ ts) fault = Answers at (Ok (Some t)) × Calls (moved at (Ok (Some t))) ts fault
+
+-- Laws
+
+-- each input has tokens: the calls come to an end
+abbrev pub EachInputHasTokens : Type 0
+EachInputHasTokens = (input : List ℕ) → (tokens : List Token) × (fault : Option BadToken) × AreTokens input tokens fault
+
+-- and no others
+abbrev pub TokensAreUnique : Type 0
+TokensAreUnique =
+    (input : List ℕ) (ts us : List Token) (fault other : Option BadToken) → AreTokens input ts fault → AreTokens input us other → (ts ≡ us) × (fault ≡ other)
+
+-- calling to the end gives the tokens, or the bad place behind them
+abbrev pub CallsGiveTokens : Type 0
+CallsGiveTokens =
+    (input : List ℕ) (tokens : List Token) (fault : Option BadToken) → Calls (record { input = input; place = 0 }) tokens fault ↔ AreTokens input tokens fault
+
+-- at a place there is at most one token
+abbrev pub OneTokenAtAPlace : Type 0
+OneTokenAtAPlace = (input : List ℕ) (t u : Token) → IsToken input t → IsToken input u → t.start ≡ u.start → t ≡ u
+
+-- a refusal is final: from the bad place on the same answer comes again
+abbrev pub RefusalStays : Type 0
+RefusalStays =
+    (at : Reading) (bad : BadToken) → Answers at (Err bad) → Answers (moved at (Err bad)) (Err bad)

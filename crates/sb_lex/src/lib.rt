@@ -5,9 +5,11 @@
 //! stand between two, say `specs/Kinds.antt` and `specs/Tokens.antt`: read these first.
 #![tactic(auto)]
 
+mod answers;
 mod classes;
 mod dispatch;
 mod kinds;
+mod laws;
 mod lexing;
 mod names;
 mod numbers;
@@ -17,4 +19,5 @@ mod spaces;
 mod tests;
 
 pub use crate::kinds::{BadToken, Kind, Mark, Token, Word};
+pub use crate::laws::tokens_are_one_list;
 pub use crate::lexing::Lexer;
