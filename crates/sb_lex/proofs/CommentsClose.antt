@@ -1,8 +1,8 @@
 -- A comment ends at the next `*/`: there is one way to read it.
-use Rattle.std.proofs.Common.{◌≡◌, ℕ, suc, zero, ◌+◌, ◌<◌, ◌≤◌, ◌⊎◌, Bool, true, false, cond, ◌&&◌, eqb, List, [], ◌∷◌, ◌++◌, Option, Some, None, length, take, drop, get_or, sym, refl, ap, ◌∙◌, subst, ⊎_elim, inl, inr, arith, one-add}
+use Rattle.std.proofs.Common.{◌≡◌, ℕ, suc, ◌+◌, ◌<◌, Bool, true, false, ◌&&◌, eqb, List, [], ◌∷◌, ◌++◌, Option, Some, None, length, get_or, sym, refl, ap, ◌∙◌, subst, arith, one-add}
 use Rattle.std.specs.Prelude.{codes}
-use Rattle.std.proofs.lemmas.Bool.{cond_both, cond-false, and_parts, cases_Bool, eqb-true, both_ways, and_right, and_from, eq-eqb, false_from_ne_true}
-use Rattle.sb_lex.specs.Sets.{Text, Byte, Joined, ◌⋅◌, Holds, Begins}
+use Rattle.std.proofs.lemmas.Bool.{cond_both, cond-false, and_parts, eqb-true, both_ways, and_right, and_from, eq-eqb, false_from_ne_true}
+use Rattle.sb_lex.specs.Sets.{Text, ◌⋅◌, Holds}
 use Rattle.sb_lex.specs.Kinds.{Unclosed, IsComment}
 use Rattle.sb_lex.specs.Steps.{after, close_at, closed_len, comment_len}
 use Rattle.sb_lex.proofs.PiecesJoin.{Stands, Ends, stands_so_long, stands_joined, stands_text, around, around_append, around_length}
@@ -75,12 +75,12 @@ not_closed_here : (b : ℕ) (text rest : List ℕ) → Unclosed (b ∷ text) →
 not_closed_here b [] rest unclosed = and_right (eqb b 42) (eqb 42 47) refl
 not_closed_here b (c ∷ text) rest unclosed =
     false_from_ne_true (closes b (c ∷ text ++ (42 ∷ 47 ∷ rest))) (λ closed.
-        let parts = and_parts (eqb b 42) (eqb c 47) closed in
-        unclosed (record {
-          before = [];
-          after = text;
-          found = λ i. eqb-true b 42 parts.0 i ∷ (eqb-true c 47 parts.1 i ∷ text);
-        }))
+    let parts = and_parts (eqb b 42) (eqb c 47) closed in
+    unclosed (record {
+      before = [];
+      after = text;
+      found = λ i. eqb-true b 42 parts.0 i ∷ (eqb-true c 47 parts.1 i ∷ text);
+    }))
 
 -- and it is found
 pub close_at-text : (text rest : List ℕ) → Unclosed text → close_at (text ++ (42 ∷ 47 ∷ rest)) ≡ Some (length text)

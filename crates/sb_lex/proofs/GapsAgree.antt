@@ -1,15 +1,15 @@
 -- White space and comments are read in one way: two gaps from one place that stop before the same kind of
 -- thing, where no piece begins, are equally long.
-use Rattle.std.proofs.Common.{◌≡◌, ℕ, suc, ◌+◌, ◌<◌, ◌≤◌, ◌⊎◌, Bool, true, false, cond, List, [], ◌∷◌, ◌++◌, length, take, drop, get_or, sym, refl, ap, ◌∙◌, subst, ⊎_elim, inl, inr, arith, append_assoc, length-append, take_at, take-add}
+use Rattle.std.proofs.Common.{◌≡◌, ℕ, ◌+◌, ◌<◌, List, [], ◌∷◌, ◌++◌, length, take, drop, sym, refl, ap, ◌∙◌, subst, inl, inr, arith, append_assoc, length-append, take_at, take-add}
 use Rattle.std.specs.Prelude.{codes}
 use Rattle.std.specs.List.{concat, AllByRecursion}
-use Rattle.std.proofs.lemmas.Bool.{cond_both, cond-false}
+use Rattle.std.proofs.lemmas.Bool.{cond_both}
 use Rattle.std.proofs.lemmas.List.{append_cancel_left}
 use Rattle.sb_lex.specs.Bytes.{is_white}
-use Rattle.sb_lex.specs.Sets.{Text, Byte, Repeated}
+use Rattle.sb_lex.specs.Sets.{Byte}
 use Rattle.sb_lex.specs.Kinds.{Unclosed, IsComment, BlankPiece, Blank}
 use Rattle.sb_lex.specs.Steps.{comment_len, piece_len}
-use Rattle.sb_lex.proofs.PiecesJoin.{Stands, Ends, stands_as, stands_byte, text_is, repeated_push, around, around_length}
+use Rattle.sb_lex.proofs.PiecesJoin.{Ends, stands_as, stands_byte, text_is, repeated_push, around, around_length}
 use Rattle.sb_lex.proofs.CommentsClose.{comment_len-comment, comment_found}
 
 -- where a length is found, a piece so long stands there
@@ -38,7 +38,7 @@ pub blank_more : (rest : List ℕ) (at n : ℕ) → n ≡ piece_len (drop at res
 blank_more rest at n size some blank =
     let e = piece_found (drop at rest) (omega arith) in
     let piece : BlankPiece (take n (drop at rest)) =
-        subst BlankPiece (text_is BlankPiece (drop at rest) e.rest (piece_len (drop at rest)) e.stands ∙ ap (λ k. take k (drop at rest)) (sym size)) e.stands.is in
+    subst BlankPiece (text_is BlankPiece (drop at rest) e.rest (piece_len (drop at rest)) e.stands ∙ ap (λ k. take k (drop at rest)) (sym size)) e.stands.is in
     subst Blank (sym (take-add at n rest)) (repeated_push BlankPiece (take at rest) (take n (drop at rest)) blank piece)
 
 concat_append : (p : List ℕ) (ps : List (List ℕ)) (a : List ℕ) → concat (p ∷ ps) ++ a ≡ p ++ (concat ps ++ a)
@@ -54,14 +54,14 @@ pieces_agree (p ∷ ps) [] a b each_p each_q same a_stops b_stops =
     absurd (omega (arith, ap piece_len (sym same ∙ concat_append p ps a), piece.0, piece.1))
 pieces_agree (p ∷ ps) (q ∷ qs) a b each_p each_q same a_stops b_stops =
     let whole : p ++ (concat ps ++ a) ≡ q ++ (concat qs ++ b) =
-        sym (concat_append p ps a) ∙ same ∙ concat_append q qs b in
+    sym (concat_append p ps a) ∙ same ∙ concat_append q qs b in
     let one = (piece_len-piece p (concat ps ++ a) each_p.0).0 in
     let other = (piece_len-piece q (concat qs ++ b) each_q.0).0 in
     let as_long : length p ≡ length q = sym one ∙ ap piece_len whole ∙ other in
     let first : p ≡ q =
-        sym (take_at p (concat ps ++ a) (length p) refl) ∙ ap (take (length p)) whole ∙ take_at q (concat qs ++ b) (length p) (sym as_long) in
+    sym (take_at p (concat ps ++ a) (length p) refl) ∙ ap (take (length p)) whole ∙ take_at q (concat qs ++ b) (length p) (sym as_long) in
     let behind : concat ps ++ a ≡ concat qs ++ b =
-        append_cancel_left p (concat ps ++ a) (concat qs ++ b) (whole ∙ ap (λ l. l ++ (concat qs ++ b)) (sym first)) in
+    append_cancel_left p (concat ps ++ a) (concat qs ++ b) (whole ∙ ap (λ l. l ++ (concat qs ++ b)) (sym first)) in
     let later = pieces_agree ps qs a b each_p.1 each_q.1 behind a_stops b_stops in
     omega (arith, length-append p (concat ps), length-append q (concat qs))
 

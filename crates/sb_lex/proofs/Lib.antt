@@ -7,3 +7,5 @@ pub mod GapsAgree
 pub mod ScannedIsToken
 pub mod TokenIsScanned
 pub mod OneAnswer
+pub mod TokensHaveBytes
+pub mod OneListOfTokens

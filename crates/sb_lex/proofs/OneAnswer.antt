@@ -1,23 +1,21 @@
 -- To a call for the next token there is one answer.
-use Rattle.std.proofs.Common.{◌≡◌, ◌≢◌, ℕ, suc, zero, ◌+◌, ◌-◌, ◌<◌, ◌≤◌, ◌⊎◌, ◌↔◌, Bool, true, false, cond, eqb, leb, List, [], ◌∷◌, ◌++◌, Option, Some, None, Result, Ok, Err, length, get_or, take, drop, sym, refl, ap, ap₂, ◌∙◌, subst, ⊎_elim, inl, inr, arith, take_at, drop_at, length-append, length-take-le, length-drop, drop-drop, take-append-drop, take-add, le_refl}
+use Rattle.std.proofs.Common.{◌≡◌, ◌≢◌, ℕ, ◌+◌, ◌-◌, ◌<◌, ◌≤◌, ◌↔◌, true, cond, eqb, leb, List, ◌∷◌, ◌++◌, Option, Some, None, Result, Ok, Err, length, take, drop, sym, refl, ap, ◌∙◌, subst, ⊎_elim, inl, inr, arith, drop_at, length-append, length-take-le, length-drop, drop-drop, take-append-drop, le_refl}
 use Rattle.std.specs.Prelude.{codes, slice_range}
-use Rattle.std.proofs.lemmas.Bool.{cond_both, cond-true, cond-false, eqb-true, eq-eqb, ne_eqb, and_parts, or_cases, leb-true, cases_lt, cases_Bool, eqb-false}
+use Rattle.std.proofs.lemmas.Bool.{cond_both, cond-true, cond-false, eqb-true, eq-eqb, ne_eqb, and_parts, or_cases, leb-true, cases_lt, eqb-false}
 use Rattle.std.proofs.lemmas.Option.{none-some}
 use Rattle.std.proofs.lemmas.List.{drop_all}
 use Rattle.sb_lex.specs.declared.kinds.Kind.{Kind}
-use Rattle.sb_lex.specs.declared.kinds.Kind.TheVariants as kind
 use Rattle.sb_lex.specs.declared.kinds.Token.{Token}
 use Rattle.sb_lex.specs.declared.kinds.BadToken.{BadToken}
 use Rattle.sb_lex.specs.declared.kinds.Mark.TheVariants as mark
 use Rattle.sb_lex.specs.declared.dispatch.Head.{Head}
 use Rattle.sb_lex.specs.declared.dispatch.Head.TheVariants as head
-use Rattle.sb_lex.specs.Bytes.{begins_with, is_letter, is_sign, is_white, is_apostrophe}
+use Rattle.sb_lex.specs.Bytes.{begins_with, is_white}
 use Rattle.sb_lex.specs.Sets.{Begins}
-use Rattle.sb_lex.specs.Kinds.{IsOf, not_after, mark_byte, Unclosed, IsComment, BlankPiece, Blank}
-use Rattle.sb_lex.specs.Tokens.{IsCandidate, IsToken, IsGap, IsNext, IsBadFrom, IsEnd, Reading, Answers}
+use Rattle.sb_lex.specs.Kinds.{IsOf, not_after, Unclosed, BlankPiece}
+use Rattle.sb_lex.specs.Tokens.{IsCandidate, IsToken, IsGap, Reading, Answers}
 use Rattle.sb_lex.specs.Steps.{Found, head_of, scan_at, scan, comment_len, piece_len}
-use Rattle.sb_lex.proofs.PiecesJoin.{Stands, Ends, text_is, around, around_append}
-use Rattle.sb_lex.proofs.CommentsClose.{comment_found}
+use Rattle.sb_lex.proofs.PiecesJoin.{text_is, around, around_append}
 use Rattle.sb_lex.proofs.GapsAgree.{piece_found, piece_len-piece, blanks_agree}
 use Rattle.sb_lex.proofs.ScannedIsToken.{Front, IsFront, HeadFits, head_fits, scan_front, le_zero}
 use Rattle.sb_lex.proofs.TokenIsScanned.{Covers, scan_covers}
@@ -32,7 +30,7 @@ sliced : (input : List ℕ) (from to : ℕ) → from ≤ to → drop from input 
 sliced input from to ordered =
     sym (take-append-drop (to - from) (drop from input)) ∙ ap (λ l. slice_range input from to ++ l) (drop-drop (to - from) from input ∙ ap (λ k. drop k input) (omega arith))
 
-slice_length : (input : List ℕ) (from to : ℕ) → from ≤ to → to ≤ length input → length (slice_range input from to) ≡ to - from
+pub slice_length : (input : List ℕ) (from to : ℕ) → from ≤ to → to ≤ length input → length (slice_range input from to) ≡ to - from
 slice_length input from to ordered within =
     length-take-le (to - from) (drop from input) (omega (arith, length-drop from input))
 
@@ -53,9 +51,9 @@ candidate_from_front input from k n within f =
     let bytes = drop from input in
     let size : from + n - from ≡ n = omega arith in
     let text : f.stands.text ≡ slice_range input from (from + n) =
-        text_is (IsOf k) bytes f.rest n f.stands ∙ ap (λ m. take m bytes) (sym size) in
+    text_is (IsOf k) bytes f.rest n f.stands ∙ ap (λ m. take m bytes) (sym size) in
     let rest : f.rest ≡ drop (from + n) input =
-        sym (drop_at f.stands.text f.rest n f.stands.long) ∙ ap (drop n) (sym f.stands.joined) ∙ drop-drop n from input in
+    sym (drop_at f.stands.text f.rest n f.stands.long) ∙ ap (drop n) (sym f.stands.joined) ∙ drop-drop n from input in
     record {
       ordered = omega arith;
       within =
@@ -81,9 +79,9 @@ found_token input from x within found = record {
   candidate = found_candidate input from x within found;
   longest =
       λ other candidate same.
-          let covered : Covers (Some x) other.kind (other.end - other.start) =
-              subst (λ o. Covers o other.kind (other.end - other.start)) (ap (λ k. scan (drop k input)) same ∙ found) (candidate_covered input other candidate) in
-          omega (arith, covered.0, candidate.ordered, same);
+      let covered : Covers (Some x) other.kind (other.end - other.start) =
+      subst (λ o. Covers o other.kind (other.end - other.start)) (ap (λ k. scan (drop k input)) same ∙ found) (candidate_covered input other candidate) in
+      omega (arith, covered.0, candidate.ordered, same);
 }
 
 no_token_found : (input : List ℕ) (place : ℕ) → scan (drop place input) ≡ None → (t : Token) → IsCandidate input t → t.start ≢ place
@@ -91,14 +89,14 @@ no_token_found input place none t candidate same =
     subst (λ o. Covers o t.kind (t.end - t.start)) (ap (λ k. scan (drop k input)) same ∙ none) (candidate_covered input t candidate)
 
 -- the token is what is found
-token_found : (input : List ℕ) (t : Token) (o : Found) → IsToken input t → scan (drop t.start input) ≡ o → o ≡ Some (t.kind, t.end - t.start)
+pub token_found : (input : List ℕ) (t : Token) (o : Found) → IsToken input t → scan (drop t.start input) ≡ o → o ≡ Some (t.kind, t.end - t.start)
 token_found input t None token found =
     absurd (no_token_found input t.start found t token.candidate refl)
 token_found input t (Some x) token found =
     let c = token.candidate in
     let from_in : t.start ≤ length input = omega (arith, c.ordered, c.within) in
     let covered : Covers (Some x) t.kind (t.end - t.start) =
-        subst (λ o. Covers o t.kind (t.end - t.start)) found (candidate_covered input t c) in
+    subst (λ o. Covers o t.kind (t.end - t.start)) found (candidate_covered input t c) in
     let longest = token.longest (token_of x.0 t.start x.1) (found_candidate input t.start x from_in found) refl in
     let size : x.1 ≡ t.end - t.start = omega (arith, covered.0, longest, c.ordered) in
     λ i. Some (covered.1 size i, size i)
@@ -147,9 +145,9 @@ stops_at_token : (bytes : List ℕ) (x : Kind × ℕ) → scan bytes ≡ Some x 
 stops_at_token bytes x found =
     ⊎_elim
     (λ some.
-        let e = piece_found bytes some in
-        let none : scan bytes ≡ None = ap scan e.stands.joined ∙ blank_is_no_token e.stands.text e.rest e.stands.is in
-        absurd (none-some x (sym none ∙ found)))
+    let e = piece_found bytes some in
+    let none : scan bytes ≡ None = ap scan e.stands.joined ∙ blank_is_no_token e.stands.text e.rest e.stands.is in
+    absurd (none-some x (sym none ∙ found)))
     (λ none. le_zero (piece_len bytes) none)
     (cases_lt 0 (piece_len bytes))
 
@@ -157,8 +155,8 @@ stops_at_bad : (bytes : List ℕ) → (Begins BlankPiece bytes → ⊥) → piec
 stops_at_bad bytes no_blank =
     ⊎_elim
     (λ some.
-        let e = piece_found bytes some in
-        absurd (no_blank (record { front = e.stands.text; rest = e.rest; joined = e.stands.joined; is = e.stands.is })))
+    let e = piece_found bytes some in
+    absurd (no_blank (record { front = e.stands.text; rest = e.rest; joined = e.stands.joined; is = e.stands.is })))
     (λ none. le_zero (piece_len bytes) none)
     (cases_lt 0 (piece_len bytes))
 
@@ -208,7 +206,7 @@ pub record Answered (input : List ℕ) (from : ℕ) (answer : Answer) : Type 0 w
 pub answered : (input : List ℕ) (from : ℕ) (answer : Answer) → Answers (record { input = input; place = from }) answer → Answered input from answer
 answered input from (Ok (Some t)) next =
     let found : scan (drop t.start input) ≡ Some (t.kind, t.end - t.start) =
-        token_found input t (scan (drop t.start input)) next.token refl in
+    token_found input t (scan (drop t.start input)) next.token refl in
     let end : t.start + (t.end - t.start) ≡ t.end = omega (arith, next.token.candidate.ordered) in
     record {
       place = t.start;
@@ -226,7 +224,7 @@ answered input from (Ok None) at_end =
     }
 answered input from (Err bad) is =
     let none : scan (drop bad.0 input) ≡ None =
-        none_found input bad.0 (scan (drop bad.0 input)) is.gap.within is.no_token refl in
+    none_found input bad.0 (scan (drop bad.0 input)) is.gap.within is.no_token refl in
     record {
       place = bad.0;
       stop = record { gap = is.gap; stops = stops_at_bad (drop bad.0 input) is.no_blank };

@@ -1,12 +1,11 @@
 -- Strings that stand in a row make up a string of the joined set.
-use Rattle.std.proofs.Common.{◌≡◌, ℕ, suc, zero, ◌+◌, ◌<◌, ◌≤◌, ◌⊎◌, Bool, true, false, List, [], ◌∷◌, ◌++◌, length, take, drop, sym, refl, ap, ◌∙◌, subst, ⊎_elim, inl, inr, arith, append_assoc, length-append, append-nil, take_at, drop_at, get_or, one-add}
+use Rattle.std.proofs.Common.{◌≡◌, ℕ, suc, ◌+◌, ◌<◌, Bool, true, List, [], ◌∷◌, ◌++◌, length, take, drop, sym, refl, ap, ◌∙◌, subst, ⊎_elim, inl, inr, arith, append_assoc, length-append, append-nil, take_at, drop_at, get_or, one-add}
 use Rattle.std.specs.List.{prefix_len, list_all, concat, AllByRecursion}
 use Rattle.std.proofs.lemmas.List.Folds.{concat-append}
 use Rattle.std.proofs.lemmas.Bool.{and_from, and_parts, cases_lt}
 use Rattle.std.proofs.lemmas.List.{drop_more, get_or_past}
-use Rattle.sb_lex.specs.Bytes.{begins_with}
-use Rattle.sb_lex.specs.Sets.{Text, Byte, Bytes, SomeBytes, Joined, ◌⋅◌, Optional, Repeated}
-use Rattle.sb_lex.proofs.RunsAreLongest.{Cut, cut}
+use Rattle.sb_lex.specs.Sets.{Text, Byte, Bytes, SomeBytes, ◌⋅◌, Optional, Repeated}
+use Rattle.sb_lex.proofs.RunsAreLongest.{cut}
 
 -- a string of the set stands at the front, so long, and the rest follows it
 pub record Stands (P : List ℕ → Type 0) (bytes rest : List ℕ) (size : ℕ) : Type 0 where
@@ -63,7 +62,7 @@ pub stands_run : (test : ℕ → Bool) (bytes : List ℕ) → Stands (Bytes test
 stands_run test bytes =
     let c = cut test bytes in
     let behind : c.rest ≡ drop (prefix_len test bytes) bytes =
-        sym (ap (drop (prefix_len test bytes)) c.joined ∙ drop_at c.run c.rest (prefix_len test bytes) (sym c.size)) in
+    sym (ap (drop (prefix_len test bytes)) c.joined ∙ drop_at c.run c.rest (prefix_len test bytes) (sym c.size)) in
     record { text = c.run; joined = c.joined ∙ ap (λ l. c.run ++ l) behind; long = sym c.size; is = c.pass }
 
 -- a run of one byte at least
@@ -104,7 +103,7 @@ pub some_pass : (test : ℕ → Bool) (xs : List ℕ) → SomeBytes test xs → 
 some_pass test xs some =
     let byte = some.first in
     let whole : xs ≡ byte.byte ∷ some.back =
-        some.joined ∙ ap (λ l. l ++ some.back) byte.alone in
+    some.joined ∙ ap (λ l. l ++ some.back) byte.alone in
     let P : List ℕ → Type 0 = λ l. (list_all test l ≡ true) × (0 < length l) in
     subst P (sym whole) (and_from (test byte.byte) (list_all test some.back) byte.passes some.second, omega arith)
 

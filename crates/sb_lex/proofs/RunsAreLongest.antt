@@ -1,5 +1,5 @@
 -- The bytes of a class at the front: how many there are is fixed by what follows them.
-use Rattle.std.proofs.Common.{◌≡◌, ℕ, suc, ◌+◌, ◌<◌, ◌≤◌, Bool, true, false, cond, List, [], ◌∷◌, ◌++◌, length, take, drop, sym, refl, ap, ◌∙◌, subst, ⊎_elim, arith, one-add}
+use Rattle.std.proofs.Common.{◌≡◌, ℕ, ◌+◌, ◌≤◌, Bool, true, false, List, [], ◌∷◌, ◌++◌, length, refl, ap, ◌∙◌, ⊎_elim, arith, one-add}
 use Rattle.std.specs.List.{prefix_len, list_all}
 use Rattle.std.proofs.lemmas.Bool.{cases_Bool, and_parts, and_from}
 use Rattle.sb_lex.specs.Bytes.{begins_with}
@@ -34,14 +34,14 @@ module _ (test : ℕ → Bool) where
   cut (b ∷ bs) =
       ⊎_elim
       (λ yes.
-          let more = cut bs in
-          record {
-            run = b ∷ more.run;
-            rest = more.rest;
-            joined = ap (λ l. b ∷ l) more.joined;
-            pass = and_from (test b) (list_all test more.run) yes more.pass;
-            stops = more.stops;
-            size = rw yes (ap (λ n. 1 + n) more.size ∙ one-add (length more.run));
-          })
+      let more = cut bs in
+      record {
+        run = b ∷ more.run;
+        rest = more.rest;
+        joined = ap (λ l. b ∷ l) more.joined;
+        pass = and_from (test b) (list_all test more.run) yes more.pass;
+        stops = more.stops;
+        size = rw yes (ap (λ n. 1 + n) more.size ∙ one-add (length more.run));
+      })
       (λ no. record { run = []; rest = b ∷ bs; joined = refl; pass = refl; stops = no; size = rw no refl })
       (cases_Bool (test b))

@@ -1,27 +1,25 @@
 -- What is found at the front is a string of its kind.
-use Rattle.std.proofs.Common.{◌≡◌, ◌≢◌, ℕ, suc, zero, ◌+◌, ◌^◌, ◌<◌, ◌≤◌, ◌⊎◌, Bool, true, false, not, cond, ◌&&◌, ◌||◌, eqb, ltb, leb, List, [], ◌∷◌, ◌++◌, Option, Some, None, length, get_or, take, drop, sym, refl, ap, ◌∙◌, subst, ⊎_elim, inl, inr, arith, one-add, append_assoc, take_at, drop_at, zero-add}
-use Rattle.std.specs.Prelude.{codes, nat_eq, slice_index}
-use Rattle.std.specs.List.{prefix_len, list_all, starts_with, AllByRecursion}
+use Rattle.std.proofs.Common.{◌≡◌, ◌≢◌, ℕ, ◌+◌, ◌^◌, ◌<◌, ◌≤◌, Bool, true, false, cond, ◌&&◌, eqb, ltb, leb, List, [], ◌∷◌, Option, Some, None, length, get_or, take, drop, sym, refl, ap, ◌∙◌, subst, ⊎_elim, arith, one-add, drop_at, zero-add}
+use Rattle.std.specs.Prelude.{codes, nat_eq}
+use Rattle.std.specs.List.{prefix_len, starts_with, AllByRecursion}
 use Rattle.std.specs.Char.{is_ascii_digit}
 use Rattle.std.specs.Str.Parse.{digits_value}
-use Rattle.std.proofs.lemmas.Bool.{cond_both, eqb-true, eqb-false, ltb-true, not-true, not_from_false, and_parts, and_from, or_cases, or_left, or_right, both_ways, cases_Bool, cases_lt, le-leb, leb-true}
+use Rattle.std.proofs.lemmas.Bool.{cond_both, eqb-true, eqb-false, ltb-true, and_parts, and_from, or_left, cases_lt, le-leb, leb-true}
 use Rattle.std.proofs.lemmas.Bool.Decides.{Decides-eqb}
 use Rattle.std.proofs.lemmas.Slice.Eq.{starts_is}
 use Rattle.sb_lex.specs.declared.kinds.Kind.{Kind}
 use Rattle.sb_lex.specs.declared.kinds.Kind.TheVariants as kind
-use Rattle.sb_lex.specs.declared.kinds.Mark.{Mark}
-use Rattle.sb_lex.specs.declared.kinds.Mark.TheVariants as mark
 use Rattle.sb_lex.specs.declared.kinds.Word.{Word}
 use Rattle.sb_lex.specs.declared.kinds.Word.TheVariants as word
 use Rattle.sb_lex.specs.declared.dispatch.Head.{Head}
 use Rattle.sb_lex.specs.declared.dispatch.Head.TheVariants as head
-use Rattle.sb_lex.specs.Bytes.{begins_with, is_letter, is_word_byte, is_hex, is_filling, is_sign, is_apostrophe, is_white}
-use Rattle.sb_lex.specs.Sets.{Text, Byte, Bytes, SomeBytes, Joined, ◌⋅◌, Optional, Repeated}
-use Rattle.sb_lex.specs.Kinds.{word_text, mark_byte, Digits, Signed, Numeral, Letters, IsNumber, IsName, Exponent, StringPiece, HexDigits, IsOf, not_after}
+use Rattle.sb_lex.specs.Bytes.{begins_with, is_letter, is_word_byte, is_hex, is_filling, is_sign, is_apostrophe}
+use Rattle.sb_lex.specs.Sets.{Text, Byte, Bytes, SomeBytes, ◌⋅◌, Optional, Repeated}
+use Rattle.sb_lex.specs.Kinds.{word_text, mark_byte, Digits, Signed, Numeral, Letters, IsName, Exponent, StringPiece, HexDigits, IsOf, not_after}
 use Rattle.sb_lex.specs.Steps.{Found, longer, heads, first_head, head_of, scan_words, or_keyword, scan_letters, scan_exclamation, scan_name, sign_len, exponent_len, fraction_len, scan_number, string_len, as_string, scan_enumeration, scan_binary, scan_at, scan}
-use Rattle.sb_lex.proofs.RunsAreLongest.{Cut, cut}
+use Rattle.sb_lex.proofs.RunsAreLongest.{cut}
 use Rattle.sb_lex.proofs.PiecesJoin.{Stands, Ends, stands_so_long, stands_as, stands_joined, stands_text, stands_byte, stands_run, stands_some, stands_begun, stands_nothing, stands_optional, stands_at, text_is}
-use Rattle.sb_lex.proofs.StringsEnd.{Ending, IsEnding, ending_found}
+use Rattle.sb_lex.proofs.StringsEnd.{IsEnding, ending_found}
 
 -- a string of the kind stands at the front, so long, and what may not follow it does not
 pub record Front (bytes : List ℕ) (k : Kind) (n : ℕ) : Type 0 where
@@ -178,7 +176,7 @@ name_stands bs number value positive fits =
     let n = prefix_len is_ascii_digit bs in
     let rest = drop n bs in
     let some : 0 < n =
-        ⊎_elim (λ some. some) (λ none. absurd (omega (arith, value, ap (λ k. digits_value 10 (take k bs)) (le_zero n none)))) (cases_lt 0 n) in
+    ⊎_elim (λ some. some) (λ none. absurd (omega (arith, value, ap (λ k. digits_value 10 (take k bs)) (le_zero n none)))) (cases_lt 0 n) in
     let digits = stands_some is_ascii_digit bs some in
     let numeral : Stands (Numeral number) bs rest n = record {
       text = digits.text;
@@ -219,9 +217,9 @@ exponent_stands b bs n is_e size some =
     let m = prefix_len is_ascii_digit behind in
     let rest = drop m behind in
     let letter : Stands (Text (codes "E")) (b ∷ bs) bs 1 =
-        record { text = 69 ∷ []; joined = ap (λ c. c ∷ bs) is_e; long = refl; is = refl } in
+    record { text = 69 ∷ []; joined = ap (λ c. c ∷ bs) is_e; long = refl; is = refl } in
     let signed =
-        stands_joined (Optional (Byte is_sign)) Digits bs behind rest (sign_len bs) m (sign_stands bs) (stands_some is_ascii_digit behind (omega arith)) in
+    stands_joined (Optional (Byte is_sign)) Digits bs behind rest (sign_len bs) m (sign_stands bs) (stands_some is_ascii_digit behind (omega arith)) in
     record {
       rest = rest;
       stands =
@@ -262,7 +260,7 @@ real_found bytes n size some point =
     let f = fraction_ends (drop (n + 1) bytes) in
     let m = fraction_len (drop (n + 1) bytes) in
     let digits : Stands Digits bytes (drop n bytes) n =
-        subst (λ k. Stands Digits bytes (drop k bytes) k) (sym size) (stands_some is_ascii_digit bytes (omega arith)) in
+    subst (λ k. Stands Digits bytes (drop k bytes) k) (sym size) (stands_some is_ascii_digit bytes (omega arith)) in
     record {
       rest = f.rest;
       stands =
@@ -298,7 +296,7 @@ string_front : (bs : List ℕ) (o : Option ℕ) → IsEnding o bs → IsFront (a
 string_front bs None e = tt
 string_front bs (Some n) e =
     let inside : Stands (Repeated StringPiece) bs (39 ∷ e.rest) (length e.inside) =
-        record { text = e.inside; joined = e.joined; long = refl; is = e.pieces } in
+    record { text = e.inside; joined = e.joined; long = refl; is = e.pieces } in
     let last = stands_text (codes "'") e.rest 1 refl in
     record {
       rest = e.rest;

@@ -1,5 +1,5 @@
 -- The end of a string is found by going from one apostrophe to the next.
-use Rattle.std.proofs.Common.{◌≡◌, ◌≢◌, ℕ, suc, ◌+◌, ◌<◌, ◌≤◌, Bool, true, false, not, cond, List, [], ◌∷◌, Option, Some, None, length, get_or, drop, sym, refl, ap, ◌∙◌, subst, ⊎_elim, arith, one-add, add-zero, drop-drop, length-drop, get_or-drop}
+use Rattle.std.proofs.Common.{◌≡◌, ◌≢◌, ℕ, suc, ◌+◌, ◌<◌, ◌≤◌, Bool, true, false, not, List, [], ◌∷◌, Option, Some, None, length, get_or, drop, sym, refl, ap, ◌∙◌, subst, ⊎_elim, arith, one-add, add-zero, drop-drop, length-drop, get_or-drop}
 use Rattle.std.specs.List.{prefix_len}
 use Rattle.std.proofs.lemmas.Bool.{cases_Bool, not_from_true, not_from_false, not-false, eq-eqb, ne_eqb}
 use Rattle.std.proofs.lemmas.List.{drop_more, drop_all}
@@ -32,11 +32,11 @@ string_len-run (b ∷ bs) =
     ⊎_elim
     (λ ends. rw (not_from_true (is_apostrophe b) ends) (sym (after-zero (string_len (b ∷ bs)))))
     (λ plain.
-        rw (not_from_false (is_apostrophe b) plain)
-        (let n = prefix_len is_plain bs in
-        let at : P (suc n) =
-            string_len-plain b bs plain ∙ ap (after 1) (string_len-run bs) ∙ after-after 1 n (string_len (drop n bs)) ∙ ap (λ k. after k (string_len (drop n bs))) (one-add n) in
-        subst P (sym (one-add n)) at))
+    rw (not_from_false (is_apostrophe b) plain)
+    (let n = prefix_len is_plain bs in
+    let at : P (suc n) =
+    string_len-plain b bs plain ∙ ap (after 1) (string_len-run bs) ∙ after-after 1 n (string_len (drop n bs)) ∙ ap (λ k. after k (string_len (drop n bs))) (one-add n) in
+    subst P (sym (one-add n)) at))
     (cases_Bool (is_apostrophe b))
 
 -- an apostrophe with none behind it ends the string
@@ -53,7 +53,7 @@ module _ (rest : List ℕ) (at n : ℕ) (so_far : string_len rest ≡ after at (
   passed : string_len rest ≡ after (at + n) (string_len (drop (at + n) rest))
   passed =
       let step : string_len (drop at rest) ≡ after n (string_len (drop n (drop at rest))) =
-          subst (λ k. string_len (drop at rest) ≡ after k (string_len (drop k (drop at rest)))) (sym run) (string_len-run (drop at rest)) in
+      subst (λ k. string_len (drop at rest) ≡ after k (string_len (drop k (drop at rest)))) (sym run) (string_len-run (drop at rest)) in
       so_far ∙ ap (after at) step ∙ after-after at n (string_len (drop n (drop at rest))) ∙ ap (λ l. after (at + n) (string_len l)) (drop-drop n at rest)
 
   -- no apostrophe is left
@@ -69,7 +69,7 @@ module _ (rest : List ℕ) (at n : ℕ) (so_far : string_len rest ≡ after at (
     apostrophe_here =
         let stops = prefix_len_stops is_plain (drop at rest) 0 (rw (← run) (omega (arith, length-drop at rest))) in
         let read : is_apostrophe (get_or (drop at rest) n 0) ≡ true =
-            not-false (is_apostrophe (get_or (drop at rest) n 0)) (subst (λ k. is_plain (get_or (drop at rest) k 0) ≡ false) (sym run) stops) in
+        not-false (is_apostrophe (get_or (drop at rest) n 0)) (subst (λ k. is_plain (get_or (drop at rest) k 0) ≡ false) (sym run) stops) in
         ap is_apostrophe (sym (get_or-drop at rest n 0)) ∙ read
 
     behind : get_or (drop (at + n + 1) rest) 0 0 ≡ get_or rest (at + n + 1) 0
@@ -85,5 +85,5 @@ module _ (rest : List ℕ) (at n : ℕ) (so_far : string_len rest ≡ after at (
     pub string_goes_on : get_or rest (at + n + 1) 0 ≡ 39 → string_len rest ≡ after (at + n + 2) (string_len (drop (at + n + 2) rest))
     string_goes_on twice =
         let tail : drop 1 (drop (at + n + 1) rest) ≡ drop (at + n + 2) rest =
-            drop-drop 1 (at + n + 1) rest ∙ ap (λ k. drop k rest) (omega arith) in
+        drop-drop 1 (at + n + 1) rest ∙ ap (λ k. drop k rest) (omega arith) in
         passed ∙ ap (λ l. after (at + n) (string_len l)) here ∙ ap (after (at + n)) (string_len-pair (get_or rest (at + n) 0) (drop (at + n + 1) rest) apostrophe_here (behind ∙ twice)) ∙ after-after (at + n) 2 (string_len (drop 1 (drop (at + n + 1) rest))) ∙ ap (λ l. after (at + n + 2) (string_len l)) tail

@@ -1,9 +1,9 @@
 -- A string ends at the first apostrophe that has none beside it, when they are paired from the left.
-use Rattle.std.proofs.Common.{◌≡◌, ◌≢◌, ℕ, suc, ◌+◌, ◌<◌, ◌≤◌, ◌⊎◌, Bool, true, false, not, cond, eqb, List, [], ◌∷◌, ◌++◌, Option, Some, None, length, get_or, sym, refl, ap, ◌∙◌, subst, ⊎_elim, inl, inr, arith, one-add, append_assoc}
+use Rattle.std.proofs.Common.{◌≡◌, ℕ, suc, true, false, cond, List, [], ◌∷◌, ◌++◌, Option, Some, None, length, sym, refl, ap, ◌∙◌, subst, ⊎_elim, inl, inr, arith, one-add}
 use Rattle.std.specs.List.{concat, AllByRecursion}
-use Rattle.std.proofs.lemmas.Bool.{cond_both, eqb-true, eqb-false, not-true, not_from_false}
+use Rattle.std.proofs.lemmas.Bool.{cond_both, eqb-true, not-true, not_from_false}
 use Rattle.sb_lex.specs.Bytes.{is_apostrophe, begins_with}
-use Rattle.sb_lex.specs.Sets.{Text, Byte, Repeated}
+use Rattle.sb_lex.specs.Sets.{Repeated}
 use Rattle.sb_lex.specs.Kinds.{StringPiece}
 use Rattle.sb_lex.specs.Steps.{after, string_len}
 use Rattle.sb_lex.proofs.PiecesJoin.{repeated_cons, repeated_nothing}
@@ -75,12 +75,12 @@ ends_behind (p ∷ ps) rest each alone =
     let P : List ℕ → Type 0 = λ l. string_len ((l ++ concat ps) ++ (39 ∷ rest)) ≡ Some (suc (length (l ++ concat ps))) in
     ⊎_elim
     (λ plain.
-        let at : P (plain.byte ∷ []) =
-            string_len-plain plain.byte tail (not-true (is_apostrophe plain.byte) plain.passes) ∙ ap (after 1) later ∙ ap (λ n. Some n) (one-add (suc (length (concat ps)))) in
-        subst P (sym plain.alone) at)
+    let at : P (plain.byte ∷ []) =
+    string_len-plain plain.byte tail (not-true (is_apostrophe plain.byte) plain.passes) ∙ ap (after 1) later ∙ ap (λ n. Some n) (one-add (suc (length (concat ps)))) in
+    subst P (sym plain.alone) at)
     (λ pair.
-        let at : P (39 ∷ 39 ∷ []) = ap (after 2) later ∙ ap (λ n. Some n) (omega arith) in
-        subst P (sym pair) at)
+    let at : P (39 ∷ 39 ∷ []) = ap (after 2) later ∙ ap (λ n. Some n) (omega arith) in
+    subst P (sym pair) at)
     each.0
 
 -- and it is found

@@ -1,10 +1,10 @@
 -- No string of any kind at the front is longer than what is found there, and one as long is of the same kind.
-use Rattle.std.proofs.Common.{◌≡◌, ◌≢◌, ℕ, suc, zero, ◌+◌, ◌^◌, ◌<◌, ◌≤◌, ◌⊎◌, Bool, true, false, not, cond, ◌&&◌, ◌||◌, eqb, ltb, leb, List, [], ◌∷◌, ◌++◌, Option, Some, None, length, get_or, take, drop, sym, refl, ap, ap₂, ◌∙◌, subst, ⊎_elim, inl, inr, arith, one-add, append_assoc, length-append, take_at, drop_at, zero-add, le_refl}
-use Rattle.std.specs.Prelude.{codes, nat_eq, slice_index}
+use Rattle.std.proofs.Common.{◌≡◌, ℕ, suc, ◌+◌, ◌^◌, ◌<◌, ◌≤◌, Bool, true, false, cond, ◌&&◌, eqb, ltb, leb, List, [], ◌∷◌, ◌++◌, Some, None, length, get_or, take, drop, sym, refl, ap, ap₂, ◌∙◌, subst, ⊎_elim, inl, inr, arith, one-add, append_assoc, length-append, take_at, drop_at}
+use Rattle.std.specs.Prelude.{codes, nat_eq}
 use Rattle.std.specs.List.{prefix_len, list_all, starts_with}
 use Rattle.std.specs.Char.{is_ascii_digit}
 use Rattle.std.specs.Str.Parse.{digits_value}
-use Rattle.std.proofs.lemmas.Bool.{cond_both, cond-true, cond-false, eqb-true, eqb-false, ltb-true, lt-ltb, lt-leb, ne_eqb, eq-eqb, and_parts, and_from, and_left, or_cases, or_left, or_right, or_from, both_ways, cases_Bool, leb-true}
+use Rattle.std.proofs.lemmas.Bool.{cond_both, cond-true, eqb-true, lt-ltb, lt-leb, ne_eqb, eq-eqb, and_parts, and_from, and_left, or_cases, or_from, leb-true}
 use Rattle.std.proofs.lemmas.Bool.Decides.{Decides-eqb}
 use Rattle.std.proofs.lemmas.List.{get_or_at}
 use Rattle.std.proofs.lemmas.Slice.Eq.{starts_is}
@@ -14,14 +14,13 @@ use Rattle.sb_lex.specs.declared.kinds.Mark.{Mark}
 use Rattle.sb_lex.specs.declared.kinds.Mark.TheVariants as mark
 use Rattle.sb_lex.specs.declared.kinds.Word.{Word}
 use Rattle.sb_lex.specs.declared.kinds.Word.TheVariants as word
-use Rattle.sb_lex.specs.declared.dispatch.Head.{Head}
 use Rattle.sb_lex.specs.declared.dispatch.Head.TheVariants as head
-use Rattle.sb_lex.specs.Bytes.{begins_with, is_letter, is_word_byte, is_hex, is_filling, is_sign, is_apostrophe, is_white}
-use Rattle.sb_lex.specs.Sets.{Text, Byte, Bytes, SomeBytes, Joined, ◌⋅◌, Optional, Repeated}
+use Rattle.sb_lex.specs.Bytes.{begins_with, is_letter, is_word_byte, is_hex, is_filling, is_sign, is_apostrophe}
+use Rattle.sb_lex.specs.Sets.{Byte, Optional, Repeated}
 use Rattle.sb_lex.specs.Kinds.{word_text, mark_byte, Digits, Signed, Numeral, Letters, IsNumber, IsName, Exponent, StringPiece, HexDigits, IsOf, not_after}
-use Rattle.sb_lex.specs.Steps.{Found, longer, head_of, scan_words, or_keyword, scan_letters, scan_exclamation, scan_name, sign_len, exponent_len, fraction_len, scan_number, string_len, as_string, scan_enumeration, scan_binary, scan_at, scan}
+use Rattle.sb_lex.specs.Steps.{Found, longer, head_of, scan_words, or_keyword, scan_letters, scan_exclamation, scan_name, sign_len, exponent_len, fraction_len, scan_number, as_string, scan_enumeration, scan_binary, scan_at, scan}
 use Rattle.sb_lex.proofs.RunsAreLongest.{run_is_whole, run_is_longest}
-use Rattle.sb_lex.proofs.PiecesJoin.{Around, around, around_append, around_length, Begun, begun, some_pass}
+use Rattle.sb_lex.proofs.PiecesJoin.{around, around_append, around_length, begun, some_pass}
 use Rattle.sb_lex.proofs.StringsEnd.{string_len-text}
 use Rattle.sb_lex.proofs.ScannedIsToken.{filling_is_hex, letter_is_word_byte, Unsigned}
 
@@ -105,9 +104,9 @@ keyword_covers text rest t =
     let l = begun is_letter is_word_byte t.back t.second in
     let P : List ℕ → Type 0 = λ xs. Covers (scan (xs ++ rest)) kind.Keyword (length xs) in
     let plain : P (l.byte ∷ l.body) =
-        subst (λ h. Covers (scan_at h (l.byte ∷ l.body ++ rest)) kind.Keyword (suc (length l.body))) (sym (letter_head l.byte l.is_first)) (letters_cover (l.byte ∷ l.body ++ rest) (suc (length l.body)) (letters_run l.byte l.body rest l.is_first l.pass)) in
+    subst (λ h. Covers (scan_at h (l.byte ∷ l.body ++ rest)) kind.Keyword (suc (length l.body))) (sym (letter_head l.byte l.is_first)) (letters_cover (l.byte ∷ l.body ++ rest) (suc (length l.body)) (letters_run l.byte l.body rest l.is_first l.pass)) in
     let marked : P (33 ∷ l.byte ∷ l.body) =
-        subst (Covers (scan_exclamation (33 ∷ l.byte ∷ l.body ++ rest)) kind.Keyword) (one-add (suc (length l.body))) (exclamation_covers l.byte (l.body ++ rest) (suc (length l.body)) l.is_first (letters_run l.byte l.body rest l.is_first l.pass)) in
+    subst (Covers (scan_exclamation (33 ∷ l.byte ∷ l.body ++ rest)) kind.Keyword) (one-add (suc (length l.body))) (exclamation_covers l.byte (l.body ++ rest) (suc (length l.body)) l.is_first (letters_run l.byte l.body rest l.is_first l.pass)) in
     ⊎_elim
     (λ none. subst P (sym (t.joined ∙ ap₂ (λ x y. x ++ y) none l.whole)) plain)
     (λ mark. subst P (sym (t.joined ∙ ap₂ (λ x y. x ++ y) mark l.whole)) marked)
@@ -127,7 +126,7 @@ name_found number digits rest numeral range free =
     let bs = digits ++ rest in
     let size = run_is_whole is_ascii_digit digits rest pass free in
     let value : digits_value 10 (take (prefix_len is_ascii_digit bs) bs) ≡ number =
-        ap (λ n. digits_value 10 (take n bs)) size ∙ ap (digits_value 10) (take_at digits rest (length digits) refl) ∙ numeral.value in
+    ap (λ n. digits_value 10 (take n bs)) size ∙ ap (digits_value 10) (take_at digits rest (length digits) refl) ∙ numeral.value in
     name_in_range bs (rw value range.positive) (rw value range.fits) ∙ ap₂ (λ v n. Some (kind.Name v, 1 + n)) value size
 
 name_covers : (number : ℕ) (text rest : List ℕ) → IsName number text → begins_with is_ascii_digit rest ≡ false → Covers (scan (text ++ rest)) (kind.Name number) (length text)
@@ -137,7 +136,7 @@ name_covers number text rest name free =
     let P : List ℕ → Type 0 = λ xs. Covers (scan (xs ++ rest)) (kind.Name number) (length xs) in
     let whole : text ≡ 35 ∷ digits = t.joined ∙ ap (λ l. l ++ digits) t.first in
     let at : P (35 ∷ digits) =
-        covers_same (scan_name (35 ∷ digits ++ rest)) (kind.Name number) (1 + length digits) (suc (length digits)) (name_found number digits rest t.second name.in_range free) (one-add (length digits)) in
+    covers_same (scan_name (35 ∷ digits ++ rest)) (kind.Name number) (1 + length digits) (suc (length digits)) (name_found number digits rest t.second name.in_range free) (one-add (length digits)) in
     subst P (sym whole) at
 
 -- numbers
@@ -150,7 +149,7 @@ exponent_long bs n some least =
     let behind : drop signed (69 ∷ bs) ≡ drop (sign_len bs) bs = ap (λ k. drop k (69 ∷ bs)) (one-add (sign_len bs)) in
     let same : m ≡ prefix_len is_ascii_digit (drop (sign_len bs) bs) = ap (prefix_len is_ascii_digit) behind in
     let found : exponent_len (69 ∷ bs) ≡ signed + m =
-        cond-true (eqb 69 69 && ltb 0 m) (signed + m) 0 (lt-ltb 0 m (omega arith)) in
+    cond-true (eqb 69 69 && ltb 0 m) (signed + m) 0 (lt-ltb 0 m (omega arith)) in
     omega arith
 
 digits_begin : (digits : List ℕ) → Digits digits → begins_with is_ascii_digit digits ≡ true
@@ -178,7 +177,7 @@ signed_digits_long sign digits rest (inl none) some =
     let bare : sign_len (digits ++ rest) ≡ 0 = no_sign (digits ++ rest) (begins_append is_ascii_digit digits rest (digits_begin digits some)) in
     let P : List ℕ → Type 0 = λ s. 1 + (length s + length digits) ≤ exponent_len (69 ∷ s ++ (digits ++ rest)) in
     let least : length digits ≤ prefix_len is_ascii_digit (drop (sign_len (digits ++ rest)) (digits ++ rest)) =
-        subst (λ k. length digits ≤ prefix_len is_ascii_digit (drop k (digits ++ rest))) (sym bare) long.1 in
+    subst (λ k. length digits ≤ prefix_len is_ascii_digit (drop k (digits ++ rest))) (sym bare) long.1 in
     let whole : 1 + sign_len (digits ++ rest) + length digits ≤ exponent_len (69 ∷ (digits ++ rest)) = exponent_long (digits ++ rest) (length digits) long.0 least in
     let at : P [] = omega arith in
     subst P (sym none) at
@@ -188,7 +187,7 @@ signed_digits_long sign digits rest (inr byte) some =
     let one : sign_len bs ≡ 1 = rw byte.passes refl in
     let P : List ℕ → Type 0 = λ s. 1 + (length s + length digits) ≤ exponent_len (69 ∷ s ++ (digits ++ rest)) in
     let least : length digits ≤ prefix_len is_ascii_digit (drop (sign_len bs) bs) =
-        subst (λ k. length digits ≤ prefix_len is_ascii_digit (drop k bs)) (sym one) long.1 in
+    subst (λ k. length digits ≤ prefix_len is_ascii_digit (drop k bs)) (sym one) long.1 in
     let whole : 1 + sign_len bs + length digits ≤ exponent_len (69 ∷ bs) = exponent_long bs (length digits) long.0 least in
     let at : P (byte.byte ∷ []) = omega arith in
     subst P (sym byte.alone) at
@@ -201,7 +200,7 @@ exponent_covers text rest t =
     let P : List ℕ → Type 0 = λ l. length l ≤ exponent_len (l ++ rest) in
     let long = signed_digits_long sign digits rest t.second.first t.second.second in
     let at : P (69 ∷ (sign ++ digits)) =
-        rw (append_assoc sign digits rest) (omega (arith, length-append sign digits)) in
+    rw (append_assoc sign digits rest) (omega (arith, length-append sign digits)) in
     subst P (sym whole) at
 
 exponent_begins : (text : List ℕ) → Exponent text → begins_with is_ascii_digit text ≡ false
@@ -217,7 +216,7 @@ fraction_covers digits exponent rest pass (inl none) =
 fraction_covers digits exponent rest pass (inr is) =
     let size = run_is_whole is_ascii_digit digits (exponent ++ rest) pass (no_digit_append exponent rest is) in
     let behind : drop (prefix_len is_ascii_digit (digits ++ (exponent ++ rest))) (digits ++ (exponent ++ rest)) ≡ exponent ++ rest =
-        drop_at digits (exponent ++ rest) (prefix_len is_ascii_digit (digits ++ (exponent ++ rest))) (sym size) in
+    drop_at digits (exponent ++ rest) (prefix_len is_ascii_digit (digits ++ (exponent ++ rest))) (sym size) in
     omega (arith, size, ap exponent_len behind, exponent_covers exponent rest is)
 
 integer_covers : (digits rest : List ℕ) → Digits digits → Covers (scan_number (digits ++ rest)) kind.Integer (length digits)
@@ -248,17 +247,17 @@ real_covers text rest t =
     let tail = fraction.front ++ (fraction.back ++ rest) in
     let behind : t.back ≡ 46 ∷ t.second.back = t.second.joined ∙ ap (λ l. l ++ t.second.back) t.second.first in
     let spread : t.second.back ++ rest ≡ tail =
-        ap (λ l. l ++ rest) fraction.joined ∙ append_assoc fraction.front fraction.back rest in
+    ap (λ l. l ++ rest) fraction.joined ∙ append_assoc fraction.front fraction.back rest in
     let whole : text ++ rest ≡ digits ++ (46 ∷ tail) =
-        ap (λ l. l ++ rest) t.joined ∙ append_assoc digits t.back rest ∙ ap (λ l. digits ++ (l ++ rest)) behind ∙ ap (λ l. digits ++ (46 ∷ l)) spread in
+    ap (λ l. l ++ rest) t.joined ∙ append_assoc digits t.back rest ∙ ap (λ l. digits ++ (l ++ rest)) behind ∙ ap (λ l. digits ++ (46 ∷ l)) spread in
     let size = run_is_whole is_ascii_digit digits (46 ∷ tail) all.0 refl in
     let after_point : drop (n + 1) (digits ++ (46 ∷ tail)) ≡ tail =
-        ap (drop (n + 1)) (sym (append_assoc digits (46 ∷ []) tail)) ∙ drop_at (digits ++ 46 ∷ []) tail (n + 1) (length-append digits (46 ∷ [])) in
+    ap (drop (n + 1)) (sym (append_assoc digits (46 ∷ []) tail)) ∙ drop_at (digits ++ 46 ∷ []) tail (n + 1) (length-append digits (46 ∷ [])) in
     let found : scan_number (text ++ rest) ≡ Some (kind.Real, n + 1 + fraction_len tail) =
-        ap scan_number whole ∙ real_found (digits ++ (46 ∷ tail)) n size all.1 (get_or_at digits 46 tail 0 n refl) ∙ ap (λ l. Some (kind.Real, n + 1 + fraction_len l)) after_point in
+    ap scan_number whole ∙ real_found (digits ++ (46 ∷ tail)) n size all.1 (get_or_at digits 46 tail 0 n refl) ∙ ap (λ l. Some (kind.Real, n + 1 + fraction_len l)) after_point in
     let long = fraction_covers fraction.front fraction.back rest fraction.first fraction.second in
     let sized : length text ≡ n + (1 + (length fraction.front + length fraction.back)) =
-        omega (arith, ap length t.joined, length-append digits t.back, ap length behind, ap length fraction.joined, length-append fraction.front fraction.back) in
+    omega (arith, ap length t.joined, length-append digits t.back, ap length behind, ap length fraction.joined, length-append fraction.front fraction.back) in
     subst (λ o. Covers o kind.Real (length text)) (sym found) (omega arith, λ same. refl)
 
 real_begins : (text : List ℕ) → Unsigned kind.Real text → begins_with is_ascii_digit text ≡ true
@@ -276,7 +275,7 @@ number_covers k text rest t covered begins =
     let inner = covered digits t.second in
     let P : List ℕ → Type 0 = λ l. Covers (scan (l ++ rest)) k (length l) in
     let bare : P digits =
-        subst (λ o. Covers o k (length digits)) (sym (digit_scan (digits ++ rest) (begins_append is_ascii_digit digits rest (begins digits t.second)))) inner in
+    subst (λ o. Covers o k (length digits)) (sym (digit_scan (digits ++ rest) (begins_append is_ascii_digit digits rest (begins digits t.second)))) inner in
     ⊎_elim
     (λ none. subst P (sym (t.joined ∙ ap (λ l. l ++ digits) none)) bare)
     (λ sign. let signed : P (sign.byte ∷ digits) = subst (λ h. Covers (scan_at h (sign.byte ∷ digits ++ rest)) k (suc (length digits))) (sym (sign_head sign.byte sign.passes)) (subst (Covers (longer 1 (scan_number (digits ++ rest))) k) (one-add (length digits)) (covers_longer (scan_number (digits ++ rest)) k (length digits) inner)) in subst P (sym (t.joined ∙ ap (λ l. l ++ digits) sign.alone)) signed)
@@ -300,7 +299,7 @@ between_found : (begins : Bool) (k : Kind) (b : ℕ) (run rest : List ℕ) (n : 
 between_found begins k b run rest n first size =
     let P : ℕ → Type 0 = λ m. cond {A = Found} (begins && eqb (get_or (b ∷ run ++ (b ∷ rest)) (1 + m) 0) b) (Some (k, m + 2)) None ≡ Some (k, length run + 2) in
     let at : P (length run) =
-        cond-true (begins && eqb (get_or (b ∷ run ++ (b ∷ rest)) (1 + length run) 0) b) (Some (k, length run + 2)) None (and_from begins (eqb (get_or (b ∷ run ++ (b ∷ rest)) (1 + length run) 0) b) first (eq-eqb (get_or (b ∷ run ++ (b ∷ rest)) (1 + length run) 0) b (behind_run b b run rest))) in
+    cond-true (begins && eqb (get_or (b ∷ run ++ (b ∷ rest)) (1 + length run) 0) b) (Some (k, length run + 2)) None (and_from begins (eqb (get_or (b ∷ run ++ (b ∷ rest)) (1 + length run) 0) b) first (eq-eqb (get_or (b ∷ run ++ (b ∷ rest)) (1 + length run) 0) b (behind_run b b run rest))) in
     subst P (sym size) at
 
 enumeration_found : (letters rest : List ℕ) → Letters letters → scan_enumeration (46 ∷ letters ++ (46 ∷ rest)) ≡ Some (kind.Enumeration, length letters + 2)
@@ -308,10 +307,10 @@ unfolding scan_enumeration
 enumeration_found letters rest is =
     let l = begun is_letter is_word_byte letters is in
     let pass : list_all is_word_byte letters ≡ true =
-        ap (list_all is_word_byte) l.whole ∙ and_from (is_word_byte l.byte) (list_all is_word_byte l.body) (letter_is_word_byte l.byte l.is_first) l.pass in
+    ap (list_all is_word_byte) l.whole ∙ and_from (is_word_byte l.byte) (list_all is_word_byte l.body) (letter_is_word_byte l.byte l.is_first) l.pass in
     let size = run_is_whole is_word_byte letters (46 ∷ rest) pass refl in
     let first : is_letter (get_or (letters ++ (46 ∷ rest)) 0 0) ≡ true =
-        ap (λ xs. is_letter (get_or (xs ++ (46 ∷ rest)) 0 0)) l.whole ∙ l.is_first in
+    ap (λ xs. is_letter (get_or (xs ++ (46 ∷ rest)) 0 0)) l.whole ∙ l.is_first in
     between_found (is_letter (get_or (letters ++ (46 ∷ rest)) 0 0)) kind.Enumeration 46 letters rest (prefix_len is_word_byte (letters ++ (46 ∷ rest))) first size
 
 binary_found : (digits rest : List ℕ) → HexDigits digits → scan_binary (34 ∷ digits ++ (34 ∷ rest)) ≡ Some (kind.Binary, length digits + 2)
@@ -319,10 +318,10 @@ unfolding scan_binary
 binary_found digits rest is =
     let l = begun is_filling is_hex digits is in
     let pass : list_all is_hex digits ≡ true =
-        ap (list_all is_hex) l.whole ∙ and_from (is_hex l.byte) (list_all is_hex l.body) (filling_is_hex l.byte l.is_first) l.pass in
+    ap (list_all is_hex) l.whole ∙ and_from (is_hex l.byte) (list_all is_hex l.body) (filling_is_hex l.byte l.is_first) l.pass in
     let size = run_is_whole is_hex digits (34 ∷ rest) pass refl in
     let first : is_filling (get_or (digits ++ (34 ∷ rest)) 0 0) ≡ true =
-        ap (λ xs. is_filling (get_or (xs ++ (34 ∷ rest)) 0 0)) l.whole ∙ l.is_first in
+    ap (λ xs. is_filling (get_or (xs ++ (34 ∷ rest)) 0 0)) l.whole ∙ l.is_first in
     between_found (is_filling (get_or (digits ++ (34 ∷ rest)) 0 0)) kind.Binary 34 digits rest (prefix_len is_hex (digits ++ (34 ∷ rest))) first size
 
 enumeration_covers : (text rest : List ℕ) → IsOf kind.Enumeration text → Covers (scan (text ++ rest)) kind.Enumeration (length text)

@@ -1,6 +1,6 @@
 -- The kinds of tokens of an exchange text (ISO 10303-21): each is a set of byte strings, together with
 -- what may not follow it directly.
-use Rattle.std.specs.Prelude.{◌≡◌, ℕ, ◌^◌, ◌<◌, ◌⊎◌, Bool, false, not, ◌==◌, List, [], ◌∷◌, codes}
+use Rattle.std.specs.Prelude.{◌≡◌, ℕ, ◌^◌, ◌<◌, ◌⊎◌, Bool, false, not, List, [], ◌∷◌, codes}
 use Rattle.std.specs.Char.{is_ascii_digit}
 use Rattle.std.specs.Str.Parse.{digits_value}
 use Rattle.sb_lex.specs.declared.kinds.Kind.{Kind}
@@ -9,8 +9,8 @@ use Rattle.sb_lex.specs.declared.kinds.Mark.{Mark}
 use Rattle.sb_lex.specs.declared.kinds.Mark.TheVariants as mark
 use Rattle.sb_lex.specs.declared.kinds.Word.{Word}
 use Rattle.sb_lex.specs.declared.kinds.Word.TheVariants as word
-use Rattle.sb_lex.specs.Sets.{Text, Byte, Bytes, SomeBytes, Joined, ◌⋅◌, Optional, Repeated, Holds}
-use Rattle.sb_lex.specs.Bytes.{exclamation, quote, hash, dollar, apostrophe, open_parenthesis, close_parenthesis, asterisk, plus, comma, minus, point, slash, semicolon, equals, capital_e, underscore, is_letter, is_word_byte, is_hex, is_filling, is_sign, is_white, is_apostrophe}
+use Rattle.sb_lex.specs.Sets.{Text, Byte, Bytes, SomeBytes, ◌⋅◌, Optional, Repeated, Holds}
+use Rattle.sb_lex.specs.Bytes.{dollar, open_parenthesis, close_parenthesis, asterisk, comma, semicolon, equals, is_letter, is_word_byte, is_hex, is_filling, is_sign, is_white, is_apostrophe}
 
 -- the two words that stand around a text
 abbrev pub word_text : Word → List ℕ

@@ -1,6 +1,6 @@
 -- What the private functions promise: the kind and the length of the token at the front of the bytes
 -- that are left, found without going back. The laws join this to the grammar: it gives its tokens.
-use Rattle.std.specs.Prelude.{◌≡◌, ℕ, ◌+◌, ◌^◌, Bool, not, ◌&&◌, ◌==◌, nat_eq, nat_lt, if◌then◌else◌, List, [], ◌∷◌, length, take, drop, slice_index, codes, Option, Some, None}
+use Rattle.std.specs.Prelude.{ℕ, ◌+◌, ◌^◌, Bool, ◌&&◌, ◌==◌, nat_eq, nat_lt, if◌then◌else◌, List, [], ◌∷◌, take, drop, slice_index, codes, Option, Some, None}
 use Rattle.std.specs.List.{prefix_len, starts_with}
 use Rattle.std.specs.Char.{is_ascii_digit}
 use Rattle.std.specs.Str.Parse.{digits_value}
@@ -10,7 +10,7 @@ use Rattle.sb_lex.specs.declared.kinds.Mark.TheVariants as mark
 use Rattle.sb_lex.specs.declared.kinds.Word.TheVariants as word
 use Rattle.sb_lex.specs.declared.dispatch.Head.{Head}
 use Rattle.sb_lex.specs.declared.dispatch.Head.TheVariants as head
-use Rattle.sb_lex.specs.Bytes.{exclamation, quote, hash, dollar, apostrophe, open_parenthesis, close_parenthesis, asterisk, comma, minus, point, slash, semicolon, equals, capital_e, is_letter, is_word_byte, is_hex, is_filling, is_sign, is_white, is_apostrophe}
+use Rattle.sb_lex.specs.Bytes.{exclamation, quote, hash, dollar, open_parenthesis, close_parenthesis, asterisk, comma, minus, point, slash, semicolon, equals, capital_e, is_letter, is_word_byte, is_hex, is_filling, is_sign, is_white, is_apostrophe}
 
 -- a kind and a length, or none
 abbrev pub Found : Type 0

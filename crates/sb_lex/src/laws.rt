@@ -7,5 +7,4 @@ pub fn tokens_are_one_list()
     ensures by_calls { CallsGiveTokens }
     ensures one_at_a_place { OneTokenAtAPlace }
     ensures refusal_stays { RefusalStays }
-{
-}
+{}

@@ -1,6 +1,5 @@
-use Rattle.std.proofs.Common.{◌≡◌, ◌+◌, ◌*◌, ◌<◌, ℕ, true, min, length, take, drop, get_or, sym, ap, ◌∙◌, arith}
+use Rattle.std.proofs.Common.{◌≡◌, ◌+◌, ◌*◌, ℕ, true, min, get_or, sym, ap, ◌∙◌, arith}
 use Rattle.std.specs.Char.{is_ascii_digit, digit_value}
-use Rattle.std.specs.List.{prefix_len}
 use Rattle.std.proofs.lemmas.List.Sums.{prefix_len-drop_yes}
 use Rattle.std.proofs.lemmas.Int.Digits.{digits_value_more}
 use Rattle.sb_lex.proofs.names.number.Goals as goal
@@ -14,7 +13,7 @@ digits-preserved c =
     let bytes = c.args.bytes.now in
     let len = c.digits.len in
     let is_digit : is_ascii_digit (get_or bytes len 0) ≡ true =
-        sym c.is_ascii_digit.ensures.value ∙ c.if-is_ascii_digit.true in
+    sym c.is_ascii_digit.ensures.value ∙ c.if-is_ascii_digit.true in
     record {
       within = omega arith;
       run = omega (arith, c.digits.invariant.run, prefix_len-drop_yes is_ascii_digit bytes len 0 (omega arith) is_digit);

@@ -1,4 +1,4 @@
-use Rattle.std.proofs.Common.{length, drop, ◌∙◌, ap, arith, length-drop}
+use Rattle.std.proofs.Common.{◌∙◌, ap, arith, length-drop}
 use Rattle.std.proofs.lemmas.List.{take_rest}
 use Rattle.sb_lex.specs.Steps.{piece_len}
 use Rattle.sb_lex.proofs.GapsAgree.{blank_more}

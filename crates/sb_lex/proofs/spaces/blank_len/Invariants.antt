@@ -1,4 +1,4 @@
-use Rattle.std.proofs.Common.{◌≡◌, ◌≤◌, ◌-◌, length, take}
+use Rattle.std.proofs.Common.{◌≤◌, ◌-◌, length, take}
 use Rattle.sb_lex.specs.Kinds.{Blank}
 use Rattle.sb_lex.proofs.spaces.blank_len.Given as goal
 
