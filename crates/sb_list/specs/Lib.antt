@@ -1,0 +1,1 @@
+-- Contracts of lists cite the words of the standard library alone.

@@ -1,0 +1,3 @@
+-- Lemmas on whole texts, each file a claim.
+mod PiecesJoin
+mod PiecesAppend

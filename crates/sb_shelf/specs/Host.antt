@@ -1,0 +1,24 @@
+-- What a shelf over real files stands for: it tells no bytes.
+use Rattle.std.specs.Prelude.{ℕ, Bool, true, None}
+use Rattle.sb_shelf.specs.declared.shelf.Out.{Out}
+use Rattle.sb_shelf.specs.declared.shelf.Out.TheVariants.{Ifc, Idf, Report, Said}
+use Rattle.sb_shelf.specs.Outside.{Outside}
+
+-- which outputs are created: each file as given, and the message always
+abbrev pub created_of : Bool → Bool → Bool → Out → Bool
+created_of ifc idf report Ifc = ifc
+created_of ifc idf report Idf = idf
+created_of ifc idf report Report = report
+created_of ifc idf report Said = true
+
+-- from which files are created, and from the three counts of faults
+abbrev pub host_state : Bool → Bool → Bool → ℕ → ℕ → ℕ → Outside
+host_state ifc idf report read_count file_count said_count = record {
+  under = λ _. None;
+  left = None;
+  is_created = created_of ifc idf report;
+  bytes = λ _. None;
+  read_faults = read_count;
+  file_faults = file_count;
+  said_faults = said_count;
+}

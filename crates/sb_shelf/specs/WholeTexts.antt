@@ -1,0 +1,19 @@
+-- What reading a whole text and writing one promise beyond single calls.
+use Rattle.std.specs.Prelude.{◌≡◌, ℕ, ◌-◌, List, ◌++◌, length, take, Option, Result, IsErrOf}
+use Rattle.std.specs.Option.{option_map}
+use Rattle.sb_shelf.specs.declared.reading.ReadError.{ReadError}
+use Rattle.sb_shelf.specs.declared.reading.ReadError.TheVariants.{ReadFault, NoMemory}
+use Rattle.sb_shelf.specs.Outside.{Outside}
+
+-- the answer is neither want of memory nor a fault of reading
+abbrev pub IsJudged : {T : Type 0} → Result T ReadError → Type 0
+IsJudged result = (¬ IsErrOf result NoMemory) × (¬ IsErrOf result ReadFault)
+
+-- what was taken so far and what is left, as one text
+abbrev pub taken_and_left : List ℕ → Outside → Option (List ℕ)
+taken_and_left taken s = option_map (λ left. taken ++ left) s.left
+
+-- What stands there now is what stood there before, and then a first part of the text: before "ab"
+-- and now "abc" is a first part of "cd", "abd" is none.
+abbrev pub AppendsFirstOf : List ℕ → List ℕ → List ℕ → Type 0
+AppendsFirstOf text before now = now ≡ before ++ take (length now - length before) text

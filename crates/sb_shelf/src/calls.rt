@@ -1,0 +1,54 @@
+ghost use Rattle.std.specs.Prelude.{◌≡◌, ◌≤◌, ◌-◌, ◌++◌, true, length, is_err, nat_lt, ◌||◌, IfOk, OnOk, OnErr};
+ghost use Rattle.sb_shelf.specs.Outside.{one_more};
+ghost use Rattle.sb_shelf.specs.Counting.{is_among, count_after};
+
+use crate::sheet::Sheet;
+use crate::shelf::Failed;
+use sb_list::Listed;
+
+/// Numbers of calls, the first of a shelf being 1.
+pub type Calls = Listed<u64>;
+
+/// Adds one to a count, which stays at its last value.
+pub(crate) fn raise(count: &mut u64)
+    ensures raised { count.new ≡ one_more count.old }
+    ensures no_fall { count.old ≤ count.new }
+{
+    *count = count.saturating_add(1);
+}
+
+/// Numbers the next call, and answers whether it is one of those that are to fail.
+pub(crate) fn is_next_listed(calls: &mut u64, failing: &Calls) -> bool
+    ensures number { calls.new ≡ one_more calls.old }
+    ensures listed { result ≡ is_among failing.now (one_more calls.old) }
+{
+    raise(calls);
+    failing.as_slice().contains(calls)
+}
+
+/// Appends these bytes, or fails and counts the fault: where the call is listed, and where the sheet
+/// has no room for all of them.
+pub(crate) fn append_unless(
+    is_listed: bool,
+    sheet: &mut Sheet,
+    bytes: &[u8],
+    faults: &mut u64,
+) -> Result<usize, Failed>
+    requires { sheet.old.is_created ≡ true }
+    ensures fails { is_err result ≡ (is_listed || nat_lt sheet.old.room (length bytes.now)) }
+    ensures faults { faults.new ≡ count_after result faults.old }
+    ensures no_fall { faults.old ≤ faults.new }
+    ensures created { sheet.new.is_created ≡ true }
+    ensures count { IfOk result (λ n. n ≡ length bytes.now) }
+    ensures bytes { OnOk result (sheet.new.bytes.items ≡ sheet.old.bytes.items ++ bytes.now) }
+    ensures room { OnOk result (sheet.new.room ≡ sheet.old.room - length bytes.now) }
+    ensures same_bytes { OnErr result (sheet.new.bytes.items ≡ sheet.old.bytes.items) }
+    ensures same_room { OnErr result (sheet.new.room ≡ sheet.old.room) }
+{
+    if is_listed || bytes.len() > sheet.room {
+        raise(faults);
+        return Err(Failed);
+    }
+    sheet.append(bytes);
+    Ok(bytes.len())
+}
