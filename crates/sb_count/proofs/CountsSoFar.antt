@@ -1,8 +1,9 @@
 -- The tokens that were counted stand before the place that was reached: whatever follows there completes them.
-use Rattle.std.proofs.Common.{◌≡◌, ℕ, ◌+◌, List, [], ◌∷◌, Option, length, refl, ap, ◌∙◌, arith}
+use Rattle.std.proofs.Common.{◌≡◌, ℕ, ◌+◌, List, [], ◌∷◌, Option, length, arith}
 use Rattle.sb_lex.specs.declared.kinds.Token.{Token}
 use Rattle.sb_lex.specs.declared.kinds.BadToken.{BadToken}
 use Rattle.sb_lex.specs.Tokens.{IsNext, AreTokensFrom, AreTokens}
+use Rattle.sb_count.specs.Counts.{CountsTokens}
 
 -- the tokens of the input, if those from the place on are these
 pub record Completed (input : List ℕ) (counted : ℕ) (rest : List Token) (fault : Option BadToken) : Type 0 where
@@ -22,6 +23,12 @@ pub one_more : (input : List ℕ) (counted place : ℕ) (t : Token) → SoFar in
 one_more input counted place t so_far next = record {
   completes =
       λ rest fault are.
-          let all = so_far.completes (t ∷ rest) fault (next, are) in
-          record { tokens = all.tokens; are = all.are; number = omega (arith, all.number) };
+      let all = so_far.completes (t ∷ rest) fault (next, are) in
+      record { tokens = all.tokens; are = all.are; number = omega (arith, all.number) };
 }
+
+-- where the calls end, all are counted
+pub all_counted : (input : List ℕ) (counted place : ℕ) (fault : Option BadToken) → SoFar input counted place → AreTokensFrom input place [] fault → CountsTokens input (record { tokens = counted; fault = fault })
+all_counted input counted place fault so_far are =
+    let all = so_far.completes [] fault are in
+    record { tokens = all.tokens; are = all.are; number = omega (arith, all.number) }

@@ -3,6 +3,7 @@ ghost use Rattle.sb_count.specs.Counts.{CountsTokens};
 use sb_lex::{BadToken, Lexer};
 
 /// How many tokens an input has, and the fault behind them.
+#[derive(Drop)]
 pub struct Count {
     pub tokens: usize,
     pub fault: Option<BadToken>,
@@ -17,8 +18,14 @@ pub fn count_tokens(bytes: &[u8]) -> Count
     'calls: loop {
         match lexer.next() {
             Ok(Some(_)) => tokens += 1,
-            Ok(None) => return Count { tokens, fault: None },
-            Err(bad) => return Count { tokens, fault: Some(bad) },
+            Ok(None) => return Count {
+                tokens,
+                fault: None,
+            },
+            Err(bad) => return Count {
+                tokens,
+                fault: Some(bad),
+            },
         }
     }
 }

@@ -11,7 +11,7 @@ use Rattle.sb_lex.proofs.PiecesJoin.{repeated_cons, repeated_nothing}
 use Rattle.sb_lex.proofs.GapsAgree.{piece_found}
 use Rattle.sb_lex.proofs.ScannedIsToken.{le_zero}
 use Rattle.sb_lex.proofs.OneAnswer.{Answer, answer_by, Stop, answer_holds, answers_agree, token_found}
-use Rattle.sb_lex.proofs.TokensHaveBytes.{next_lies, one_at_least}
+use Rattle.sb_lex.proofs.TokensHaveBytes.{next_lies}
 
 -- a gap at the front of bytes, where it stops
 pub record Gap (bytes : List ℕ) : Type 0 where
@@ -89,7 +89,7 @@ pub record HasTokens (input : List ℕ) (from : ℕ) : Type 0 where
 next_goes_on : (input : List ℕ) (from : ℕ) (t : Token) → IsNext input from t → (from < t.end) × (t.end ≤ length input)
 next_goes_on input from t next =
     let lies = next_lies (record { input = input; place = from }) t next in
-    (omega (arith, lies.behind, lies.long, one_at_least t.kind), lies.within)
+    (omega (arith, lies.behind, lies.some), lies.within)
 
 tokens_by : (fuel : ℕ) (input : List ℕ) (from : ℕ) → length input ≤ from + fuel → (answer : Answer) → Answers (record { input = input; place = from }) answer → HasTokens input from
 tokens_by fuel input from enough (Ok None) holds = record { tokens = []; fault = None; are = holds }

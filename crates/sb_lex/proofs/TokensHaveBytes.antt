@@ -34,6 +34,14 @@ long_enough kind.Enumeration text is = two_around (codes ".") (codes ".") Letter
 long_enough kind.Binary text is = two_around (codes "\"") (codes "\"") HexDigits text is refl refl
 long_enough (kind.Mark m) text is = omega (arith, ap length is)
 
+-- a kind has a byte at least
+one_at_least : (k : Kind) → 1 ≤ least_length k
+one_at_least (kind.Word w) = omega arith
+one_at_least kind.Str = omega arith
+one_at_least kind.Enumeration = omega arith
+one_at_least kind.Binary = omega arith
+one_at_least _ = omega arith
+
 -- where the next token lies
 pub next_lies : (at : Reading) (t : Token) → IsNext at.input at.place t → LiesBehind at t
 next_lies at t next =
@@ -41,6 +49,8 @@ next_lies at t next =
     let long = long_enough t.kind (slice_range at.input t.start t.end) c.of_kind in
     record {
       behind = next.gap.ordered;
+      some =
+          omega (arith, long, one_at_least t.kind, slice_length at.input t.start t.end c.ordered c.within, c.ordered);
       long = omega (arith, long, slice_length at.input t.start t.end c.ordered c.within, c.ordered);
       within = c.within;
     }
@@ -49,11 +59,3 @@ pub answer_lies : (at : Reading) (answer : Answer) → Answers at answer → Lie
 answer_lies at (Ok (Some t)) next = next_lies at t next
 answer_lies at (Ok None) at_end = tt
 answer_lies at (Err bad) is = (is.gap.ordered, is.within)
-
--- a kind has a byte at least
-pub one_at_least : (k : Kind) → 1 ≤ least_length k
-one_at_least (kind.Word w) = omega arith
-one_at_least kind.Str = omega arith
-one_at_least kind.Enumeration = omega arith
-one_at_least kind.Binary = omega arith
-one_at_least _ = omega arith

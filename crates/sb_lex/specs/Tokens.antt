@@ -73,16 +73,18 @@ place_after at (Err bad) = bad.0
 abbrev pub moved : Reading → Result (Option Token) BadToken → Reading
 moved at answer = record { input = at.input; place = place_after at answer }
 
--- A token of the kind has so many bytes at least. A string, an enumeration and a binary have a first byte
--- and a last one, between which their inside lies.
+-- how many bytes a token of the kind has at least. A string, an enumeration and a binary have a first byte and
+-- a last one, between which their inside lies
 abbrev pub least_length : Kind → ℕ
 least_length kind.Str = 2
 least_length kind.Enumeration = 2
 least_length kind.Binary = 2
 least_length _ = 1
 
+-- the token is not empty, and lies in the input, not before the reader
 pub record LiesBehind (at : Reading) (t : Token) : Type 0 where
   pub behind : at.place ≤ t.start
+  pub some : t.start < t.end
   pub long : t.start + least_length t.kind ≤ t.end
   pub within : t.end ≤ length at.input
 

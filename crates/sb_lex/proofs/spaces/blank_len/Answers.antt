@@ -8,7 +8,7 @@ pub pieces-preserved : goal.pieces-preserved
 pieces-preserved c =
     let rest = c.args.rest.now in
     record {
-      within = omega (arith, c.piece_len-len.ensures.within, take_rest rest c.pieces.at, length-drop c.pieces.at rest);
+      within = omega (arith, c.piece_len-len.ensures.within, length-drop c.pieces.at rest);
       blank =
           blank_more rest c.pieces.at c.piece_len-len.result (c.piece_len-len.ensures.len ∙ ap piece_len (take_rest rest c.pieces.at)) (omega arith) c.pieces.invariant.blank;
     }
