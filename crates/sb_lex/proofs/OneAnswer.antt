@@ -248,5 +248,10 @@ answers_agree at r q a b =
     first.answer_is ∙ ap (λ k. answer_by (scan (drop k at.input)) k (length at.input)) same ∙ sym second.answer_is
 
 -- an answer that holds is given exactly where another holds that is the same
-pub answer_pins : (at : Reading) (r q : Answer) → Answers at r → (r ≡ q) ↔ Answers at q
-answer_pins at r q holds = (λ same. subst (Answers at) same holds, λ other. answers_agree at r q holds other)
+pub answer_pins : (at : Reading) (r q : Answer) → Answers at r
+    → (r ≡ q) ↔ Answers at q
+answer_pins at r q holds = (
+  λ same. subst (Answers at) same holds,
+  λ other. answers_agree at
+      r q holds other,
+)
