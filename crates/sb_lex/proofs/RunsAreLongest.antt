@@ -6,7 +6,8 @@ use Rattle.sb_lex.specs.Bytes.{begins_with}
 
 module _ (test : ℕ → Bool) where
   -- a run that is followed by another byte is just so long
-  pub run_is_whole : (run rest : List ℕ) → list_all test run ≡ true → begins_with test rest ≡ false → prefix_len test (run ++ rest) ≡ length run
+  pub run_is_whole : (run rest : List ℕ) → list_all test run ≡ true → begins_with test rest ≡ false
+      → prefix_len test (run ++ rest) ≡ length run
   run_is_whole [] [] pass stops = refl
   run_is_whole [] (b ∷ bs) pass stops = rw stops
   run_is_whole (b ∷ bs) rest pass stops =
@@ -14,7 +15,8 @@ module _ (test : ℕ → Bool) where
       rw parts.0 (ap (λ n. 1 + n) (run_is_whole bs rest parts.1 stops) ∙ one-add (length bs))
 
   -- a run is at most so long
-  pub run_is_longest : (run rest : List ℕ) → list_all test run ≡ true → length run ≤ prefix_len test (run ++ rest)
+  pub run_is_longest : (run rest : List ℕ) → list_all test run ≡ true → length run ≤ prefix_len
+      test (run ++ rest)
   run_is_longest [] rest pass = omega arith
   run_is_longest (b ∷ bs) rest pass =
       let parts = and_parts (test b) (list_all test bs) pass in
@@ -43,5 +45,13 @@ module _ (test : ℕ → Bool) where
         stops = more.stops;
         size = rw yes (ap (λ n. 1 + n) more.size ∙ one-add (length more.run));
       })
-      (λ no. record { run = []; rest = b ∷ bs; joined = refl; pass = refl; stops = no; size = rw no refl })
+      (λ no. record {
+        run = [];
+        rest = b ∷ bs;
+        joined = refl;
+        pass = refl;
+        stops = no;
+        size = rw no
+            refl;
+      })
       (cases_Bool (test b))

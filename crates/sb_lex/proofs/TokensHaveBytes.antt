@@ -13,23 +13,38 @@ use Rattle.sb_lex.specs.Tokens.{IsNext, Reading, Answers, least_length, LiesBehi
 use Rattle.sb_lex.proofs.PiecesJoin.{around, around_length, begun, some_pass}
 use Rattle.sb_lex.proofs.OneAnswer.{Answer, slice_length}
 
-two_around : (a b : List ℕ) (P : List ℕ → Type 0) (text : List ℕ) → (Text a ⋅ P ⋅ Text b) text → length a ≡ 1 → length b ≡ 1 → 2 ≤ length text
+two_around : (a b : List ℕ) (P : List ℕ → Type 0) (text : List ℕ) → (Text a ⋅ P ⋅ Text b) text
+    → length a ≡ 1 → length b ≡ 1 → 2 ≤ length text
 two_around a b P text is one other =
     let t = around a b P text is in omega (arith, around_length a b P text t)
 
-behind : (P Q : List ℕ → Type 0) (text : List ℕ) (t : (P ⋅ Q) text) → length text ≡ length t.front + length t.back
+behind : (P Q : List ℕ → Type 0) (text : List ℕ) (t : (P ⋅ Q) text) → length text ≡ length t.front
+    + length t.back
 behind P Q text t = ap length t.joined ∙ length-append t.front t.back
 
 pub long_enough : (k : Kind) (text : List ℕ) → IsOf k text → least_length k ≤ length text
 long_enough (kind.Word word.First) text is = omega (arith, ap length is)
 long_enough (kind.Word word.Last) text is = omega (arith, ap length is)
 long_enough kind.Keyword text is =
-    omega (arith, behind _ _ text is, ap length (begun is_letter is_word_byte is.back is.second).whole)
-long_enough (kind.Name n) text is = omega (arith, behind _ _ text is.written, ap length is.written.first)
-long_enough kind.Integer text is = omega (arith, behind _ _ text is, (some_pass is_ascii_digit is.back is.second).1)
+    omega (
+      arith,
+      behind _ _ text is,
+      ap length
+          (begun is_letter is_word_byte is.back is.second).whole,
+    )
+long_enough (kind.Name n) text is = omega
+    (arith, behind _ _ text is.written, ap length is.written.first)
+long_enough kind.Integer text is = omega
+    (arith, behind _ _ text is, (some_pass is_ascii_digit is.back is.second).1)
 long_enough kind.Real text is =
-    omega (arith, behind _ _ text is, behind _ _ is.back is.second, (some_pass is_ascii_digit is.second.front is.second.first).1)
-long_enough kind.Str text is = two_around (codes "'") (codes "'") (Repeated StringPiece) text is refl refl
+    omega (
+      arith,
+      behind _ _ text is,
+      behind _ _ is.back is.second,
+      (some_pass is_ascii_digit is.second.front is.second.first).1,
+    )
+long_enough kind.Str text is = two_around (codes "'") (codes "'") (Repeated StringPiece) text is
+    refl refl
 long_enough kind.Enumeration text is = two_around (codes ".") (codes ".") Letters text is refl refl
 long_enough kind.Binary text is = two_around (codes "\"") (codes "\"") HexDigits text is refl refl
 long_enough (kind.Mark m) text is = omega (arith, ap length is)
@@ -50,7 +65,14 @@ next_lies at t next =
     record {
       behind = next.gap.ordered;
       some =
-          omega (arith, long, one_at_least t.kind, slice_length at.input t.start t.end c.ordered c.within, c.ordered);
+          omega (
+            arith,
+            long,
+            one_at_least t.kind,
+            slice_length at.input t.start t.end c.ordered
+                c.within,
+            c.ordered,
+          );
       long = omega (arith, long, slice_length at.input t.start t.end c.ordered c.within, c.ordered);
       within = c.within;
     }

@@ -71,7 +71,8 @@ scan_letters rest =
 -- a `!` is at the front
 unfoldable pub scan_exclamation : List ℕ → Found
 scan_exclamation rest =
-    if is_letter (slice_index rest 1) then Some (kind.Keyword, 1 + prefix_len is_word_byte (drop 1 rest))
+    if is_letter (slice_index rest 1) then Some
+    (kind.Keyword, 1 + prefix_len is_word_byte (drop 1 rest))
     else None
 
 -- a `#` is at the front
@@ -99,7 +100,8 @@ unfoldable pub scan_number : List ℕ → Found
 scan_number rest =
     let n = prefix_len is_ascii_digit rest in
     if n == 0 then None
-    else if slice_index rest n == point then Some (kind.Real, n + 1 + fraction_len (drop (n + 1) rest))
+    else if slice_index rest n == point then Some
+    (kind.Real, n + 1 + fraction_len (drop (n + 1) rest))
     else Some (kind.Integer, n)
 
 -- how many bytes up to the end of the string, its last apostrophe among them

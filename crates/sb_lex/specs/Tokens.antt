@@ -18,7 +18,8 @@ pub record IsCandidate (input : List ℕ) (t : Token) : Type 0 where
 -- the token at its place is the longest that could be there
 pub record IsToken (input : List ℕ) (t : Token) : Type 0 where
   pub candidate : IsCandidate input t
-  pub longest : (other : Token) → IsCandidate input other → other.start ≡ t.start → other.end ≤ t.end
+  pub longest : (other : Token) → IsCandidate input other → other.start ≡ t.start → other.end ≤
+      t.end
 
 -- from one place to another there are only white space and comments
 pub record IsGap (input : List ℕ) (from to : ℕ) : Type 0 where
@@ -105,21 +106,25 @@ Calls at (t ∷ ts) fault = Answers at (Ok (Some t)) × Calls (moved at (Ok (Som
 
 -- each input has tokens: the calls come to an end
 abbrev pub EachInputHasTokens : Type 0
-EachInputHasTokens = (input : List ℕ) → (tokens : List Token) × (fault : Option BadToken) × AreTokens input tokens fault
+EachInputHasTokens = (input : List ℕ) → (tokens : List Token) × (fault : Option BadToken)
+    × AreTokens input tokens fault
 
 -- and no others
 abbrev pub TokensAreUnique : Type 0
 TokensAreUnique =
-    (input : List ℕ) (ts us : List Token) (fault other : Option BadToken) → AreTokens input ts fault → AreTokens input us other → (ts ≡ us) × (fault ≡ other)
+    (input : List ℕ) (ts us : List Token) (fault other : Option BadToken) → AreTokens input ts
+    fault → AreTokens input us other → (ts ≡ us) × (fault ≡ other)
 
 -- calling to the end gives the tokens, or the bad place behind them
 abbrev pub CallsGiveTokens : Type 0
 CallsGiveTokens =
-    (input : List ℕ) (tokens : List Token) (fault : Option BadToken) → Calls (record { input = input; place = 0 }) tokens fault ↔ AreTokens input tokens fault
+    (input : List ℕ) (tokens : List Token) (fault : Option BadToken)
+    → Calls (record { input = input; place = 0 }) tokens fault ↔ AreTokens input tokens fault
 
 -- at a place there is at most one token
 abbrev pub OneTokenAtAPlace : Type 0
-OneTokenAtAPlace = (input : List ℕ) (t u : Token) → IsToken input t → IsToken input u → t.start ≡ u.start → t ≡ u
+OneTokenAtAPlace = (input : List ℕ) (t u : Token) → IsToken input t → IsToken input u
+    → t.start ≡ u.start → t ≡ u
 
 -- a refusal is final: from the bad place on the same answer comes again
 abbrev pub RefusalStays : Type 0

@@ -10,5 +10,7 @@ pieces-preserved c =
     record {
       within = omega (arith, c.piece_len-len.ensures.within, length-drop c.pieces.at rest);
       blank =
-          blank_more rest c.pieces.at c.piece_len-len.result (c.piece_len-len.ensures.len ∙ ap piece_len (take_rest rest c.pieces.at)) (omega arith) c.pieces.invariant.blank;
+          blank_more rest c.pieces.at c.piece_len-len.result
+          (c.piece_len-len.ensures.len ∙ ap piece_len (take_rest rest c.pieces.at))
+          (omega arith) c.pieces.invariant.blank;
     }

@@ -16,4 +16,5 @@ returns-clause-none c =
 pub returns-clause-bad : goal.returns-clause-bad
 returns-clause-bad c =
     let holds : Answers c.args.self.now c.answer_from-answer.result = search rules in
-    λ place. answer_pins c.args.self.now c.answer_from-answer.result (Err (record { 0 = place })) holds
+    λ place. answer_pins c.args.self.now c.answer_from-answer.result (Err (record { 0 = place }))
+    holds
