@@ -1,4 +1,5 @@
--- The tokens that were counted stand before the place that was reached: whatever follows there completes them.
+-- The tokens that were counted stand before the place that was reached: whatever tokens follow from
+-- there complete them.
 use Rattle.std.proofs.Common.{◌≡◌, ℕ, ◌+◌, List, [], ◌∷◌, Option, length, arith}
 use Rattle.sb_lex.specs.declared.kinds.Token.{Token}
 use Rattle.sb_lex.specs.declared.kinds.BadToken.{BadToken}

@@ -48,7 +48,7 @@ closing_here b (c ∷ bs) closed =
       unclosed = λ h. nothing_holds h;
     }
 
--- a text with one byte more at the front is closed by the same `*/`, unless one begins with that byte
+-- one byte more at the front, unless `*/` begins with it, leaves a text unclosed
 unclosed_more : (b : ℕ) (text rest : List ℕ) → closes b (text ++ (42 ∷ 47 ∷ rest)) ≡ false
     → Unclosed text → Unclosed (b ∷ text)
 unclosed_more b text rest apart unclosed h = at_front h.before h.found

@@ -1,5 +1,5 @@
--- White space and comments are read in one way: two gaps from one place that stop before the same kind of
--- thing, where no piece begins, are equally long.
+-- White space and comments are read in one way: two gaps from one place, behind which no piece goes
+-- on, are equally long.
 use Rattle.std.proofs.Common.{◌≡◌, ℕ, ◌+◌, ◌<◌, List, [], ◌∷◌, ◌++◌, length, take, drop, sym, refl, ap, ◌∙◌, subst, inl, inr, arith, append_assoc, length-append, take_at, take-add}
 use Rattle.std.specs.Prelude.{codes}
 use Rattle.std.specs.List.{concat, AllByRecursion}

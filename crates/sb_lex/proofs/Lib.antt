@@ -9,3 +9,4 @@ pub mod TokenIsScanned
 pub mod OneAnswer
 pub mod TokensHaveBytes
 pub mod OneListOfTokens
+mod Examples

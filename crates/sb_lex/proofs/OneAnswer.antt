@@ -1,5 +1,5 @@
 -- To a call for the next token there is one answer.
-use Rattle.std.proofs.Common.{◌≡◌, ◌≢◌, ℕ, ◌+◌, ◌-◌, ◌<◌, ◌≤◌, ◌↔◌, true, cond, eqb, leb, List, ◌∷◌, ◌++◌, Option, Some, None, Result, Ok, Err, length, take, drop, sym, refl, ap, ◌∙◌, subst, ⊎_elim, inl, inr, arith, drop_at, length-append, length-take-le, length-drop, drop-drop, take-append-drop, le_refl}
+use Rattle.std.proofs.Common.{◌≡◌, ◌≢◌, ℕ, ◌+◌, ◌-◌, ◌<◌, ◌≤◌, ◌↔◌, true, cond, ◌&&◌, eqb, leb, List, ◌∷◌, ◌++◌, Option, Some, None, Result, Ok, Err, length, take, drop, sym, refl, ap, ◌∙◌, subst, ⊎_elim, inl, inr, arith, drop_at, length-append, length-take-le, length-drop, drop-drop, take-append-drop, le_refl}
 use Rattle.std.specs.Prelude.{codes, slice_range}
 use Rattle.std.proofs.lemmas.Bool.{cond_both, cond-true, cond-false, eqb-true, eq-eqb, ne_eqb, and_parts, or_cases, leb-true, cases_lt, eqb-false}
 use Rattle.std.proofs.lemmas.Option.{none-some}
@@ -93,7 +93,7 @@ found_candidate input from x within found =
     (subst (λ o. IsFront o (drop from input)) found (scan_front (drop from input)))
 
 -- what is found is the token
-found_token : (input : List ℕ) (from : ℕ) (x : Kind × ℕ) → from ≤ length input
+pub found_token : (input : List ℕ) (from : ℕ) (x : Kind × ℕ) → from ≤ length input
     → scan (drop from input) ≡ Some x → IsToken input (token_of x.0 from x.1)
 found_token input from x within found = record {
   candidate = found_candidate input from x within found;
@@ -105,7 +105,7 @@ found_token input from x within found = record {
       omega (arith, covered.0, candidate.ordered, same);
 }
 
-no_token_found : (input : List ℕ) (place : ℕ) → scan (drop place input) ≡ None → (t : Token)
+pub no_token_found : (input : List ℕ) (place : ℕ) → scan (drop place input) ≡ None → (t : Token)
     → IsCandidate input t → t.start ≢ place
 no_token_found input place none t candidate same =
     subst (λ o. Covers o t.kind (t.end - t.start)) (ap (λ k. scan (drop k input)) same ∙ none)
@@ -136,7 +136,7 @@ none_found input place (Some x) within no_token found =
 
 low_head : (h : Head) (b : ℕ) → b ≤ 32 → HeadFits h b → h ≡ head.Other
 low_head head.Letter b low fits =
-    ⊎_elim (λ capital. absurd
+    ⊎_elim (λ (capital : (leb 65 b && leb b 90) ≡ true). absurd
     (omega (arith, leb-true 65 b (and_parts (leb 65 b) (leb b 90) capital).0)))
     (λ underscore. absurd (omega (arith, eqb-true b 95 underscore)))
     (or_cases _ (eqb b 95) fits)
@@ -161,7 +161,7 @@ low_head head.Other b low fits = refl
 
 white_is_low : (b : ℕ) → is_white b ≡ true → b ≤ 32
 white_is_low b white =
-    ⊎_elim (λ control. omega (arith, leb-true b 13 (and_parts (leb 9 b) (leb b 13) control).1))
+    ⊎_elim (λ (control : (leb 9 b && leb b 13) ≡ true). omega (arith, leb-true b 13 (and_parts (leb 9 b) (leb b 13) control).1))
     (λ space. omega (arith, eqb-true b 32 space)) (or_cases _ (eqb b 32) white)
 
 blank_is_no_token : (text rest : List ℕ) → BlankPiece text → scan (text ++ rest) ≡ None
@@ -200,7 +200,7 @@ stops_at_bad bytes no_blank =
     (λ none. le_zero (piece_len bytes) none)
     (cases_lt 0 (piece_len bytes))
 
-no_blank_found : (bytes : List ℕ) → piece_len bytes ≡ 0 → Begins BlankPiece bytes → ⊥
+pub no_blank_found : (bytes : List ℕ) → piece_len bytes ≡ 0 → Begins BlankPiece bytes → ⊥
 no_blank_found bytes stops b =
     let piece = piece_len-piece b.front b.rest b.is in
     omega (arith, ap piece_len b.joined, piece.0, piece.1)

@@ -1,4 +1,4 @@
--- A string ends at the first apostrophe that has none beside it, when they are paired from the left.
+-- A string ends at the first apostrophe that has no partner, when they are paired from the left.
 use Rattle.std.proofs.Common.{◌≡◌, ℕ, suc, true, false, cond, List, [], ◌∷◌, ◌++◌, Option, Some, None, length, sym, refl, ap, ◌∙◌, subst, ⊎_elim, inl, inr, arith, one-add}
 use Rattle.std.specs.List.{concat, AllByRecursion}
 use Rattle.std.proofs.lemmas.Bool.{cond_both, eqb-true, not-true, not_from_false}

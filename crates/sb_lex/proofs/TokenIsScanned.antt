@@ -1,4 +1,5 @@
--- No string of any kind at the front is longer than what is found there, and one as long is of the same kind.
+-- No string of any kind at the front is longer than what is found there, and one as long is of the
+-- same kind.
 use Rattle.std.proofs.Common.{◌≡◌, ℕ, suc, ◌+◌, ◌^◌, ◌<◌, ◌≤◌, Bool, true, false, cond, ◌&&◌, eqb, ltb, leb, List, [], ◌∷◌, ◌++◌, Some, None, length, get_or, take, drop, sym, refl, ap, ap₂, ◌∙◌, subst, ⊎_elim, inl, inr, arith, one-add, append_assoc, length-append, take_at, drop_at}
 use Rattle.std.specs.Prelude.{codes, nat_eq}
 use Rattle.std.specs.List.{prefix_len, list_all, starts_with}

@@ -1,5 +1,5 @@
--- The bytes that the grammar of tokens names, and its classes of bytes. White space is the bytes 9 to
--- 13 and 32: ISO 10303-21 allows fewer, and this project reads them all.
+-- The bytes that the grammar of tokens names, and its classes of bytes. White space is the bytes 9
+-- to 13 and 32: ISO 10303-21 allows fewer there, and this project passes over them all.
 use Rattle.std.specs.Prelude.{ℕ, Bool, false, ◌||◌, ◌==◌, List, [], ◌∷◌}
 use Rattle.std.specs.Int.{is_in_range}
 use Rattle.std.specs.Char.{is_ascii_digit, is_ascii_uppercase}

@@ -1,5 +1,5 @@
--- The kinds of tokens of an exchange text (ISO 10303-21): each is a set of byte strings, together with
--- what may not follow it directly.
+-- The kinds of tokens of an exchange text (ISO 10303-21): each is a set of byte strings, together
+-- with what may not follow it directly.
 use Rattle.std.specs.Prelude.{◌≡◌, ℕ, ◌^◌, ◌<◌, ◌⊎◌, Bool, false, not, List, [], ◌∷◌, codes}
 use Rattle.std.specs.Char.{is_ascii_digit}
 use Rattle.std.specs.Str.Parse.{digits_value}
@@ -63,8 +63,8 @@ StringPiece xs = Byte (λ b. not (is_apostrophe b)) xs ⊎ Text (codes "''") xs
 abbrev pub HexDigits : List ℕ → Type 0
 HexDigits = Byte is_filling ⋅ Bytes is_hex
 
--- the byte strings of a kind. That a string, an enumeration and a binary are longer than two bytes or
--- just so long says where their inside lies: between their first byte and their last
+-- the byte strings of a kind, row by row. The inside of a string, an enumeration and a binary lies
+-- between their first byte and their last
 abbrev pub IsOf : Kind → List ℕ → Type 0
 IsOf (kind.Word w) = Text (word_text w)
 IsOf kind.Keyword = Optional (Text (codes "!")) ⋅ Letters
@@ -76,8 +76,8 @@ IsOf kind.Enumeration = Text (codes ".") ⋅ Letters ⋅ Text (codes ".")
 IsOf kind.Binary = Text (codes "\"") ⋅ HexDigits ⋅ Text (codes "\"")
 IsOf (kind.Mark m) = Text (mark_byte m ∷ [])
 
--- The bytes that may not follow a token of the kind directly. So a name takes all its digits, and the
--- apostrophes of a string are paired from the left.
+-- The bytes that may not follow a token of the kind directly. So a name takes all its digits, and
+-- the apostrophes of a string are paired from the left: `#4294967296` and `'a''b` begin no token.
 abbrev pub not_after : Kind → ℕ → Bool
 not_after (kind.Name n) b = is_ascii_digit b
 not_after kind.Str b = is_apostrophe b

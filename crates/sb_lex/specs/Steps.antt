@@ -1,5 +1,6 @@
--- What the private functions promise: the kind and the length of the token at the front of the bytes
--- that are left, found without going back. The laws join this to the grammar: it gives its tokens.
+-- What the private functions promise: the kind and the length of the token at the front of the
+-- bytes that are left, found without going back. The proofs join this to the grammar: what is found
+-- is the token that the grammar has there.
 use Rattle.std.specs.Prelude.{ℕ, ◌+◌, ◌^◌, Bool, ◌&&◌, ◌==◌, nat_eq, nat_lt, if◌then◌else◌, List, [], ◌∷◌, take, drop, slice_index, codes, Option, Some, None}
 use Rattle.std.specs.List.{prefix_len, starts_with}
 use Rattle.std.specs.Char.{is_ascii_digit}

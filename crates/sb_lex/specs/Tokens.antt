@@ -43,8 +43,8 @@ pub record IsBadFrom (input : List ℕ) (from place : ℕ) : Type 0 where
 abbrev pub IsEnd : List ℕ → ℕ → Type 0
 IsEnd input from = IsGap input from (length input)
 
--- The tokens of the input from a place on, and what ends them: the end of the input, or a place where
--- neither white space, a comment nor a token begins.
+-- The tokens of the input from a place on, and what ends them: the end of the input, or a place
+-- where neither white space, a comment nor a token begins.
 abbrev pub AreTokensFrom : List ℕ → ℕ → List Token → Option BadToken → Type 0
 AreTokensFrom input from [] None = IsEnd input from
 AreTokensFrom input from [] (Some bad) = IsBadFrom input from bad.0
@@ -74,8 +74,8 @@ place_after at (Err bad) = bad.0
 abbrev pub moved : Reading → Result (Option Token) BadToken → Reading
 moved at answer = record { input = at.input; place = place_after at answer }
 
--- how many bytes a token of the kind has at least. A string, an enumeration and a binary have a first byte and
--- a last one, between which their inside lies
+-- How many bytes a token of the kind has at least. A string, an enumeration and a binary have a
+-- first byte and a last one, between which their inside lies.
 abbrev pub least_length : Kind → ℕ
 least_length kind.Str = 2
 least_length kind.Enumeration = 2
@@ -95,8 +95,8 @@ Lies at (Ok (Some t)) = LiesBehind at t
 Lies at (Ok None) = Unit {0}
 Lies at (Err bad) = (at.place ≤ bad.0) × (bad.0 < length at.input)
 
--- Calls for the next token, one after another from the first byte on: they answered these tokens, and then
--- the end or the fault.
+-- Calls for the next token, one after another: they answered these tokens, and then the end or the
+-- fault.
 abbrev pub Calls : Reading → List Token → Option BadToken → Type 0
 Calls at [] None = Answers at (Ok None)
 Calls at [] (Some bad) = Answers at (Err bad)
