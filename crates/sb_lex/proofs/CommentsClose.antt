@@ -15,6 +15,7 @@ pub record Closing (bytes : List ℕ) (n : ℕ) : Type 0 where
   pub long : length text ≡ n
   pub unclosed : Unclosed text
 
+-- what was found is the text before the next `*/`
 abbrev pub IsClosing : Option ℕ → List ℕ → Type 0
 IsClosing None bytes = Unit {0}
 IsClosing (Some n) bytes = Closing bytes n

@@ -32,6 +32,7 @@ sliced input from to ordered =
     sym (take-append-drop (to - from) (drop from input)) ∙ ap (λ l. slice_range input from to ++ l)
     (drop-drop (to - from) from input ∙ ap (λ k. drop k input) (omega arith))
 
+-- what stands at a span is as long as the span
 pub slice_length : (input : List ℕ) (from to : ℕ) → from ≤ to → to ≤ length input
     → length (slice_range input from to) ≡ to - from
 slice_length input from to ordered within =
@@ -105,6 +106,7 @@ found_token input from x within found = record {
       omega (arith, covered.0, candidate.ordered, same);
 }
 
+-- where nothing is found there is no token
 pub no_token_found : (input : List ℕ) (place : ℕ) → scan (drop place input) ≡ None → (t : Token)
     → IsCandidate input t → t.start ≢ place
 no_token_found input place none t candidate same =
@@ -200,6 +202,7 @@ stops_at_bad bytes no_blank =
     (λ none. le_zero (piece_len bytes) none)
     (cases_lt 0 (piece_len bytes))
 
+-- where no length is found no piece begins
 pub no_blank_found : (bytes : List ℕ) → piece_len bytes ≡ 0 → Begins BlankPiece bytes → ⊥
 no_blank_found bytes stops b =
     let piece = piece_len-piece b.front b.rest b.is in
@@ -214,9 +217,11 @@ not_at_end place size within other = omega arith
 
 -- the answer at the place where the gap ends
 
+-- the answer to a call
 abbrev pub Answer : Type 0
 Answer = Result (Option Token) BadToken
 
+-- the answer by what is found where the gap ends
 abbrev pub answer_by : Found → ℕ → ℕ → Answer
 answer_by (Some x) place size = Ok (Some (token_of x.0 place x.1))
 answer_by None place size = cond (eqb place size) (Ok None) (Err (record { 0 = place }))
@@ -226,6 +231,7 @@ pub record Stop (input : List ℕ) (from place : ℕ) : Type 0 where
   pub gap : IsGap input from place
   pub stops : piece_len (drop place input) ≡ 0
 
+-- this answer is so
 pub answer_holds : (input : List ℕ) (from place : ℕ) (o : Found) → Stop input from place
     → scan (drop place input) ≡ o → Answers (record { input = input; place = from })
     (answer_by o place (length input))
@@ -249,6 +255,7 @@ pub record Answered (input : List ℕ) (from : ℕ) (answer : Answer) : Type 0 w
   pub stop : Stop input from place
   pub answer_is : answer ≡ answer_by (scan (drop place input)) place (length input)
 
+-- and an answer that is so is this one
 pub answered : (input : List ℕ) (from : ℕ) (answer : Answer)
     → Answers (record { input = input; place = from }) answer → Answered input from answer
 answered input from (Ok (Some t)) next =

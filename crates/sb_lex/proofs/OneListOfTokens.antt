@@ -162,10 +162,12 @@ tokens_agree input from (t ∷ ts) (u ∷ us) fault other a b =
 
 -- Laws
 
+-- each input has tokens
 pub each_input_has_tokens : EachInputHasTokens
 each_input_has_tokens input =
     let h = tokens_from input 0 (omega arith) in (h.tokens, h.fault, h.are)
 
+-- and no others
 pub tokens_are_unique : TokensAreUnique
 tokens_are_unique input ts us fault other a b = tokens_agree input 0 ts us fault other a b
 
@@ -189,12 +191,14 @@ calls_from_tokens at (t ∷ ts) fault are = (
       fault are.1,
 )
 
+-- calling to the end gives them
 pub calls_give_tokens : CallsGiveTokens
 calls_give_tokens input ts fault = (
   tokens_from_calls (record { input = input; place = 0 }) ts fault,
   calls_from_tokens (record { input = input; place = 0 }) ts fault,
 )
 
+-- at a place there is at most one token
 pub one_token_at_a_place : OneTokenAtAPlace
 one_token_at_a_place input t u is other same =
     let first = token_found input t (scan (drop t.start input)) is refl in

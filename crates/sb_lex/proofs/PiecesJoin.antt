@@ -19,10 +19,12 @@ pub record Ends (P : List ℕ → Type 0) (bytes : List ℕ) (n : ℕ) : Type 0 
   pub rest : List ℕ
   pub stands : Stands P bytes rest n
 
+-- two names of one length
 pub stands_so_long : (P : List ℕ → Type 0) (bytes rest : List ℕ) (m n : ℕ) → m ≡ n → Stands P bytes
     rest m → Stands P bytes rest n
 stands_so_long P bytes rest m n same s = subst (Stands P bytes rest) same s
 
+-- a string of the one set is one of the other
 pub stands_as : (P Q : List ℕ → Type 0) (bytes rest : List ℕ) (n : ℕ)
     → ((xs : List ℕ) → P xs → Q xs) → Stands P bytes rest n → Stands Q bytes rest n
 stands_as P Q bytes rest n of s =
@@ -58,10 +60,12 @@ within_by_byte bytes n positive =
     ⊎_elim (λ within. within) (λ past. absurd (omega (arith, get_or_past bytes n 0 past)))
     (cases_lt n (length bytes))
 
+-- a text at the front
 pub stands_text : (text rest : List ℕ) (n : ℕ) → length text ≡ n → Stands (Text text)
     (text ++ rest) rest n
 stands_text text rest n long = record { text = text; joined = refl; long = long; is = refl }
 
+-- a byte at the front
 pub stands_byte : (test : ℕ → Bool) (b : ℕ) (rest : List ℕ) → test b ≡ true → Stands (Byte test)
     (b ∷ rest) rest 1
 stands_byte test b rest passes = record {
@@ -129,9 +133,11 @@ pub text_is : (P : List ℕ → Type 0) (bytes rest : List ℕ) (n : ℕ) (s : S
     → s.text ≡ take n bytes
 text_is P bytes rest n s = sym (ap (take n) s.joined ∙ take_at s.text rest n s.long)
 
+-- nothing at the front
 pub stands_nothing : (P : List ℕ → Type 0) (bytes : List ℕ) → Stands (Optional P) bytes bytes 0
 stands_nothing P bytes = record { text = []; joined = refl; long = refl; is = inl refl }
 
+-- something at the front
 pub stands_optional : (P : List ℕ → Type 0) (bytes rest : List ℕ) (n : ℕ) → Stands P bytes rest n
     → Stands (Optional P) bytes rest n
 stands_optional P bytes rest n s = stands_as P (Optional P) bytes rest n (λ xs is. inr is) s
@@ -156,6 +162,7 @@ each_push : (P : List ℕ → Type 0) (pieces : List (List ℕ)) (more : List �
 each_push P [] more each is = (is, tt)
 each_push P (p ∷ ps) more each is = (each.0, each_push P ps more each.1 is)
 
+-- a string with one piece more at its end
 pub repeated_push : (P : List ℕ → Type 0) (xs more : List ℕ) → Repeated P xs → P more
     → Repeated P (xs ++ more)
 repeated_push P xs more r is = record {
@@ -175,6 +182,7 @@ repeated_cons P more xs is r = record {
   joined = ap (λ l. more ++ l) r.joined;
 }
 
+-- no piece at all
 pub repeated_nothing : (P : List ℕ → Type 0) → Repeated P []
 repeated_nothing P = record { pieces = []; each = tt; joined = refl }
 
@@ -184,6 +192,7 @@ pub record Around (a b : List ℕ) (P : List ℕ → Type 0) (text : List ℕ) :
   pub whole : text ≡ a ++ (inside ++ b)
   pub is : P inside
 
+-- a joined string as a text around an inside
 pub around : (a b : List ℕ) (P : List ℕ → Type 0) (text : List ℕ) → (Text a ⋅ P ⋅ Text b) text
     → Around a b P text
 around a b P text t = record {
@@ -201,6 +210,7 @@ around_append a b P text rest t =
     ap (λ l. l ++ rest) t.whole ∙ append_assoc a (t.inside ++ b) rest ∙ ap (λ l. a ++ l)
     (append_assoc t.inside b rest)
 
+-- its length
 pub around_length : (a b : List ℕ) (P : List ℕ → Type 0) (text : List ℕ) (t : Around a b P text)
     → length text ≡ length a + length t.inside + length b
 around_length a b P text t =
@@ -214,6 +224,7 @@ pub record Begun (first more : ℕ → Bool) (text : List ℕ) : Type 0 where
   pub is_first : first byte ≡ true
   pub pass : list_all more body ≡ true
 
+-- a joined string as a byte and what it goes on with
 pub begun : (first more : ℕ → Bool) (text : List ℕ) → (Byte first ⋅ Bytes more) text → Begun first
     more text
 begun first more text t = record {

@@ -31,6 +31,7 @@ module _ (test : ℕ → Bool) where
     pub stops : begins_with test rest ≡ false
     pub size : prefix_len test bytes ≡ length run
 
+  -- each string of bytes has such a cut
   pub cut : (bytes : List ℕ) → Cut bytes
   cut [] = record { run = []; rest = []; joined = refl; pass = refl; stops = refl; size = refl }
   cut (b ∷ bs) =

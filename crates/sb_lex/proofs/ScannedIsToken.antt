@@ -27,10 +27,12 @@ pub record Front (bytes : List ℕ) (k : Kind) (n : ℕ) : Type 0 where
   pub stands : Stands (IsOf k) bytes rest n
   pub free : begins_with (not_after k) rest ≡ false
 
+-- what was found stands at the front
 abbrev pub IsFront : Found → List ℕ → Type 0
 IsFront None bytes = Unit {0}
 IsFront (Some x) bytes = Front bytes x.0 x.1
 
+-- a number that is not above 0
 pub le_zero : (n : ℕ) → n ≤ 0 → n ≡ 0
 le_zero n none = omega arith
 
@@ -104,6 +106,7 @@ rows_fit = (
   ),
 )
 
+-- the head of a byte says what is so
 pub head_fits : (b : ℕ) → HeadFits (head_of b) b
 head_fits b = first_head_fits heads b rows_fit
 
@@ -117,6 +120,7 @@ run_stops test bytes =
 
 -- words and keywords
 
+-- letters go on with letters
 pub letter_is_word_byte : (b : ℕ) → is_letter b ≡ true → is_word_byte b ≡ true
 letter_is_word_byte b letter = or_left (is_letter b) (is_ascii_digit b) letter
 
@@ -302,6 +306,7 @@ Unsigned kind.Integer = Digits
 Unsigned kind.Real = Digits ⋅ Text (codes ".") ⋅ Bytes is_ascii_digit ⋅ Optional Exponent
 Unsigned _ = λ xs. ⊥
 
+-- what was found is a number without its sign
 abbrev pub IsUnsigned : Found → List ℕ → Type 0
 IsUnsigned None bytes = Unit {0}
 IsUnsigned (Some x) bytes = Ends (Unsigned x.0) bytes x.1
@@ -411,6 +416,7 @@ enumeration_front (b ∷ bs) =
       free = nothing_barred rest;
     }) (λ other. tt)
 
+-- the first digit of a binary is a hexadecimal digit
 pub filling_is_hex : (b : ℕ) → is_filling b ≡ true → is_hex b ≡ true
 filling_is_hex b filling =
     let parts = and_parts (leb 48 b) (leb b 51) filling in

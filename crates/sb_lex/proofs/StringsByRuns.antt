@@ -11,10 +11,12 @@ use Rattle.sb_lex.specs.Steps.{after, string_len}
 abbrev pub is_plain : ℕ → Bool
 is_plain b = not (is_apostrophe b)
 
+-- no byte more
 pub after-zero : (o : Option ℕ) → after 0 o ≡ o
 after-zero None = refl
 after-zero (Some n) = ap (λ k. Some k) (omega arith)
 
+-- so many bytes more, and again
 pub after-after : (m n : ℕ) (o : Option ℕ) → after m (after n o) ≡ after (m + n) o
 after-after m n None = refl
 after-after m n (Some k) = ap (λ i. Some i) (omega arith)

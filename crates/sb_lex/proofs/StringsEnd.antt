@@ -18,6 +18,7 @@ pub record Ending (bytes : List ℕ) (n : ℕ) : Type 0 where
   pub pieces : Repeated StringPiece inside
   pub alone : begins_with is_apostrophe rest ≡ false
 
+-- what was found is the end of the string
 abbrev pub IsEnding : Option ℕ → List ℕ → Type 0
 IsEnding None bytes = Unit {0}
 IsEnding (Some n) bytes = Ending bytes n

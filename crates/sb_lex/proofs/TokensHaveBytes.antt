@@ -22,6 +22,7 @@ behind : (P Q : List ℕ → Type 0) (text : List ℕ) (t : (P ⋅ Q) text) → 
     + length t.back
 behind P Q text t = ap length t.joined ∙ length-append t.front t.back
 
+-- a string of the kind has its least length
 pub long_enough : (k : Kind) (text : List ℕ) → IsOf k text → least_length k ≤ length text
 long_enough (kind.Word word.First) text is = omega (arith, ap length is)
 long_enough (kind.Word word.Last) text is = omega (arith, ap length is)
@@ -77,6 +78,7 @@ next_lies at t next =
       within = c.within;
     }
 
+-- where an answer lies
 pub answer_lies : (at : Reading) (answer : Answer) → Answers at answer → Lies at answer
 answer_lies at (Ok (Some t)) next = next_lies at t next
 answer_lies at (Ok None) at_end = tt

@@ -17,6 +17,7 @@ abbrev pub word_text : Word → List ℕ
 word_text word.First = codes "ISO-10303-21"
 word_text word.Last = codes "END-ISO-10303-21"
 
+-- the one byte of a mark
 abbrev pub mark_byte : Mark → ℕ
 mark_byte mark.Dollar = dollar
 mark_byte mark.Asterisk = asterisk
@@ -30,6 +31,7 @@ mark_byte mark.Equals = equals
 abbrev pub Digits : List ℕ → Type 0
 Digits = SomeBytes is_ascii_digit
 
+-- with an optional sign before it
 abbrev pub Signed : (List ℕ → Type 0) → List ℕ → Type 0
 Signed P = Optional (Byte is_sign) ⋅ P
 
@@ -47,6 +49,7 @@ pub record IsNumber (number : ℕ) : Type 0 where
   pub positive : 0 < number
   pub fits : number < 2 ^ 32
 
+-- `#` and digits that write the number
 pub record IsName (number : ℕ) (xs : List ℕ) : Type 0 where
   pub written : (Text (codes "#") ⋅ Numeral number) xs
   pub in_range : IsNumber number
@@ -95,5 +98,6 @@ IsComment = Text (codes "/*") ⋅ Unclosed ⋅ Text (codes "*/")
 abbrev pub BlankPiece : List ℕ → Type 0
 BlankPiece xs = Byte is_white xs ⊎ IsComment xs
 
+-- any number of these, none too
 abbrev pub Blank : List ℕ → Type 0
 Blank = Repeated BlankPiece

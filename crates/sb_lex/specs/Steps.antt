@@ -17,10 +17,12 @@ use Rattle.sb_lex.specs.Bytes.{exclamation, quote, hash, dollar, open_parenthesi
 abbrev pub Found : Type 0
 Found = Option (Kind × ℕ)
 
+-- the same kind, and so many bytes more
 abbrev pub longer : ℕ → Found → Found
 longer n None = None
 longer n (Some x) = Some (x.0, n + x.1)
 
+-- so many bytes more
 abbrev pub after : ℕ → Option ℕ → Option ℕ
 after n None = None
 after n (Some m) = Some (n + m)
@@ -45,6 +47,7 @@ heads =
     ∷ ((λ b. b == equals), head.Mark mark.Equals)
     ∷ []
 
+-- the first row that has the byte
 abbrev pub first_head : List ((ℕ → Bool) × Head) → ℕ → Head
 first_head [] b = head.Other
 first_head (row ∷ rows) b = if row.0 b then row.1 else first_head rows b
@@ -53,12 +56,14 @@ first_head (row ∷ rows) b = if row.0 b then row.1 else first_head rows b
 abbrev pub head_of : ℕ → Head
 head_of = first_head heads
 
+-- one of the two words
 abbrev pub scan_words : List ℕ → Found
 scan_words rest =
     if starts_with nat_eq rest (codes "ISO-10303-21") then Some (kind.Word word.First, 12)
     else if starts_with nat_eq rest (codes "END-ISO-10303-21") then Some (kind.Word word.Last, 16)
     else None
 
+-- the word that was found, or a keyword so long
 abbrev pub or_keyword : ℕ → Found → Found
 or_keyword n None = Some (kind.Keyword, n)
 or_keyword n (Some x) = Some x
@@ -83,9 +88,11 @@ scan_name rest =
     let number = digits_value 10 (take n (drop 1 rest)) in
     if nat_lt 0 number && nat_lt number (2 ^ 32) then Some (kind.Name number, 1 + n) else None
 
+-- an optional sign
 abbrev pub sign_len : List ℕ → ℕ
 sign_len rest = if is_sign (slice_index rest 0) then 1 else 0
 
+-- an optional exponent
 unfoldable pub exponent_len : List ℕ → ℕ
 exponent_len rest =
     let signed = 1 + sign_len (drop 1 rest) in
@@ -97,6 +104,7 @@ abbrev pub fraction_len : List ℕ → ℕ
 fraction_len rest =
     let n = prefix_len is_ascii_digit rest in n + exponent_len (drop n rest)
 
+-- an integer or a real without a sign
 unfoldable pub scan_number : List ℕ → Found
 scan_number rest =
     let n = prefix_len is_ascii_digit rest in
@@ -113,22 +121,26 @@ string_len (b ∷ c ∷ bs) =
     if is_apostrophe b then (if is_apostrophe c then after 2 (string_len bs) else Some 1)
     else after 1 (string_len (c ∷ bs))
 
+-- a string, where its end was found
 abbrev pub as_string : Option ℕ → Found
 as_string None = None
 as_string (Some n) = Some (kind.Str, 1 + n)
 
+-- a `.` is at the front
 unfoldable pub scan_enumeration : List ℕ → Found
 scan_enumeration rest =
     let n = prefix_len is_word_byte (drop 1 rest) in
     if is_letter (slice_index rest 1) && slice_index rest (1 + n) == point
     then Some (kind.Enumeration, n + 2) else None
 
+-- a `"` is at the front
 unfoldable pub scan_binary : List ℕ → Found
 scan_binary rest =
     let n = prefix_len is_hex (drop 1 rest) in
     if is_filling (slice_index rest 1) && slice_index rest (1 + n) == quote
     then Some (kind.Binary, n + 2) else None
 
+-- the token at the front, by its first byte
 abbrev pub scan_at : Head → List ℕ → Found
 scan_at head.Letter rest = scan_letters rest
 scan_at head.Digit rest = scan_number rest
@@ -151,10 +163,12 @@ close_at [] = None
 close_at (b ∷ bs) =
     if b == asterisk && slice_index bs 0 == slash then Some 0 else after 1 (close_at bs)
 
+-- a comment, where its end was found
 abbrev pub closed_len : Option ℕ → ℕ
 closed_len None = 0
 closed_len (Some n) = n + 4
 
+-- the length of the comment at the front, 0 if there is none
 unfoldable pub comment_len : List ℕ → ℕ
 comment_len rest =
     if slice_index rest 0 == slash && slice_index rest 1 == asterisk

@@ -50,6 +50,7 @@ AreTokensFrom input from [] None = IsEnd input from
 AreTokensFrom input from [] (Some bad) = IsBadFrom input from bad.0
 AreTokensFrom input from (t ∷ ts) fault = IsNext input from t × AreTokensFrom input t.end ts fault
 
+-- the tokens of the whole input
 abbrev pub AreTokens : List ℕ → List Token → Option BadToken → Type 0
 AreTokens input = AreTokensFrom input 0
 
