@@ -3,7 +3,7 @@ use std::alloc::{AllocError, Global};
 use std::test::Fail;
 
 // An input, and its tokens with their spans and what ends them.
-const ROWS: [(&[u8], &str); 57] = [
+const ROWS: [(&[u8], &str); 58] = [
     (b"", "end"),
     (
         b"ISO-10303-21;",
@@ -67,8 +67,12 @@ const ROWS: [(&[u8], &str); 57] = [
     (b"\x7f", "bad 0"),
     (b"\xff", "bad 0"),
     (
-        b"$*(),;=",
-        "Mark(Dollar) 0 1, Mark(Asterisk) 1 2, Mark(Open) 2 3, Mark(Close) 3 4, Mark(Comma) 4 5, Mark(Semicolon) 5 6, Mark(Equals) 6 7, end",
+        b"$*(",
+        "Mark(Dollar) 0 1, Mark(Asterisk) 1 2, Mark(Open) 2 3, end",
+    ),
+    (
+        b"),;=",
+        "Mark(Close) 0 1, Mark(Comma) 1 2, Mark(Semicolon) 2 3, Mark(Equals) 3 4, end",
     ),
 ];
 
