@@ -63,7 +63,8 @@ SameOtherRooms out old new = (other : Out) → other ≢ out → room_of new oth
 pub record SameButRooms (old new : MemoryShelf) : Type 0 where
   pub called : IsCalled old.calls old new
   pub left : (memory_state new).left ≡ (memory_state old).left
-  pub is_created : (out : Out) → (memory_state new).is_created out ≡ (memory_state old).is_created out
+  pub is_created : (out : Out)
+      → (memory_state new).is_created out ≡ (memory_state old).is_created out
   pub written : (out : Out) → (memory_state new).bytes out ≡ (memory_state old).bytes out
   pub read_faults : new.read_faults ≡ old.read_faults
   pub file_faults : new.file_faults ≡ old.file_faults

@@ -57,8 +57,8 @@ pub record SameOut (out : Out) (old new : Outside) : Type 0 where
   pub is_created : new.is_created out ≡ old.is_created out
   pub bytes : new.bytes out ≡ old.bytes out
 
--- Of the outside only what is left to read has changed, and the count of read faults has not fallen.
--- Whether it is told what is left stays.
+-- Of the outside only what is left to read has changed, and the count of read faults has not
+-- fallen. Whether it is told what is left stays.
 pub record OnlyReads (old new : Outside) : Type 0 where
   pub under : (path : List ℕ) → new.under path ≡ old.under path
   pub tells_left : is_some new.left ≡ is_some old.left
@@ -67,8 +67,8 @@ pub record OnlyReads (old new : Outside) : Type 0 where
   pub file_faults : new.file_faults ≡ old.file_faults
   pub said_faults : new.said_faults ≡ old.said_faults
 
--- What can be read is as it was, and so are the other outputs. Whether the bytes on this one are told
--- stays.
+-- What can be read is as it was, and so are the other outputs. Whether the bytes on this one are
+-- told stays.
 pub record OnlyOutput (out : Out) (old new : Outside) : Type 0 where
   pub under : (path : List ℕ) → new.under path ≡ old.under path
   pub left : new.left ≡ old.left

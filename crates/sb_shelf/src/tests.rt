@@ -84,7 +84,8 @@ fn a_text_is_read_whole_or_not_at_all(rt: HostRuntime) -> Result<(), Fail> {
     Ok(())
 }
 
-/// Creates the report, writes the text to it, and answers what stands there and whether all went well.
+/// Creates the report, writes the text to it, and answers whether all went well and what stands
+/// there.
 fn write_report(
     alloc: Global,
     text: &[u8],
