@@ -3,3 +3,4 @@ mod CreatedIsEmptyFirst
 mod BoxListRises
 mod FormsAreShort
 mod AnswersHaveTheirCause
+mod BoxListIsReportable

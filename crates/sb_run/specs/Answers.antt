@@ -40,7 +40,7 @@ IsEarly answer = step_of answer ≤ 4
 abbrev pub spaces_in : List Boundary → ℕ
 spaces_in [] = 0
 spaces_in (b ∷ bs) =
-  (if list_any (λ c. c.patch.face.space == b.patch.face.space) bs then 0 else 1) + spaces_in bs
+    (if list_any (λ c. c.patch.face.space == b.patch.face.space) bs then 0 else 1) + spaces_in bs
 
 -- the spaces of the boundaries do not fall, from this number on
 abbrev pub have_rising_spaces : ℕ → List Boundary → Bool
@@ -51,10 +51,10 @@ have_rising_spaces from (b ∷ bs) = nat_le from b.patch.face.space && have_risi
 -- one, and its couples of counterparts
 abbrev pub done_line : List Boundary → List ℕ
 done_line list =
-     codes "spaces " ++ (decimal (spaces_in list)
-  ++ (codes ", boundaries " ++ (decimal (count_by (λ b. is_none b.parent) list)
-  ++ (codes ", openings " ++ (decimal (count_by (λ b. is_some b.parent) list)
-  ++ (codes ", pairs " ++ (decimal (count_by (λ b. is_some b.pair) list / 2) ++ codes "\n")))))))
+    codes "spaces " ++ (decimal (spaces_in list)
+    ++ (codes ", boundaries " ++ (decimal (count_by (λ b. is_none b.parent) list)
+    ++ (codes ", openings " ++ (decimal (count_by (λ b. is_some b.parent) list)
+    ++ (codes ", pairs " ++ (decimal (count_by (λ b. is_some b.pair) list / 2) ++ codes "\n")))))))
 
 -- the name of a code
 abbrev pub name_of : Code → List ℕ

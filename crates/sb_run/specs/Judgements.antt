@@ -62,10 +62,10 @@ IsSameOrNoMemory answer result = (result ≡ answer) ⊎ (result ≡ NoMemory)
 -- After what was ready was put: the answer is Done with its list, or a fault of writing.
 abbrev pub IsFinished : Ready → Answer → Outside → Outside → Type 0
 IsFinished ready (Done list) old new =
-  (list ≡ ready.list) × ForSome (new.bytes Report) (λ bytes. bytes ≡ ready.report.items)
+    (list ≡ ready.list) × ForSome (new.bytes Report) (λ bytes. bytes ≡ ready.report.items)
 IsFinished ready WriteFault old new =
-  Rose old.file_faults new.file_faults
-  × (new.is_created Report ≡ true → ForSome (new.bytes Report) (λ bytes. bytes ≡ take (length bytes) ready.report.items))
+    Rose old.file_faults new.file_faults
+    × (new.is_created Report ≡ true → ForSome (new.bytes Report) (λ bytes. bytes ≡ take (length bytes) ready.report.items))
 IsFinished ready _ old new = ⊥
 
 -- what can be read, and the two files that are not written, are as they were

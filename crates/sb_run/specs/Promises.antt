@@ -30,12 +30,6 @@ pub record IsInput (words : List (List ℕ)) (old : Outside) (bytes : List ℕ) 
   pub is_asked : command words ≡ Some asked
   pub is_told : old.under asked.model ≡ Some bytes
 
--- none of the three files is created
-pub record NothingCreated (s : Outside) : Type 0 where
-  pub no_ifc : s.is_created Ifc ≡ false
-  pub no_idf : s.is_created Idf ≡ false
-  pub no_report : s.is_created Report ≡ false
-
 -- the IFC text and the IDF are not written yet
 pub record OnlyReport (s : Outside) : Type 0 where
   pub no_ifc : s.is_created Ifc ≡ false
@@ -78,7 +72,7 @@ pub record ReportsInPart (input : List ℕ) (new : Outside) : Type 0 where
   pub list : List Boundary
   pub list_is : IsListOf form list
   pub written : new.is_created Report ≡ true
-    → ForSome (new.bytes Report) (λ bytes. bytes ≡ take (length bytes) (report_of (model_of form) list))
+      → ForSome (new.bytes Report) (λ bytes. bytes ≡ take (length bytes) (report_of (model_of form) list))
 
 -- what stands on the report after an answer, for an input
 abbrev pub ReportStands : List ℕ → Outside → Answer → Type 0
@@ -92,7 +86,7 @@ pub record Says (text : List ℕ) (old new : Outside) : Type 0 where
   pub no_fall : old.said_faults ≤ new.said_faults
   pub in_part : ForSome (old.bytes Said) (λ before. ForSome (new.bytes Said) (AppendsFirstOf text before))
   pub whole : (Rose old.said_faults new.said_faults → ⊥)
-    → ForSome (old.bytes Said) (λ before. new.bytes Said ≡ Some (before ++ text))
+      → ForSome (old.bytes Said) (λ before. new.bytes Said ≡ Some (before ++ text))
 
 -- the answer is Done or want of memory
 abbrev pub IsDoneOrNoMemory : Answer → Type 0

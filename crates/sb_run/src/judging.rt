@@ -27,11 +27,7 @@ pub(crate) struct Ready {
 }
 
 /// Reads the input under a path and judges it.
-pub(crate) fn judged<S: Shelf>(
-    alloc: Global,
-    shelf: &mut S,
-    path: &str,
-) -> Result<Ready, Answer>
+pub(crate) fn judged<S: Shelf>(alloc: Global, shelf: &mut S, path: &str) -> Result<Ready, Answer>
     ensures keeps { OnlyReads (S.state shelf.old) (S.state shelf.new) }
     ensures ready { IfOk result (λ ready. ForSome ((S.state shelf.old).under path.now) (λ input. IsReady input ready)) }
     ensures line { IfOk result (λ ready. string_bytes ready.line ≡ done_line ready.list) }

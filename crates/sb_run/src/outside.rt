@@ -19,11 +19,7 @@ pub(crate) fn say<S: Shelf>(shelf: &mut S, text: &[u8])
 /// - `Ok(())`: the whole text stands there.
 /// - `Err(WriteFault)`: only where the count of faults of the files rose. Where the report was
 ///   created, a first part of the text stands there.
-pub(crate) fn put_report<S: Shelf>(
-    shelf: &mut S,
-    path: &str,
-    text: &[u8],
-) -> Result<(), WriteFault>
+pub(crate) fn put_report<S: Shelf>(shelf: &mut S, path: &str, text: &[u8]) -> Result<(), WriteFault>
     requires { (S.state shelf.old).is_created Out.Report ≡ false }
     ensures keeps { OnlyOutput Out.Report (S.state shelf.old) (S.state shelf.new) }
     ensures said_faults { (S.state shelf.new).said_faults ≡ (S.state shelf.old).said_faults }

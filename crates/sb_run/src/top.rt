@@ -3,8 +3,8 @@ ghost use Rattle.std.specs.Prelude.{◌≡◌, ◌<◌, ◌↔◌, false, List, 
 ghost use Rattle.sb_run.specs.Answers.{line, done_line, HasReached, IsEarly};
 ghost use Rattle.sb_run.specs.Command.{command};
 ghost use Rattle.sb_run.specs.Promises.{longest, IsInput, IsSound, IsRefused, IsDoneOrNoMemory};
-ghost use Rattle.sb_run.specs.Promises.{NothingCreated, OnlyReport, ReportStands, Says};
-ghost use Rattle.sb_shelf.specs.Outside.{OnlyWrites, Rose};
+ghost use Rattle.sb_run.specs.Promises.{OnlyReport, ReportStands, Says};
+ghost use Rattle.sb_shelf.specs.Outside.{IsUntouched, OnlyWrites, Rose};
 ghost use Rattle.sb_run.specs.Judgements.{IsSameOrNoMemory, IsFinished, OnlyReportAndMessage};
 ghost use Rattle.sb_form.specs.declared.matcher.FirstForm.{FirstForm};
 ghost use Rattle.sb_run.specs.declared.answer.Code.{Code};
@@ -33,7 +33,7 @@ use std::alloc::Global;
 ///
 /// What is said of the input holds where the shelf tells the bytes under the model.
 pub fn run<S: Shelf>(alloc: Global, words: &[String], shelf: &mut S) -> Answer
-    requires { NothingCreated (S.state shelf.old) }
+    requires { IsUntouched (S.state shelf.old) }
 
     ensures usage { (result ≡ Answer.Usage) ↔ (command (map string_bytes words.now) ≡ None) }
 
@@ -52,7 +52,7 @@ pub fn run<S: Shelf>(alloc: Global, words: &[String], shelf: &mut S) -> Answer
         → Rose (S.state shelf.old).file_faults (S.state shelf.new).file_faults }
 
     // Nothing is created before the input is judged, and nothing but the report after it.
-    ensures untouched { IsEarly result → NothingCreated (S.state shelf.new) }
+    ensures untouched { IsEarly result → IsUntouched (S.state shelf.new) }
     ensures only_report { OnlyReport (S.state shelf.new) }
 
     // What stands on the report: after Done the whole text of the answered list.
