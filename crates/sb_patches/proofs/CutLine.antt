@@ -60,7 +60,8 @@ others_of P u (q ∷ qs) others all = others_of P u qs others all.1.1
 -- ---- order of sides on a line
 
 -- a patch within one that is within a third touches the third
-touches : (u : Arrow) → IsRational u → (p q r : Region) → IsRegion p → IsRegion q → IsRegion r → IsOver p u
+touches : (u : Arrow) → IsRational u → (p q r : Region) → IsRegion p → IsRegion q → IsRegion r
+    → IsOver p u
     → pos 0 ≤ℤ clearance_at r.lower q.lower u → pos 0 ≤ℤ clearance_at q.lower p.lower u
     → pos 0 ≤ℤ clearance_at p.upper q.upper u → pos 0 ≤ℤ clearance_at q.upper r.upper u
     → (pos 0 ≤ℤ clearance_at p.lower r.upper u) × (pos 0 ≤ℤ clearance_at r.lower p.upper u)

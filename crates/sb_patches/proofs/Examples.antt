@@ -1,5 +1,5 @@
--- Worked lists of patches: the premises of the law hold for two equal lists, and patches of one mark
--- that touch are refused.
+-- Worked lists of patches: the premises of the law hold for two equal lists, and patches of one
+-- mark that touch are refused.
 use Rattle.std.proofs.Common.{◌≡◌, refl, inl, ℕ, pos, true, List, [], ◌∷◌}
 use Rattle.std.proofs.Common.{◌-ℤ◌, arith, IsTrue}
 use Rattle.std.proofs.lemmas.Int.{ints}

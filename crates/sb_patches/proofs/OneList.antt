@@ -98,8 +98,8 @@ same_if_as_long ps qs p q p_in q_in long low high =
     long.sides.lower long.sides.upper)
     (sym long.same_mark)
 
--- the law for spaced lists: each patch is in the other list. One there is at least as long, one here
--- is at least as long as that, and the last is the first, since the two overlap
+-- the law for spaced lists: each patch is in the other list. One there is at least as long, one
+-- here is at least as long as that, and the last is the first, since the two overlap
 pub stands_there : {M : Type 0} (sheet : Sheet) (ps qs : List (MarkedPatch M))
     → AreTwoCovers sheet ps qs → (p : MarkedPatch M) → Stands p ps → Stands p qs
 stands_there {M} sheet ps qs two p at_p = from (as_long sheet ps qs two p at_p)

@@ -1,5 +1,5 @@
--- Two trimmed lists that put the same plain points under the same marks cover alike: where a patch of
--- the one contains a point off the cuts, one of the other with its mark does.
+-- Two trimmed lists that put the same plain points under the same marks cover alike: where a patch
+-- of the one contains a point off the cuts, one of the other with its mark does.
 use Rattle.std.proofs.Common.{◌≡◌, arith, List, refl, ◌*ℤ◌}
 use Rattle.std.specs.List.{AllByRecursion}
 use Rattle.sb_whole.specs.Arrows.{Arrow, cross}
@@ -26,7 +26,8 @@ IsOnNoCut sheet u v = AllByRecursion (λ cut. IsSame (value_on cut u) v → ⊥)
 
 -- where a patch of the first list contains a point off the cuts, one of the second does that has its
 -- mark
-abbrev pub CoversAlso : {M : Type 0} → Sheet → List (MarkedPatch M) → List (MarkedPatch M) → Type 0
+abbrev pub CoversAlso : {M : Type 0} → Sheet → List (MarkedPatch M) → List (MarkedPatch M)
+    → Type 0
 CoversAlso {M} sheet ps qs =
     (u v : Arrow) → IsRational u → IsRational v → IsNoAbscissa sheet u → IsOnNoCut sheet u v
     → (p : MarkedPatch M) → Stands p ps → IsInner p.region u v
