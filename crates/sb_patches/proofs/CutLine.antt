@@ -60,7 +60,8 @@ others_of P u (q ∷ qs) others all = others_of P u qs others all.1.1
 -- ---- order of sides on a line
 
 -- a patch within one that is within a third touches the third
-touches : (u : Arrow) → IsRational u → (p q r : Region) → IsRegion p → IsRegion q → IsRegion r → IsOver p u
+touches : (u : Arrow) → IsRational u → (p q r : Region) → IsRegion p → IsRegion q → IsRegion r
+    → IsOver p u
     → pos 0 ≤ℤ clearance_at r.lower q.lower u → pos 0 ≤ℤ clearance_at q.lower p.lower u
     → pos 0 ≤ℤ clearance_at p.upper q.upper u → pos 0 ≤ℤ clearance_at q.upper r.upper u
     → (pos 0 ≤ℤ clearance_at p.lower r.upper u) × (pos 0 ≤ℤ clearance_at r.lower p.upper u)
@@ -90,7 +91,8 @@ pub record IsOnLine {M : Type 0} (qs : List (MarkedPatch M)) (mark : M) (u : Arr
   pub same_mark : q.mark ≡ mark
   pub over : IsOver q.region u
 
--- moreover it has the mark of p, and lies around it: its sides are nowhere between those of p
+-- moreover it has the mark of p and lies around p there: its lower side is not above that of p, and
+-- its upper side not below
 pub record IsAround {M : Type 0} (qs : List (MarkedPatch M)) (p : MarkedPatch M) (u : Arrow)
     (q : MarkedPatch M) : Type 0 where
   pub on : IsOnLine qs p.mark u q
@@ -108,11 +110,12 @@ pub record HasValuesOf {M : Type 0} (qs : List (MarkedPatch M)) (p : MarkedPatch
 abbrev OnLine : {M : Type 0} → List (MarkedPatch M) → M → Arrow → Type 0
 OnLine {M} qs mark u = (q : MarkedPatch M) × IsOnLine qs mark u q
 
--- where each ends
+-- where each ends below
 abbrev low_of : {M : Type 0} (qs : List (MarkedPatch M)) (mark : M) (u : Arrow)
     → OnLine qs mark u → Arrow
 low_of qs mark u i = value_on i.0.region.lower u
 
+-- and above
 abbrev high_of : {M : Type 0} (qs : List (MarkedPatch M)) (mark : M) (u : Arrow)
     → OnLine qs mark u → Arrow
 high_of qs mark u i = value_on i.0.region.upper u

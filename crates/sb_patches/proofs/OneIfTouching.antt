@@ -1,5 +1,5 @@
--- Two patches of one list with one mark and the same sides are one where they overlap, and where one
--- ends at a side of positive length at which the other starts.
+-- Two patches of one list with one mark and the same sides are one where they overlap, and where
+-- one ends at a side of positive length at which the other starts.
 use Rattle.std.proofs.Common.{◌≡◌, inl, inr, ◌⊎◌, subst, arith, List, pos, ◌<ℤ◌, ◌≤ℤ◌, Bool, true}
 use Rattle.std.proofs.Common.{false, ◌&&◌}
 use Rattle.std.proofs.lemmas.Int.{ints}

@@ -1,6 +1,7 @@
 -- Over each stretch of a patch stands a patch of the other list with its mark and its two sides: a
 -- u is chosen at which no two different sides have one value.
-use Rattle.std.proofs.Common.{if◌then◌else◌, ◌≡◌, refl, ◌∙◌, inl, inr, arith, List, [], ◌∷◌, map, Bool, true}
+use Rattle.std.proofs.Common.{◌≡◌, refl, ◌∙◌, inl, inr, arith, List, [], ◌∷◌, map}
+use Rattle.std.proofs.Common.{Bool, true, if◌then◌else◌}
 use Rattle.std.proofs.Common.{false, pos}
 use Rattle.std.proofs.lemmas.Int.{ints}
 use Rattle.std.specs.List.{AllByRecursion}
@@ -25,6 +26,7 @@ use Rattle.sb_patches.proofs.SamePoints.{AreTwoCovers}
 difference_by : Bool → LineSide → LineSide → Arrow
 difference_by same l m = if same then arrow (pos 1) (pos 0) else clearance l m
 
+-- with the test of the two sides put in
 abbrev difference : LineSide → LineSide → Arrow
 difference l m = difference_by (is_same_side l m) l m
 

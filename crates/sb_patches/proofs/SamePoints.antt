@@ -1,5 +1,5 @@
--- Two trimmed lists that put the same plain points under the same marks cover alike: where a patch of
--- the one contains a point off the cuts, one of the other with its mark does.
+-- Two trimmed lists that put the same plain points under the same marks cover alike: where a patch
+-- of the one contains a point off the cuts, one of the other with its mark does.
 use Rattle.std.proofs.Common.{◌≡◌, arith, List, refl, ◌*ℤ◌}
 use Rattle.std.specs.List.{AllByRecursion}
 use Rattle.sb_whole.specs.Arrows.{Arrow, cross}
@@ -24,9 +24,10 @@ use Rattle.sb_patches.specs.Laws.{CoverAlike}
 abbrev pub IsOnNoCut : Sheet → Arrow → Arrow → Type 0
 IsOnNoCut sheet u v = AllByRecursion (λ cut. IsSame (value_on cut u) v → ⊥) sheet.cuts
 
--- where a patch of the first list contains a point off the cuts, one of the second does that has its
--- mark
-abbrev pub CoversAlso : {M : Type 0} → Sheet → List (MarkedPatch M) → List (MarkedPatch M) → Type 0
+-- where a patch of the first list contains a point off the cuts, so does one of the second with
+-- its mark
+abbrev pub CoversAlso : {M : Type 0} → Sheet → List (MarkedPatch M) → List (MarkedPatch M)
+    → Type 0
 CoversAlso {M} sheet ps qs =
     (u v : Arrow) → IsRational u → IsRational v → IsNoAbscissa sheet u → IsOnNoCut sheet u v
     → (p : MarkedPatch M) → Stands p ps → IsInner p.region u v
