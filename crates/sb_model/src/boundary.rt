@@ -76,6 +76,13 @@ impl Boundaries {
         self.list.len()
     }
 
+    /// The boundaries in order, without memory.
+    pub fn as_slice(&self) -> &[Boundary]
+        ensures { result.now ≡ self.now }
+    {
+        self.list.as_slice()
+    }
+
     /// The boundary with this id, or `None` exactly where the id is not from 1 to the length.
     pub fn get(&self, id: u64) -> Option<&Boundary>
         ensures item { 1 ≤ id → option_copied result ≡ slice_get self.now (id - 1) }
