@@ -70,7 +70,8 @@ wall_opposite_a_t_joint =
     model
     (room 20 (block 0 8000 0 3000 2500) ∷ room 21 (block 0 3950 3200 6200 2500)
     ∷ room 22 (block 4050 8000 3200 6200 2500) ∷ [])
-    (element 30 (block 0 8000 3000 3200 2500) Plain ∷ element 31 (block 3950 4050 3200 6200 2500) Plain ∷ [])
+    (element 30 (block 0 8000 3000 3200 2500) Plain
+    ∷ element 31 (block 3950 4050 3200 6200 2500) Plain ∷ [])
 
 -- crossing slabs
 abbrev pub crossing_slabs : Building
@@ -86,7 +87,8 @@ slanted_sides =
     model
     (room 20 (upright ((at 0 0 ∷ at 1000 0 ∷ at 0 1000 ∷ []) ∷ []) (pos 0) (pos 2500)) ∷ [])
     (element 30
-    (upright ((at 0 1000 ∷ at 1000 0 ∷ at 1100 100 ∷ at 100 1100 ∷ []) ∷ []) (pos 0) (pos 2500)) Plain ∷ [])
+    (upright ((at 0 1000 ∷ at 1000 0 ∷ at 1100 100 ∷ at 100 1100 ∷ []) ∷ []) (pos 0) (pos 2500))
+    Plain ∷ [])
 
 -- half-covered layer: wall #30 lies over half of the one layer of wall #31
 abbrev pub half_covered_layer : Building

@@ -32,8 +32,8 @@ outside_in_hole : is_in_plan plan (spot (pos 3) (pos 3) (pos 0) (pos 2)) ≡ fal
 unfolding cross dot
 outside_in_hole = refl
 
--- level with the hole's corner (1, 4), to its left and to its right: the ray through a corner counts
--- it once or not at all
+-- level with the hole's corner (1, 4), to its left and to its right: the ray through a corner
+-- counts it once or not at all
 inside_left_of_corner : is_in_plan plan (spot (pos 1) (pos 8) (pos 0) (pos 2)) ≡ true
 unfolding cross dot
 inside_left_of_corner = refl
@@ -60,15 +60,18 @@ unfolding cross dot
 in_corner = refl
 
 -- past the end of an edge, on its line
-past_edge : is_on (spot (pos 10) (pos 0) (pos 0) (pos 1)) (edge (at (pos 0) (pos 0)) (at (pos 9) (pos 0))) ≡ false
+past_edge : is_on (spot (pos 10) (pos 0) (pos 0) (pos 1))
+    (edge (at (pos 0) (pos 0)) (at (pos 9) (pos 0))) ≡ false
 unfolding cross dot
 past_edge = refl
 
 -- strictly between the heights, and at one of them
-between_heights : is_in_solid (upright plan (pos 0) (pos 5)) (spot (pos 3) (pos 3) (pos 1) (pos 1)) ≡ true
+between_heights : is_in_solid (upright plan (pos 0) (pos 5)) (spot (pos 3) (pos 3) (pos 1) (pos 1))
+    ≡ true
 unfolding cross dot
 between_heights = refl
 
-at_upper_height : is_in_solid (upright plan (pos 0) (pos 5)) (spot (pos 3) (pos 3) (pos 5) (pos 1)) ≡ false
+at_upper_height : is_in_solid (upright plan (pos 0) (pos 5)) (spot (pos 3) (pos 3) (pos 5) (pos 1))
+    ≡ false
 unfolding cross dot
 at_upper_height = refl

@@ -70,7 +70,10 @@ is_same_corner a b = is_same a.x b.x && (is_same a.y b.y && is_same a.z b.z)
 -- four corners, of which one that is equal to the one before it is left out. The two corners at the
 -- low end and the two at the high end stand side by side, and no others are ever equal
 abbrev pub listed : Corner → Corner → Corner → Corner → Corners
-listed a b c d = if is_same_corner a b then Three a c d else (if is_same_corner c d then Three a b c else Four a b c d)
+listed a b c d =
+    if is_same_corner a b
+    then Three a c d
+    else (if is_same_corner c d then Three a b c else Four a b c d)
 
 -- forward: down along the low end, and up along the high end
 abbrev pub forward : Ends → Corners
@@ -89,8 +92,10 @@ side_corners (Some e) p =
 
 -- those of a patch of a face of this space
 abbrev pub corners_of_kind : Space → FaceKind → Patch → Option Corners
-corners_of_kind s kind.Bottom p = Some (backward (ends_by (λ u side. level_corner s.prism.z0 u (line_of side)) p))
-corners_of_kind s kind.Top p = Some (forward (ends_by (λ u side. level_corner s.prism.z1 u (line_of side)) p))
+corners_of_kind s kind.Bottom p =
+    Some (backward (ends_by (λ u side. level_corner s.prism.z0 u (line_of side)) p))
+corners_of_kind s kind.Top p =
+    Some (forward (ends_by (λ u side. level_corner s.prism.z1 u (line_of side)) p))
 corners_of_kind s (kind.Side k) p = side_corners (edge_numbered s.prism k) p
 
 abbrev pub corners_in : Option Space → Patch → Option Corners

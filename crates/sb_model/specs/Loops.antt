@@ -56,5 +56,6 @@ are_corners a b c d =
 
 -- one loop, of the four corners of a rectangle in range
 abbrev pub is_rectangle : List (List Point) → Bool
-is_rectangle ((a ∷ b ∷ c ∷ d ∷ []) ∷ []) = are_corners a b c d && (is_plan_point a && is_plan_point c)
+is_rectangle ((a ∷ b ∷ c ∷ d ∷ []) ∷ []) = are_corners a b c d
+    && (is_plan_point a && is_plan_point c)
 is_rectangle _ = false

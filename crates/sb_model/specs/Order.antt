@@ -19,16 +19,19 @@ rank_of kind.Bottom = 0
 rank_of kind.Top = 1
 rank_of (kind.Side k) = 2 + k
 
--- p is lower in v: its upper side is nowhere above the lower side of q at any u strictly inside both
+-- p is lower in v: its upper side is nowhere above the lower side of q at any u strictly inside
+-- both
 abbrev pub IsLower : Patch → Patch → Type 0
 IsLower p q =
-    (u : Arrow) → IsRational u → IsTrue (is_spanned (region_of p) u) → IsTrue (is_spanned (region_of q) u)
+    (u : Arrow) → IsRational u → IsTrue (is_spanned (region_of p) u)
+    → IsTrue (is_spanned (region_of q) u)
     → pos 0 ≤ℤ clearance_at (line_of p.upper) (line_of q.lower) u
 
 -- p begins at a lower u, or they begin at one u and p is lower in v
 abbrev pub IsBeforeOnFace : Patch → Patch → Type 0
 IsBeforeOnFace p q =
-    IsBelow (arrow_of p.low) (arrow_of q.low) ⊎ (IsSame (arrow_of p.low) (arrow_of q.low) × IsLower p q)
+    IsBelow (arrow_of p.low) (arrow_of q.low)
+    ⊎ (IsSame (arrow_of p.low) (arrow_of q.low) × IsLower p q)
 
 -- p comes before q: by space number, then face, then low, then v
 abbrev pub IsBefore : Patch → Patch → Type 0
@@ -47,7 +50,8 @@ pub record IsInOrder (list : List Boundary) : Type 0 where
       (λ b c. b.parent ≡ Some id → c.parent ≡ Some id → IsBefore b.patch c.patch) list
   -- each top-level boundary is followed by its children: a child stands after its parent, and no
   -- top-level boundary between the two
-  pub followed : (id place : ℕ) → (c : Boundary) → boundary_at list place ≡ Some c → c.parent ≡ Some id
+  pub followed : (id place : ℕ) → (c : Boundary) → boundary_at list place ≡ Some c
+      → c.parent ≡ Some id
       → (id < place)
       × ((between : ℕ) → (b : Boundary) → boundary_at list between ≡ Some b → b.parent ≡ None
       → id < between → between < place → ⊥)

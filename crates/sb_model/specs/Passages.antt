@@ -22,9 +22,9 @@ ray_from p n = record { start = p; normal = n }
 abbrev pub at_depth : Ray → Arrow → Spot
 at_depth r depth = along r.start r.normal depth
 
--- the passages of a ray: breaks 0 = t0 < t1 < .. with labels, such that all rational depths strictly
--- between two neighbouring breaks have the one label between them, all depths after the last break
--- have the last label, and neighbouring labels differ
+-- the passages of a ray: breaks 0 = t0 < t1 < .. with labels, such that all rational depths
+-- strictly between two neighbouring breaks have the one label between them, all depths after the
+-- last break have the last label, and neighbouring labels differ
 abbrev pub ArePassages : Building → Ray → List (Break Label) → Type 0
 ArePassages m r breaks = cut.ArePassages (λ depth. label_at m (at_depth r depth)) breaks
 

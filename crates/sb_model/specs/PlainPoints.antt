@@ -29,8 +29,8 @@ is_at_ground m p = int_eq p.z (m.level *ℤ p.w)
 abbrev pub is_off_level_cuts : Building → Spot → Bool
 is_off_level_cuts m p = not (is_on_plan_edge m p) && not (is_abscissa m axis_x (reading p axis_x))
 
--- off the cut lines of the side over an edge: p·d is no abscissa of its direction d, and z is neither
--- a height of a prism nor the ground
+-- off the cut lines of the side over an edge: p·d is no abscissa of its direction d, and z is
+-- neither a height of a prism nor the ground
 abbrev pub is_off_side_cuts : Building → Option Edge → Spot → Bool
 is_off_side_cuts m None p = false
 is_off_side_cuts m (Some e) p =

@@ -1,6 +1,7 @@
 -- The edges of a plan, and the points inside it.
 
-use Rattle.std.specs.Prelude.{ℕ, ℤ, pos, ◌+◌, ◌-ℤ◌, ◌*ℤ◌, Bool, false, not, ◌&&◌, nat_lt, int_lt, int_le, List, [], ◌∷◌, ◌++◌}
+use Rattle.std.specs.Prelude.{ℕ, ℤ, pos, ◌+◌, ◌-ℤ◌, ◌*ℤ◌, Bool, false, not, ◌&&◌, nat_lt, int_lt}
+use Rattle.std.specs.Prelude.{int_le, List, [], ◌∷◌, ◌++◌}
 use Rattle.std.specs.Prelude.{if◌then◌else◌}
 use Rattle.std.specs.Ordering.{int_eq}
 use Rattle.std.specs.List.{list_any}

@@ -1,6 +1,7 @@
 -- Plan edges, their crossings, and the abscissae of a direction.
 
-use Rattle.std.specs.Prelude.{ℕ, ℤ, pos, neg_ℤ, ◌+ℤ◌, ◌-ℤ◌, ◌*ℤ◌, Bool, not, ◌&&◌, ◌||◌, nat_le, int_lt, List, [], ◌∷◌, ◌++◌, map}
+use Rattle.std.specs.Prelude.{ℕ, ℤ, pos, neg_ℤ, ◌+ℤ◌, ◌-ℤ◌, ◌*ℤ◌, Bool, not, ◌&&◌, ◌||◌, nat_le}
+use Rattle.std.specs.Prelude.{int_lt, List, [], ◌∷◌, ◌++◌, map}
 use Rattle.std.specs.Prelude.{if◌then◌else◌}
 use Rattle.std.specs.Ordering.{int_eq}
 use Rattle.std.specs.List.{list_any}
@@ -42,7 +43,8 @@ pub record PlanEdge : Type 0 where
 
 abbrev pub edges_in : List Product → List PlanEdge
 edges_in [] = []
-edges_in (p ∷ ps) = map (λ e. record { edge = e; product = p.number }) (edges_of p.prism.loops) ++ edges_in ps
+edges_in (p ∷ ps) = map (λ e. record { edge = e; product = p.number }) (edges_of p.prism.loops)
+    ++ edges_in ps
 
 -- the plan edges: those of the loops of all spaces, elements and openings, in order of product
 -- number, then loop, then edge
@@ -58,7 +60,8 @@ cross_at p e f = not (are_parallel e f) && (is_within p e && is_within p f)
 
 -- p is a crossing: two plan edges cross there
 abbrev pub is_crossing : Building → Spot → Bool
-is_crossing m p = list_any (λ e. list_any (λ f. cross_at p e.edge f.edge) (plan_edges m)) (plan_edges m)
+is_crossing m p = list_any (λ e. list_any (λ f. cross_at p e.edge f.edge) (plan_edges m))
+    (plan_edges m)
 
 -- the same point with a positive denominator
 abbrev pub with_positive : Spot → Spot

@@ -14,13 +14,13 @@ use Rattle.sb_model.specs.Places.{AllOfTwo}
 
 -- two patches of one face
 pub record AreTrimmed (m : Building) (p q : Patch) : Type 0 where
-  -- on no line u = constant that is no abscissa of the face's direction have their closures a common
-  -- point
+  -- on no line u = constant that is no abscissa of the face's direction have their closures a
+  -- common point
   pub apart : (f : Surface) → surface_at m p.face ≡ Some f
       → (u v : Arrow) → IsRational u → is_abscissa m f.across u ≡ false
       → IsCommon (region_of p) (region_of q) u v → ⊥
-  -- and they share no whole side of positive length on a line u = constant with the same lower and the
-  -- same upper side, whichever of them begins there
+  -- and they share no whole side of positive length on a line u = constant with the same lower and
+  -- the same upper side, whichever of them begins there
   pub first_before : is_seam (region_of p) (region_of q) ≡ false
   pub second_before : is_seam (region_of q) (region_of p) ≡ false
 

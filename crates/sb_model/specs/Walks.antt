@@ -1,7 +1,9 @@
 -- Walks: what the ray from a point of a face crosses, and what it meets.
 -- Rose and Bazjanac 2015 in outline; the rules are this project's own.
 
-use Rattle.std.specs.Prelude.{◌≡◌, ℕ, ℤ, zero, suc, pos, ◌+◌, ◌*◌, ◌==◌, ◌+ℤ◌, ◌-ℤ◌, ◌*ℤ◌, Bool, true, false, not, ◌&&◌, ◌||◌, int_le, List, [], ◌∷◌, ◌++◌, Option, Some, None, IsTrue}
+use Rattle.std.specs.Prelude.{◌≡◌, ℕ, ℤ, zero, suc, pos, ◌+◌, ◌*◌, ◌==◌, ◌+ℤ◌, ◌-ℤ◌, ◌*ℤ◌, Bool}
+use Rattle.std.specs.Prelude.{true, false, not, ◌&&◌, ◌||◌, int_le, List, [], ◌∷◌, ◌++◌, Option}
+use Rattle.std.specs.Prelude.{Some, None, IsTrue}
 use Rattle.std.specs.Prelude.{if◌then◌else◌}
 use Rattle.std.specs.Ordering.{int_eq}
 use Rattle.std.specs.List.{list_all, find}
@@ -25,7 +27,8 @@ use Rattle.sb_model.specs.Building.{Building}
 use Rattle.sb_model.specs.Labels.{axis_vector, low_along, high_along, total_of}
 use Rattle.sb_model.specs.PlanEdges.{plan_edges}
 use Rattle.sb_model.specs.Faces.{Surface}
-use Rattle.sb_model.specs.Passages.{Ray, ray_from, at_depth, ArePassages, Passage, passages_of, Piece, pieces_of, start_of, end_of}
+use Rattle.sb_model.specs.Passages.{Ray, ray_from, at_depth, ArePassages, Passage, passages_of}
+use Rattle.sb_model.specs.Passages.{Piece, pieces_of, start_of, end_of}
 use Rattle.sb_model.specs.Corners.{whole}
 
 -- the edge stands at right angles to n, so a side with the normal n runs along it
@@ -42,7 +45,8 @@ is_square m r p =
 -- the cross product of two vectors is 0
 abbrev pub is_parallel : Vector → Vector → Bool
 is_parallel a b =
-    int_eq (a.y *ℤ b.z) (a.z *ℤ b.y) && (int_eq (a.z *ℤ b.x) (a.x *ℤ b.z) && int_eq (a.x *ℤ b.y) (a.y *ℤ b.x))
+    int_eq (a.y *ℤ b.z) (a.z *ℤ b.y) && (int_eq (a.z *ℤ b.x) (a.x *ℤ b.z)
+    && int_eq (a.x *ℤ b.y) (a.y *ℤ b.x))
 
 -- the element has no axis, or its axis is parallel to n
 abbrev pub lies_along : Layering → Vector → Bool
@@ -67,7 +71,8 @@ abbrev pub is_passed : Building → Ray → Element → Arrow → Option Arrow �
 is_passed m r e from None = false
 is_passed m r e from (Some to) =
     is_square m r (at_depth r to)
-    && (lies_along e.layering r.normal && is_in_reach m.reach (unit_along r) (length_between from to))
+    && (lies_along e.layering r.normal && is_in_reach m.reach (unit_along r)
+    (length_between from to))
 
 abbrev pub element_numbered : Building → ℕ → Option Element
 element_numbered m n = find (λ e. e.number == n) m.elements
@@ -100,8 +105,8 @@ is_rounded m unit k = is_reached_by m unit k && not (is_reached_by (suc m) unit 
 abbrev pub item : ℕ → ℕ → Ratio → Item
 item element layer thickness = record { element = element; layer = layer; thickness = thickness }
 
--- the item of a passage of length k through layer l: its nominal thickness times k over the length of
--- its band, which is the layer's share of the element's extent along n
+-- the item of a passage of length k through layer l: its nominal thickness times k over the length
+-- of its band, which is the layer's share of the element's extent along n
 abbrev pub layer_item : Element → List Layer → Vector → Layer → Arrow → Item
 layer_item e layers n l k =
     let extent = high_along e.prism n -ℤ low_along e.prism n in
@@ -113,8 +118,10 @@ layer_of (label.Element e layer) = layer
 layer_of _ = 0
 
 -- the item is that of a passage of a layered element
-abbrev pub IsLayerItem : Element → List Layer → Vector → Passage → Option Layer → Option Arrow → Item → Type 0
-IsLayerItem e layers n q (Some l) (Some to) i = i ≡ layer_item e layers n l (length_between q.from to)
+abbrev pub IsLayerItem : Element → List Layer → Vector → Passage → Option Layer → Option Arrow
+    → Item → Type 0
+IsLayerItem e layers n q (Some l) (Some to) i = i
+    ≡ layer_item e layers n l (length_between q.from to)
 IsLayerItem e layers n q _ _ i = ⊥
 
 -- one item for each passage, in the ray's order
@@ -129,11 +136,13 @@ AreLayerItems e layers n (q ∷ qs) (i ∷ is) =
 -- one item of layer 0 with the rounded thickness
 abbrev pub IsPlainItem : Element → ℤ → Arrow → List Item → Type 0
 IsPlainItem e unit k (i ∷ []) =
-    (thickness : ℕ) × IsTrue (is_rounded thickness unit k) × (i ≡ item e.number 0 (whole (pos thickness)))
+    (thickness : ℕ) × IsTrue (is_rounded thickness unit k)
+    × (i ≡ item e.number 0 (whole (pos thickness)))
 IsPlainItem e unit k _ = ⊥
 
 abbrev pub AreItemsBy : Layering → Element → Ray → Piece → Arrow → List Item → Type 0
-AreItemsBy Plain e r c to items = IsPlainItem e (unit_along r) (length_between (start_of c) to) items
+AreItemsBy Plain e r c to items = IsPlainItem e (unit_along r)
+    (length_between (start_of c) to) items
 AreItemsBy (Single material) e r c to items =
     IsPlainItem e (unit_along r) (length_between (start_of c) to) items
 AreItemsBy (Layered layers axis) e r c to items =
@@ -164,8 +173,8 @@ pub record Course : Type 0 where
 abbrev pub course : List Item → Arrow → End → Course
 course items depth found = record { items = items; depth = depth; end = found }
 
--- one piece of a walk: it ends here without an item of this piece, or its items come before those of
--- the rest
+-- one piece of a walk: it ends here without an item of this piece, or its items come before those
+-- of the rest
 abbrev pub GoesBy : Option End → Building → Ray → Piece → (Course → Type 0) → Course → Type 0
 GoesBy (Some found) m r c goes_on w = w ≡ course [] (start_of c) found
 GoesBy None m r c goes_on w =
@@ -184,7 +193,8 @@ course_of w = course w.items (rational w.depth (pos 1)) w.end
 -- the walk of a ray
 abbrev pub IsWalkOf : Building → Ray → Walk → Type 0
 IsWalkOf m r w =
-    (breaks : List (Break Label)) × (ArePassages m r breaks × Goes m r (pieces_of (passages_of breaks)) (course_of w))
+    (breaks : List (Break Label)) × (ArePassages m r breaks
+    × Goes m r (pieces_of (passages_of breaks)) (course_of w))
 
 -- the walk of a point of a face: that of the ray along the face's outward normal
 abbrev pub IsWalk : Building → Surface → Spot → Walk → Type 0
