@@ -15,6 +15,8 @@ characters_of_last (a ∷ bytes) b =
 
 -- the characters of the bytes up to index i, and of the byte there
 pub characters_of_more : (bytes : List ℕ) (i : ℕ) → i < length bytes
-    → material_text (take (i + 1) bytes) ≡ material_text (take i bytes) ++ encode_utf8 (get_or bytes i 0)
+    → material_text (take (i + 1) bytes)
+    ≡ material_text (take i bytes) ++ encode_utf8 (get_or bytes i 0)
 characters_of_more bytes i within =
-    ap material_text (take_more bytes i 0 within) ∙ characters_of_last (take i bytes) (get_or bytes i 0)
+    ap material_text (take_more bytes i 0 within)
+    ∙ characters_of_last (take i bytes) (get_or bytes i 0)

@@ -108,9 +108,11 @@ bottom : IsBottom → Boundary
 bottom fact = bottom_with fact None None None
 
 corner_of_box : ℤ → ℤ → Data
-corner_of_box x y = three (fraction_data (ratio x (pos 1))) (fraction_data (ratio y (pos 1))) (fraction_data (ratio (pos 0) (pos 1)))
+corner_of_box x y =
+    three (fraction_data (ratio x (pos 1))) (fraction_data (ratio y (pos 1)))
+    (fraction_data (ratio (pos 0) (pos 1)))
 
--- its corners, from (high, upper) against the clock as seen from above
+-- its corners from (high, upper) on: counterclockwise as seen from outside, which is from below
 corners_of_bottom : (fact : IsBottom) → corners_data (corners_of box (bottom fact).patch)
     ≡ four (corner_of_box (pos 4000) (pos 3000)) (corner_of_box (pos 4000) (pos 0))
     (corner_of_box (pos 0) (pos 0)) (corner_of_box (pos 0) (pos 3000))
@@ -141,18 +143,21 @@ walled : Building
 walled = building Millimetre (pos 0) 1000 (space ∷ []) (wall ∷ []) [] []
 
 -- a crossed layer whose thickness is not whole; a layer that is not there has no name
-entry_of_item : compact_text (item_data walled (record { element = 30; layer = 0; thickness = ratio (pos 10) (pos 3) }))
+entry_of_item : compact_text (item_data walled
+    (record { element = 30; layer = 0; thickness = ratio (pos 10) (pos 3) }))
     ≡ codes "{\"element\":30,\"layer\":0,\"material\":\"Caf" ++ (195 ∷ 169 ∷ []) ++ codes "\",\"thickness\":\"10/3\"}"
 unfolding serde_json_on_literals digits encode ratio space wall walled item_data
 entry_of_item = refl
 
-entry_of_unnamed : compact_text (item_data walled (record { element = 30; layer = 2; thickness = ratio (pos 0) (pos 1) }))
+entry_of_unnamed : compact_text (item_data walled
+    (record { element = 30; layer = 2; thickness = ratio (pos 0) (pos 1) }))
     ≡ codes "{\"element\":30,\"layer\":2,\"material\":\"\",\"thickness\":\"0\"}"
 unfolding serde_json_on_literals digits encode ratio space wall walled item_data
 entry_of_unnamed = refl
 
 -- what ties a boundary to others, where it is there
-ties : (fact : IsBottom) → compact_text (boundary_data box 4 (bottom_with fact (Some 2) (Some 3) (Some 50)))
+ties : (fact : IsBottom)
+    → compact_text (boundary_data box 4 (bottom_with fact (Some 2) (Some 3) (Some 50)))
     ≡ codes "{\"corners\":[[\"4000\",\"3000\",\"0\"],[\"4000\",\"0\",\"0\"],[\"0\",\"0\",\"0\"],[\"0\",\"3000\",\"0\"]],\"depth\":0,\"end\":\"earth\",\"face\":\"bottom\",\"id\":4,\"items\":[],\"key\":50,\"normal\":[0,0,-1],\"pair\":2,\"parent\":3,\"space\":20,\"target\":null,\"unit\":1}"
 unfolding serde_json_on_literals digits ratio point space box east level_at whole_bottom bottom_with boundary_data divisor_within greatest_divisor reduced level_corner
 ties fact = refl
@@ -179,6 +184,7 @@ key_alone : (fact : IsBottom) → is_list_of box (bottom_with fact None None (So
 unfolding space box whole_bottom bottom_with
 key_alone fact = refl
 
-no_space : (fact : IsBottom) → is_list_of (building Millimetre (pos 0) 1000 [] [] [] []) (bottom fact ∷ []) ≡ false
+no_space : (fact : IsBottom)
+    → is_list_of (building Millimetre (pos 0) 1000 [] [] [] []) (bottom fact ∷ []) ≡ false
 unfolding whole_bottom bottom_with bottom
 no_space fact = refl

@@ -16,7 +16,8 @@ passed_at p [] i x all here = absurd (cc)
 passed_at p (y ∷ ys) zero x all here =
     let same : y ≡ x = cc in
     rw same at (and_parts (p y) (list_all p ys) all).0
-passed_at p (y ∷ ys) (suc i) x all here = passed_at p ys i x (and_parts (p y) (list_all p ys) all).1 here
+passed_at p (y ∷ ys) (suc i) x all here =
+    passed_at p ys i x (and_parts (p y) (list_all p ys) all).1 here
 
 -- the face of each boundary is the model's
 pub face_at : (m : Building) (bs : List Boundary) (i : ℕ) (b : Boundary)

@@ -46,7 +46,8 @@ item_has_none : (m : Building) (i : Item) → has_float (item_data m i) ≡ fals
 unfolding item_data
 item_has_none m i = refl
 
-boundary_has_none : (m : Building) (id : ℕ) (b : Boundary) → has_float (boundary_data m id b) ≡ false
+boundary_has_none : (m : Building) (id : ℕ) (b : Boundary)
+    → has_float (boundary_data m id b) ≡ false
 unfolding boundary_data
 boundary_has_none m id b = rw (
   corners_have_none (corners_of m b.patch),

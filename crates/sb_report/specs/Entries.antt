@@ -1,4 +1,4 @@
--- The entry of a boundary in the report, as data of JSON. The keys stand in the order of their bytes.
+-- The entry of a boundary, as data of JSON. The keys stand in the order of their bytes.
 
 use Rattle.std.specs.Prelude.{ℕ, ℤ, List, map, codes, Option, Some, None}
 use Rattle.serde_json.specs.Data.{Data, null, number, string, array, object, unsigned, no_items, item, no_members, member}
@@ -51,7 +51,8 @@ corner_data c = three (fraction_data c.x) (fraction_data c.y) (fraction_data c.z
 abbrev pub corners_data : Option Corners → Data
 corners_data None = array no_items
 corners_data (Some (Three a b c)) = three (corner_data a) (corner_data b) (corner_data c)
-corners_data (Some (Four a b c d)) = four (corner_data a) (corner_data b) (corner_data c) (corner_data d)
+corners_data (Some (Four a b c d)) =
+    four (corner_data a) (corner_data b) (corner_data c) (corner_data d)
 
 -- the normal of a face; the empty list stands where there is no such face
 abbrev pub normal_data : Option Vector → Data

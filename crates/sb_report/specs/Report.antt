@@ -18,8 +18,8 @@ entries_from m id (b ∷ bs) = boundary_data m id b ∷ entries_from m (id + 1) 
 abbrev pub space_numbers : List Space → Data
 space_numbers spaces = array (items_of (map (λ s. count s.number) spaces))
 
--- the whole: the boundaries, the name of this form, the model's ground and reach in millimetres, and
--- the numbers of its spaces
+-- the whole: the boundaries, the name of this form, the model's ground and reach in millimetres,
+-- and the numbers of its spaces
 unfoldable pub report_data : Building → List Boundary → Data
 report_data m bs = object
     (member (codes "boundaries") (array (items_of (entries_from m 1 bs)))

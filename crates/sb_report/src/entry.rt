@@ -6,7 +6,8 @@ ghost use Rattle.serde_json.specs.View.{view, members_view};
 ghost use Rattle.sb_model.specs.Corners.{corners_of, is_straight};
 ghost use Rattle.sb_model.specs.Faces.{is_face_of};
 ghost use Rattle.sb_report.specs.Texts.{face_name, end_name};
-ghost use Rattle.sb_report.specs.Normals.{normal_of, vector_of, is_short};
+ghost use Rattle.sb_report.specs.Normals.{normal_of};
+ghost use Rattle.sb_report.specs.Steps.{vector_of, is_short};
 ghost use Rattle.sb_report.specs.Entries.{count, signed, number_or_null, target, items_data};
 ghost use Rattle.sb_report.specs.Entries.{corners_data, normal_data, unit_data, boundary_data};
 
@@ -64,12 +65,8 @@ fn put_walk(
     put(entry, alloc, "depth", Value::from(walk.depth))?;
     let end = Value::try_from_str(alloc, name_of_end(walk.end))?;
     put(entry, alloc, "end", end)?;
-    put(
-        entry,
-        alloc,
-        "items",
-        items_value(alloc, model, &walk.items)?,
-    )?;
+    let items = items_value(alloc, model, &walk.items)?;
+    put(entry, alloc, "items", items)?;
     put(entry, alloc, "target", product(target_of(walk.end)))
 }
 
@@ -110,7 +107,8 @@ fn put_face(
         (with (codes "space") (count face.space)
         (with (codes "normal") (normal_data (Some (vector_of normal)))
         (with (codes "face") (string (face_name face.kind))
-        (with (codes "corners") (corners_data (Some corners.now)) (members_view entry.old.entries)))))) }
+        (with (codes "corners") (corners_data (Some corners.now))
+        (members_view entry.old.entries)))))) }
 {
     put(entry, alloc, "corners", corners_value(alloc, corners)?)?;
     let name = Value::try_from_str(alloc, name_of_face(face.kind))?;

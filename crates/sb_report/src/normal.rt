@@ -1,6 +1,7 @@
 //! The outward normals of faces.
 
-ghost use Rattle.std.specs.Prelude.{◌≡◌, ◌==◌, ◌&&◌, ◌<◌, ◌≤◌, IfSome, ◌-ℤ◌, ◌*ℤ◌, ◌+ℤ◌, ◌+◌, ◌/◌, length, slice_get, IsTrue, Some, pos, neg_ℤ, unsigned_abs};
+ghost use Rattle.std.specs.Prelude.{◌≡◌, ◌==◌, ◌&&◌, ◌<◌, ◌≤◌, IfSome, ◌-ℤ◌, ◌*ℤ◌, ◌+ℤ◌};
+ghost use Rattle.std.specs.Prelude.{◌+◌, ◌/◌, length, slice_get, IsTrue, Some, pos, neg_ℤ, unsigned_abs};
 ghost use Rattle.std.specs.Option.{option_copied, option_map};
 ghost use Rattle.std.specs.List.{list_all};
 ghost use Rattle.sb_fraction.specs.Divisors.{greatest_divisor};
@@ -9,7 +10,8 @@ ghost use Rattle.sb_model.specs.Plan.{edge, edges_of, edges_of_loop, place_after
 ghost use Rattle.sb_model.specs.Loops.{is_plan_point};
 ghost use Rattle.sb_model.specs.Faces.{normal_over as normal_over_edge, space_numbered};
 ghost use Rattle.sb_model.specs.Faces.{is_face_of};
-ghost use Rattle.sb_report.specs.Normals.{normal_of, vector_of, is_short, signed_as};
+ghost use Rattle.sb_report.specs.Normals.{normal_of};
+ghost use Rattle.sb_report.specs.Steps.{vector_of, is_short, signed_as};
 
 use sb_fraction::{Fraction, Point};
 use sb_model::{Axis, Face, FaceKind, Loops, Model, Space};

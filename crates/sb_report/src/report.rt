@@ -71,8 +71,8 @@ fn entry_at(
     requires fits { index < usize.MAX }
     requires of_model { IsTrue (is_list_of model.now bounds.now) }
     requires corners { IsTrue (have_corners model.now bounds.now) }
-    ensures { IfOk result (λ v.
-        Some (view v) ≡ option_map (boundary_data model.now (index + 1)) (slice_get bounds.now index)) }
+    ensures { IfOk result (λ v. Some (view v)
+        ≡ option_map (boundary_data model.now (index + 1)) (slice_get bounds.now index)) }
 {
     let id = index as u64 + 1;
     let boundary = bounds.get(id).unwrap();
