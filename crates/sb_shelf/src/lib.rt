@@ -8,10 +8,12 @@
 
 mod calls;
 mod host;
+mod input;
 mod memory;
 mod reading;
 mod sheet;
 mod shelf;
+mod steady;
 #[cfg(test)]
 mod tests;
 mod writing;
@@ -22,4 +24,5 @@ pub use memory::MemoryShelf;
 pub use reading::{LONGEST_INPUT, ReadError, read_all};
 pub use sb_list::Text;
 pub use shelf::{Failed, Out, Shelf};
+pub use steady::SteadyShelf;
 pub use writing::{WriteFault, write_all};
