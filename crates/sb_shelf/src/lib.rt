@@ -2,8 +2,9 @@
 //!
 //! A [`Shelf`] has four calls. Its contract says what is read and written, where the shelf tells
 //! it, and that a call fails only where a count of faults rises. [`MemoryShelf`] tells everything
-//! and fails where it is told to; [`HostShelf`] is real files and standard output. [`read_all`]
-//! and [`write_all`] move whole texts. Read `specs/Outside.antt` and `specs/Calls.antt` first.
+//! and fails where it is told to; [`SteadyShelf`] tells what is read and never fails;
+//! [`HostShelf`] is real files and standard output. [`read_all`] and [`write_all`] move whole
+//! texts. Read `specs/Outside.antt` and `specs/Calls.antt` first.
 #![tactic(auto)]
 
 mod calls;

@@ -24,6 +24,9 @@ impl SteadyShelf {
 
     /// A shelf with these bytes under this path. Nothing is left to read before the first `open`,
     /// and only the message is created.
+    ///
+    /// The two texts bring their own memory, and no more is taken. The allocator is that of a
+    /// shelf that may come to hold more.
     pub fn new(_alloc: Global, path: Text, bytes: Text) -> Self
         ensures state { steady_state result ≡ never_failing path bytes [] false false false }
         ensures files { IsUntouched (steady_state result) }
