@@ -1,5 +1,5 @@
 -- What a shelf stands for: what can be read, what was written, and how often its calls have failed.
-use Rattle.std.specs.Prelude.{◌≡◌, ◌≢◌, ℕ, ◌+◌, ◌≤◌, min, Bool, false, List, Option, is_some}
+use Rattle.std.specs.Prelude.{◌≡◌, ◌≢◌, ℕ, ◌+◌, ◌≤◌, min, Bool, false, true, List, Option, is_some}
 use Rattle.sb_shelf.specs.declared.shelf.Out.{Out}
 use Rattle.sb_shelf.specs.declared.shelf.Out.TheVariants.{Ifc, Idf, Report, Said}
 
@@ -45,6 +45,13 @@ other_faults_of Ifc s = s.said_faults
 other_faults_of Idf s = s.said_faults
 other_faults_of Report s = s.said_faults
 other_faults_of Said s = s.file_faults
+
+-- which outputs are created: each file as given, and the message always
+abbrev pub created_of : Bool → Bool → Bool → Out → Bool
+created_of ifc idf report Ifc = ifc
+created_of ifc idf report Idf = idf
+created_of ifc idf report Report = report
+created_of ifc idf report Said = true
 
 -- none of the three files is created
 pub record IsUntouched (s : Outside) : Type 0 where

@@ -2,6 +2,7 @@ ghost use Rattle.std.specs.Prelude.{◌≡◌, ◌-◌, ◌<◌, ◌≤◌, ◌|
 ghost use Rattle.std.specs.Prelude.{Some, is_some, is_err, IfOk, IfSome, OnOk, OnErr};
 
 use crate::calls::{Calls, append_unless, is_next_listed, raise};
+use crate::input::Input;
 use crate::sheet::Sheet;
 use crate::shelf::{Failed, Out, Shelf};
 use sb_list::Text;
@@ -16,10 +17,7 @@ use std::alloc::{AllocError, Global};
 /// have failed, at most 2^64 - 1.
 #[derive(Drop)]
 pub struct MemoryShelf {
-    path: Text,
-    bytes: Text,
-    /// How many of the bytes were taken: all of them before the first `open`.
-    taken: usize,
+    input: Input,
     failing: Calls,
     calls: u64,
     /// The most bytes that a read or a write moves.
@@ -31,7 +29,6 @@ pub struct MemoryShelf {
     read_faults: u64,
     file_faults: u64,
     said_faults: u64,
-    ghost taken_is_there: { taken ≤ length bytes },
     ghost moves_some: { 0 < piece },
     ghost message_is_created: { said.is_created ≡ true },
 }
@@ -46,11 +43,8 @@ impl MemoryShelf {
         requires { 0 < piece }
         ensures { IsNew path bytes failing piece result }
     {
-        let taken = bytes.len();
         MemoryShelf {
-            path,
-            bytes,
-            taken,
+            input: Input::new(path, bytes),
             failing,
             calls: 0,
             piece,
@@ -126,11 +120,7 @@ impl Shelf for MemoryShelf {
             raise(&mut self.read_faults);
             return Err(Failed);
         }
-        if path.as_bytes() == self.path.bytes() {
-            self.taken = 0;
-        } else {
-            self.taken = self.bytes.len();
-        }
+        self.input.open(path);
         Ok(())
     }
 
@@ -148,11 +138,7 @@ impl Shelf for MemoryShelf {
             raise(&mut self.read_faults);
             return Err(Failed);
         }
-        let left = &self.bytes.bytes()[self.taken..];
-        let count = self.piece.min(into.len().min(left.len()));
-        into[..count].copy_from_slice(&left[..count]);
-        self.taken += count;
-        Ok(count)
+        Ok(self.input.read(into, self.piece))
     }
 
     fn create(&mut self, out: Out, _path: &str) -> Result<(), Failed>
