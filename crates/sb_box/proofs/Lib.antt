@@ -1,2 +1,5 @@
 pub mod BoxPatchesArePatches
 pub mod BoxListIsPushed
+pub mod BoxLabels
+pub mod BoxSides
+pub mod PatchesOfBoxFaces
