@@ -182,7 +182,7 @@ in_east x y z w a c e = let f = turned a c w in omega (arith, ints)
 -- ---- along the ray
 
 -- a coordinate c that falls along the ray lies below the side's
-falls : (c z w d n : ℤ) → z ≡ c *ℤ w → pos 0 <ℤ w → pos 0 <ℤ n
+pub falls : (c z w d n : ℤ) → z ≡ c *ℤ w → pos 0 <ℤ w → pos 0 <ℤ n
     → ((z *ℤ (d *ℤ pos 1)) +ℤ (negsuc 0 *ℤ (n *ℤ w))) ≤ℤ (c *ℤ (w *ℤ (d *ℤ pos 1)))
 falls c z w d n at positive ahead =
     let gap = positive_product n w ahead positive in
@@ -197,7 +197,7 @@ falls c z w d n at positive ahead =
             (times (var n) (var w)) (omega arith)
 
 -- one that rises lies above it
-rises : (c z w d n : ℤ) → z ≡ c *ℤ w → pos 0 <ℤ w → pos 0 <ℤ n
+pub rises : (c z w d n : ℤ) → z ≡ c *ℤ w → pos 0 <ℤ w → pos 0 <ℤ n
     → (c *ℤ (w *ℤ (d *ℤ pos 1))) ≤ℤ ((z *ℤ (d *ℤ pos 1)) +ℤ (pos 1 *ℤ (n *ℤ w)))
 rises c z w d n at positive ahead =
     let gap = positive_product n w ahead positive in
@@ -216,7 +216,7 @@ level_ray z d n w =
     equal (plus (times (var z) (times (var d) (num 1))) (times (num 0) (times (var n) (var w))))
     (times (var z) (var d)) (omega arith)
 
-ray_ahead : (w d : ℤ) → pos 0 <ℤ w → pos 0 <ℤ d → pos 0 <ℤ (w *ℤ (d *ℤ pos 1))
+pub ray_ahead : (w d : ℤ) → pos 0 <ℤ w → pos 0 <ℤ d → pos 0 <ℤ (w *ℤ (d *ℤ pos 1))
 ray_ahead w d positive deep = positive_product w (d *ℤ pos 1) positive (omega (arith, ints))
 
 -- outside by one coordinate

@@ -3,3 +3,4 @@ pub mod BoxListIsPushed
 pub mod BoxLabels
 pub mod BoxSides
 pub mod PatchesOfBoxFaces
+pub mod BoxLevels
