@@ -4,3 +4,4 @@ pub mod BoxLabels
 pub mod BoxSides
 pub mod PatchesOfBoxFaces
 pub mod BoxLevels
+pub mod FacesOfBoxes
