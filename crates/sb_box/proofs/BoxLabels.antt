@@ -48,7 +48,7 @@ is_box_model n e m is =
     whole : (s : Space) → s.number ≡ n → s.prism ≡ prism_of e → s ≡ box_space (besides_of m s) n e
     whole s number_is prism_is =
         ap (λ number. record s { number = number }) number_is
-            ∙ ap (λ prism. record (box_space (besides_of m s) n e) { prism = prism }) prism_is
+        ∙ ap (λ prism. record (box_space (besides_of m s) n e) { prism = prism }) prism_is
 
 -- a point outside the box has the label of the open
 pub label_outside : (k : Besides) (n : ℕ) (e : Extent) (q : Spot) → is_in_solid (prism_of e) q ≡ false

@@ -91,7 +91,7 @@ sinks_to c z w d n at = rw at (same c w d n)
     same : (c w d n : ℤ) → ((c *ℤ w) *ℤ (d *ℤ pos 1)) +ℤ (negsuc 0 *ℤ (n *ℤ w)) ≡ w *ℤ ((c *ℤ d) -ℤ n)
     same c w d n =
         equal (plus (times (times (var c) (var w)) (times (var d) (num 1))) (times (negated (num 1)) (times (var n) (var w))))
-            (times (var w) (minus (times (var c) (var d)) (var n))) (omega arith)
+        (times (var w) (minus (times (var c) (var d)) (var n))) (omega arith)
 
 climbs_to : (c z w d n : ℤ) → z ≡ c *ℤ w
     → (z *ℤ (d *ℤ pos 1)) +ℤ (pos 1 *ℤ (n *ℤ w)) ≡ w *ℤ ((c *ℤ d) +ℤ n)
@@ -100,7 +100,7 @@ climbs_to c z w d n at = rw at (same c w d n)
     same : (c w d n : ℤ) → ((c *ℤ w) *ℤ (d *ℤ pos 1)) +ℤ (pos 1 *ℤ (n *ℤ w)) ≡ w *ℤ ((c *ℤ d) +ℤ n)
     same c w d n =
         equal (plus (times (times (var c) (var w)) (times (var d) (num 1))) (times (num 1) (times (var n) (var w))))
-            (times (var w) (plus (times (var c) (var d)) (var n))) (omega arith)
+        (times (var w) (plus (times (var c) (var d)) (var n))) (omega arith)
 
 before_depth : (c : ℤ) (u : Arrow) → IsBelow u (rational c (pos 1)) → u.y <ℤ (c *ℤ u.x)
 unfolding cross
@@ -179,9 +179,9 @@ bottom_looks_out k n e p positive at =
       passages = two_passages (λ u. label_at (box_model k n e) (down p u)) label.Void label.Earth (rational e.z0 (pos 1))
           (whole_is_reduced e.z0) (depth_is_later e.z0 over) void_is_not_earth
           (λ u rational after before. down_label k n e p positive at u after
-            ∙ above_is_void (down p u) (not_sunk e.z0 p u positive at (before_depth e.z0 u before)))
+          ∙ above_is_void (down p u) (not_sunk e.z0 p u positive at (before_depth e.z0 u before)))
           (λ u rational after. down_label k n e p positive at u (later_still e.z0 u over rational after)
-            ∙ below_is_earth (down p u) (sunk e.z0 p u positive at (after_depth e.z0 u after)));
+          ∙ below_is_earth (down p u) (sunk e.z0 p u positive at (after_depth e.z0 u after)));
       open_end = rw (test_not_at_most e.z0 (pos 0) over) refl;
     })
     (λ under. record {
@@ -189,8 +189,8 @@ bottom_looks_out k n e p positive at =
       rest = [];
       passages = one_passage (λ u. label_at (box_model k n e) (down p u)) label.Earth
           (λ u rational after. down_label k n e p positive at u after
-            ∙ below_is_earth (down p u) (sunk e.z0 p u positive at
-              (let h = at_most_zero e.z0 u.x under rational in let d = deep u after in omega (arith, ints))));
+          ∙ below_is_earth (down p u) (sunk e.z0 p u positive at
+          (let h = at_most_zero e.z0 u.x under rational in let d = deep u after in omega (arith, ints))));
       open_end = rw (test_at_most e.z0 (pos 0) under) refl;
     })
 
@@ -247,11 +247,11 @@ top_looks_out k n e p positive at =
       passages = two_passages (λ u. label_at (box_model k n e) (up p u)) label.Earth label.Void (rational depth (pos 1))
           (whole_is_reduced depth) (depth_is_later depth later) (λ same. void_is_not_earth (sym same))
           (λ u rational after before. up_label k n e p positive at u after
-            ∙ below_is_earth (up p u) (not_raised e.z1 p u positive at
-              (let h = before_depth depth u before in let g = neg_mul e.z1 u.x in omega (arith, ints))))
+          ∙ below_is_earth (up p u) (not_raised e.z1 p u positive at
+          (let h = before_depth depth u before in let g = neg_mul e.z1 u.x in omega (arith, ints))))
           (λ u rational after. up_label k n e p positive at u (later_still depth u later rational after)
-            ∙ above_is_void (up p u) (raised e.z1 p u positive at
-              (let h = after_depth depth u after in let g = neg_mul e.z1 u.x in omega (arith, ints))));
+          ∙ above_is_void (up p u) (raised e.z1 p u positive at
+          (let h = after_depth depth u after in let g = neg_mul e.z1 u.x in omega (arith, ints))));
       open_end = rw (test_not_at_most (pos 0) e.z1 under) refl;
     })
     (λ over. record {
@@ -259,7 +259,7 @@ top_looks_out k n e p positive at =
       rest = [];
       passages = one_passage (λ u. label_at (box_model k n e) (up p u)) label.Void
           (λ u rational after. up_label k n e p positive at u after
-            ∙ above_is_void (up p u) (raised e.z1 p u positive at
-              (let h = at_least_zero e.z1 u.x over rational in let d = deep u after in omega (arith, ints))));
+          ∙ above_is_void (up p u) (raised e.z1 p u positive at
+          (let h = at_least_zero e.z1 u.x over rational in let d = deep u after in omega (arith, ints))));
       open_end = rw (test_at_most (pos 0) e.z1 over) refl;
     })

@@ -38,14 +38,14 @@ pub record IsBoxSide (k : Besides) (n : ℕ) (e : Extent) (side : Edge) (f : Sur
   pub up_is : f.up ≡ axis_z
   -- a point of the edge off the abscissae lies strictly between its ends
   pub within : (p : Spot) → IsSpot p → is_on p side ≡ true
-    → is_abscissa (box_model k n e) f.across (reading p f.across) ≡ false
-    → ((low *ℤ p.w) <ℤ times_w p f.across) × (times_w p f.across <ℤ (high *ℤ p.w))
+      → is_abscissa (box_model k n e) f.across (reading p f.across) ≡ false
+      → ((low *ℤ p.w) <ℤ times_w p f.across) × (times_w p f.across <ℤ (high *ℤ p.w))
   -- a point of the plane between them lies on the edge
   pub on_edge : (p : Spot) → is_in_plane f p ≡ true → (low *ℤ p.w) <ℤ times_w p f.across
-    → times_w p f.across <ℤ (high *ℤ p.w) → is_on p side ≡ true
+      → times_w p f.across <ℤ (high *ℤ p.w) → is_on p side ≡ true
   -- the ray from a point of the edge runs outside the plan
   pub outside : (p : Spot) → IsSpot p → is_on p side ≡ true → (u : Arrow) → IsRational u → IsBelow ray_start u
-    → is_in_plan (rectangle e.x0 e.x1 e.y0 e.y1 ∷ []) (along p f.normal u) ≡ false
+      → is_in_plan (rectangle e.x0 e.x1 e.y0 e.y1 ∷ []) (along p f.normal u) ≡ false
   -- and is level
   pub ahead : (p : Spot) → IsSpot p → (u : Arrow) → IsRational u → IsSpot (along p f.normal u)
   pub same_height : (p : Spot) → (u : Arrow) → (along p f.normal u).z ≡ p.z *ℤ u.x
@@ -55,7 +55,7 @@ surface_with e d n = record {
   across = d;
   up = axis_z;
   normal = n;
-  position = (e.a.x *ℤ n.x) +ℤ (e.a.y *ℤ n.y)
+  position = (e.a.x *ℤ n.x) +ℤ (e.a.y *ℤ n.y);
 }
 
 surface_is : (e : Edge) (d n : Vector) → IsHeaded e d n → side_over e ≡ surface_with e d n
@@ -108,7 +108,7 @@ no_ends k n e d u none =
     let third = ends_over d u (edge (corner e.x1 e.y1) (corner e.x0 e.y1)) in
     let fourth = ends_over d u (edge (corner e.x0 e.y1) (corner e.x0 e.y0)) in
     let ends = or_parts (list_any (λ q. ends_over d u q.edge) (plan_edges m))
-            (list_any (λ q. list_any (λ r. cross_over d u q.edge r.edge) (plan_edges m)) (plan_edges m)) none in
+    (list_any (λ q. list_any (λ r. cross_over d u q.edge r.edge) (plan_edges m)) (plan_edges m)) none in
     let parts = or_parts first (second || (third || (fourth || false))) ends.0 in
     (parts.0, (or_parts second (third || (fourth || false)) parts.1).0)
 
@@ -127,7 +127,7 @@ within_xs k n e rising p positive about none =
     let bounds = about_rising (e.x0 *ℤ p.w) (e.x1 *ℤ p.w) p.x (scaled_less e.x0 e.x1 p.w rising.x positive) about in
     let same = reads_x p in
     let ends = no_end_along_x (edge (corner e.x0 e.y0) (corner e.x1 e.y0)) (times_w p axis_x) p.w
-            (no_ends k n e axis_x (reading p axis_x) none).0 in
+    (no_ends k n e axis_x (reading p axis_x) none).0 in
     strict (e.x0 *ℤ p.w) (e.x1 *ℤ p.w) (times_w p axis_x) (rw same bounds.0) (rw same bounds.1) ends.0 ends.1
 
 within_ys : (k : Besides) (n : ℕ) (e : Extent) → IsRising e → (p : Spot) → IsSpot p
@@ -138,7 +138,7 @@ within_ys k n e rising p positive about none =
     let bounds = about_rising (e.y0 *ℤ p.w) (e.y1 *ℤ p.w) p.y (scaled_less e.y0 e.y1 p.w rising.y positive) about in
     let same = reads_y p in
     let ends = no_end_along_y (edge (corner e.x1 e.y0) (corner e.x1 e.y1)) (times_w p axis_y) p.w
-            (no_ends k n e axis_y (reading p axis_y) none).1 in
+    (no_ends k n e axis_y (reading p axis_y) none).1 in
     strict (e.y0 *ℤ p.w) (e.y1 *ℤ p.w) (times_w p axis_y) (rw same bounds.0) (rw same bounds.1) ends.0 ends.1
 
 -- ---- in the plane of a side
@@ -150,7 +150,7 @@ in_south x y z w a c e = let f = turned a c w in omega (arith, ints)
     turned : (a c w : ℤ) → pos 0 -ℤ (((a *ℤ pos 0) +ℤ (c *ℤ negsuc 0)) *ℤ w) ≡ c *ℤ w
     turned a c w =
         equal (minus (num 0) (times (plus (times (var a) (num 0)) (times (var c) (negated (num 1)))) (var w)))
-            (times (var c) (var w)) (omega arith)
+        (times (var c) (var w)) (omega arith)
 
 in_north : (x y z w a c : ℤ)
     → ((x *ℤ pos 0) +ℤ (y *ℤ pos 1)) +ℤ (z *ℤ pos 0) ≡ ((a *ℤ pos 0) +ℤ (c *ℤ pos 1)) *ℤ w → y ≡ c *ℤ w
@@ -159,7 +159,7 @@ in_north x y z w a c e = let f = turned a c w in omega (arith, ints)
     turned : (a c w : ℤ) → ((a *ℤ pos 0) +ℤ (c *ℤ pos 1)) *ℤ w ≡ c *ℤ w
     turned a c w =
         equal (times (plus (times (var a) (num 0)) (times (var c) (num 1))) (var w))
-            (times (var c) (var w)) (omega arith)
+        (times (var c) (var w)) (omega arith)
 
 in_west : (x y z w a c : ℤ)
     → ((x *ℤ negsuc 0) +ℤ (y *ℤ pos 0)) +ℤ (z *ℤ pos 0) ≡ ((a *ℤ negsuc 0) +ℤ (c *ℤ pos 0)) *ℤ w → x ≡ a *ℤ w
@@ -168,7 +168,7 @@ in_west x y z w a c e = let f = turned a c w in omega (arith, ints)
     turned : (a c w : ℤ) → pos 0 -ℤ (((a *ℤ negsuc 0) +ℤ (c *ℤ pos 0)) *ℤ w) ≡ a *ℤ w
     turned a c w =
         equal (minus (num 0) (times (plus (times (var a) (negated (num 1))) (times (var c) (num 0))) (var w)))
-            (times (var a) (var w)) (omega arith)
+        (times (var a) (var w)) (omega arith)
 
 in_east : (x y z w a c : ℤ)
     → ((x *ℤ pos 1) +ℤ (y *ℤ pos 0)) +ℤ (z *ℤ pos 0) ≡ ((a *ℤ pos 1) +ℤ (c *ℤ pos 0)) *ℤ w → x ≡ a *ℤ w
@@ -177,7 +177,7 @@ in_east x y z w a c e = let f = turned a c w in omega (arith, ints)
     turned : (a c w : ℤ) → ((a *ℤ pos 1) +ℤ (c *ℤ pos 0)) *ℤ w ≡ a *ℤ w
     turned a c w =
         equal (times (plus (times (var a) (num 1)) (times (var c) (num 0))) (var w))
-            (times (var a) (var w)) (omega arith)
+        (times (var a) (var w)) (omega arith)
 
 -- ---- along the ray
 
@@ -192,9 +192,9 @@ falls c z w d n at positive ahead =
     same : (c w d n : ℤ) → (c *ℤ (w *ℤ (d *ℤ pos 1))) -ℤ (((c *ℤ w) *ℤ (d *ℤ pos 1)) +ℤ (negsuc 0 *ℤ (n *ℤ w))) ≡ n *ℤ w
     same c w d n =
         equal
-            (minus (times (var c) (times (var w) (times (var d) (num 1))))
-                (plus (times (times (var c) (var w)) (times (var d) (num 1))) (times (negated (num 1)) (times (var n) (var w)))))
-            (times (var n) (var w)) (omega arith)
+        (minus (times (var c) (times (var w) (times (var d) (num 1))))
+        (plus (times (times (var c) (var w)) (times (var d) (num 1))) (times (negated (num 1)) (times (var n) (var w)))))
+        (times (var n) (var w)) (omega arith)
 
 -- one that rises lies above it
 pub rises : (c z w d n : ℤ) → z ≡ c *ℤ w → pos 0 <ℤ w → pos 0 <ℤ n
@@ -207,9 +207,9 @@ rises c z w d n at positive ahead =
     same : (c w d n : ℤ) → (((c *ℤ w) *ℤ (d *ℤ pos 1)) +ℤ (pos 1 *ℤ (n *ℤ w))) -ℤ (c *ℤ (w *ℤ (d *ℤ pos 1))) ≡ n *ℤ w
     same c w d n =
         equal
-            (minus (plus (times (times (var c) (var w)) (times (var d) (num 1))) (times (num 1) (times (var n) (var w))))
-                (times (var c) (times (var w) (times (var d) (num 1)))))
-            (times (var n) (var w)) (omega arith)
+        (minus (plus (times (times (var c) (var w)) (times (var d) (num 1))) (times (num 1) (times (var n) (var w))))
+        (times (var c) (times (var w) (times (var d) (num 1)))))
+        (times (var n) (var w)) (omega arith)
 
 level_ray : (z d n w : ℤ) → (z *ℤ (d *ℤ pos 1)) +ℤ (pos 0 *ℤ (n *ℤ w)) ≡ z *ℤ d
 level_ray z d n w =

@@ -43,11 +43,11 @@ lies_in k f p = patch_test k (times_w p f.across) (times_w p f.up) p.w
 
 pub record FaceFacts (s : Besides) (n : ℕ) (e : Extent) (k : FaceKind) (f : Surface) : Type 0 where
   pub once : (p : Spot) → IsSpot p → is_plain (box_model s n e) (prism_of e) k p ≡ true
-    → ExactlyOne (lies_in k f p) (box_patches e)
+      → ExactlyOne (lies_in k f p) (box_patches e)
   pub inside : (p : Spot) → IsSpot p → is_in_plane f p ≡ true
-    → AllByRecursion (λ q. lies_in k f p q ≡ true → is_of_face (prism_of e) k p ≡ true) (box_patches e)
+      → AllByRecursion (λ q. lies_in k f p q ≡ true → is_of_face (prism_of e) k p ≡ true) (box_patches e)
   pub looks : (p : Spot) → IsSpot p → is_plain (box_model s n e) (prism_of e) k p ≡ true
-    → AllByRecursion (λ q. lies_in k f p q ≡ true → LooksOut (box_model s n e) f p q.end) (box_patches e)
+      → AllByRecursion (λ q. lies_in k f p q ≡ true → LooksOut (box_model s n e) f p q.end) (box_patches e)
 
 -- ---- Bottom and Top
 
@@ -81,7 +81,7 @@ level_facts : (s : Besides) (n : ℕ) (e : Extent) (k : FaceKind) (f : Surface) 
     → AllByRecursion (OnFace k (λ q. q ≡ box_patch k e.x0 e.x1 e.y0 e.y1 found)) (box_patches e)
     → ((p : Spot) → IsSpot p → is_of_face (prism_of e) k p ≡ true → IsOver e (times_w p f.across) (times_w p f.up) p.w)
     → ((p : Spot) → IsSpot p → is_in_plane f p ≡ true → IsOver e (times_w p f.across) (times_w p f.up) p.w
-      → is_of_face (prism_of e) k p ≡ true)
+    → is_of_face (prism_of e) k p ≡ true)
     → ((p : Spot) → IsSpot p → is_of_face (prism_of e) k p ≡ true → LooksOut (box_model s n e) f p found)
     → FaceFacts s n e k f
 level_facts s n e k f found one alone on of out = record {
@@ -136,7 +136,7 @@ plain_tells s n e j side f p numbered surface plain =
     let m = box_model s n e in
     let d = direction_of side in
     let here : (is_of_side (prism_of e) (Some side) p && is_off_side_cuts m (Some side) p) ≡ true =
-        subst (λ (o : Option Edge). (is_of_side (prism_of e) o p && is_off_side_cuts m o p) ≡ true) numbered plain in
+    subst (λ (o : Option Edge). (is_of_side (prism_of e) o p && is_off_side_cuts m o p) ≡ true) numbered plain in
     let parts = and_parts (is_of_side (prism_of e) (Some side) p) (is_off_side_cuts m (Some side) p) here in
     let at = and_parts (is_on p side) (is_between_heights e.z0 e.z1 p) parts.0 in
     let heights = and_parts (int_lt (e.z0 *ℤ p.w) p.z) (int_lt p.z (e.z1 *ℤ p.w)) at.1 in
@@ -200,9 +200,9 @@ side_in_earth s n e side f low high is p positive on under = record {
   rest = [];
   passages = one_passage (λ u. label_at (box_model s n e) (along p f.normal u)) label.Earth
       (λ u rational after. side_label s n e side f low high is p positive on u rational after
-        ∙ below_is_earth (along p f.normal u)
-        (rw (is.same_height p u)
-        (let h = negative_product u.x p.z rational under in let g = mul_comm u.x p.z in omega (arith, ints))));
+      ∙ below_is_earth (along p f.normal u)
+      (rw (is.same_height p u)
+      (let h = negative_product u.x p.z rational under in let g = mul_comm u.x p.z in omega (arith, ints))));
   open_end = refl;
 }
 
@@ -214,8 +214,8 @@ side_in_air s n e side f low high is p positive on over = record {
   rest = [];
   passages = one_passage (λ u. label_at (box_model s n e) (along p f.normal u)) label.Void
       (λ u rational after. side_label s n e side f low high is p positive on u rational after
-        ∙ above_is_void (along p f.normal u)
-        (rw (is.same_height p u) (weak_product p.z u.x over (omega (arith, ints)))));
+      ∙ above_is_void (along p f.normal u)
+      (rw (is.same_height p u) (weak_product p.z u.x over (omega (arith, ints)))));
   open_end = refl;
 }
 
@@ -226,11 +226,11 @@ part_looks_out : (s : Besides) (n : ℕ) (e : Extent) (side : Edge) (f : Surface
 part_looks_out s n e side f low high is p positive on q meets over under =
     ⊎_elim
     (λ earth. subst (λ (met : End). LooksOut (box_model s n e) f p met) (sym earth.0)
-      (side_in_earth s n e side f low high is p positive on
-      (let h = scaled_at_most q.upper (pos 0) p.w earth.1 positive in omega (arith, ints))))
+    (side_in_earth s n e side f low high is p positive on
+    (let h = scaled_at_most q.upper (pos 0) p.w earth.1 positive in omega (arith, ints))))
     (λ air. subst (λ (met : End). LooksOut (box_model s n e) f p met) (sym air.0)
-      (side_in_air s n e side f low high is p positive on
-      (let h = scaled_at_most (pos 0) q.lower p.w air.1 positive in omega (arith, ints))))
+    (side_in_air s n e side f low high is p positive on
+    (let h = scaled_at_most (pos 0) q.lower p.w air.1 positive in omega (arith, ints))))
     meets
 
 pub side_facts : (s : Besides) (n : ℕ) (e : Extent) (j : ℕ) (side : Edge) (f : Surface) (low high : ℤ)
@@ -263,10 +263,10 @@ side_facts s n e j side f low high is numbered parts one = record {
         → lies_in (kind.Side j) f p q ≡ true → is_of_face (prism_of e) (kind.Side j) p ≡ true
     of_side p positive plane q part lies =
         let at = in_part e (kind.Side j) f low high p q is.up_is part lies in
-            let bottom = scaled_at_most e.z0 q.lower p.w part.from_bottom positive in
-            let top = scaled_at_most q.upper e.z1 p.w part.to_top positive in
-            subst (λ (o : Option Edge). is_of_side (prism_of e) o p ≡ true) (sym numbered)
-            (and_from (is_on p side) (is_between_heights e.z0 e.z1 p) (is.on_edge p plane at.left at.right)
-            (and_from (int_lt (e.z0 *ℤ p.w) p.z) (int_lt p.z (e.z1 *ℤ p.w))
-            (test_less (e.z0 *ℤ p.w) p.z (let h = at.over_lower in omega (arith, ints)))
-            (test_less p.z (e.z1 *ℤ p.w) (let h = at.under_upper in omega (arith, ints)))))
+        let bottom = scaled_at_most e.z0 q.lower p.w part.from_bottom positive in
+        let top = scaled_at_most q.upper e.z1 p.w part.to_top positive in
+        subst (λ (o : Option Edge). is_of_side (prism_of e) o p ≡ true) (sym numbered)
+        (and_from (is_on p side) (is_between_heights e.z0 e.z1 p) (is.on_edge p plane at.left at.right)
+        (and_from (int_lt (e.z0 *ℤ p.w) p.z) (int_lt p.z (e.z1 *ℤ p.w))
+        (test_less (e.z0 *ℤ p.w) p.z (let h = at.over_lower in omega (arith, ints)))
+        (test_less p.z (e.z1 *ℤ p.w) (let h = at.under_upper in omega (arith, ints)))))

@@ -5,3 +5,5 @@ pub mod BoxSides
 pub mod PatchesOfBoxFaces
 pub mod BoxLevels
 pub mod FacesOfBoxes
+pub mod BoundariesArePatches
+pub mod BoxListIsSound

@@ -94,19 +94,22 @@ meets_whole : (face : FaceKind) (low high z0 z1 : ℤ) → is_cut z0 z1 ≡ fals
     → MeetsBySide (box_patch face low high z0 z1 (above z0))
 meets_whole face low high z0 z1 not_cut =
     by_lt_z z0 (pos 0)
-    (λ under. inl (rw (test_not_at_most (pos 0) z0 under) refl,
+    (λ under. inl (
+      rw (test_not_at_most (pos 0) z0 under) refl,
       by_lt_z (pos 0) z1
-      (λ over. absurd (false≢true (sym not_cut ∙ and_from (int_lt z0 (pos 0)) (int_lt (pos 0) z1) (test_less z0 (pos 0) under) (test_less (pos 0) z1 over))))
-      (λ top. top)))
+          (λ over. absurd (false≢true (sym not_cut ∙ and_from (int_lt z0 (pos 0)) (int_lt (pos 0) z1) (test_less z0 (pos 0) under) (test_less (pos 0) z1 over))))
+          (λ top. top),
+    ))
     (λ over. inr (rw (test_at_most (pos 0) z0 over) refl, over))
 
 pub side_is_parts : (face : FaceKind) (low high z0 z1 : ℤ) → z0 <ℤ z1
     → AllByRecursion (IsPart face low high z0 z1) (side_patches face low high z0 z1)
 side_is_parts face low high z0 z1 rising =
     all_of_side (IsPart face low high z0 z1) face low high z0 z1
-    (λ cut. let signs = cut_tells z0 z1 cut in
-      (record { kind_is = refl; low_is = refl; high_is = refl; from_bottom = omega (arith, ints); to_top = omega (arith, ints); meets = inl (refl, omega (arith, ints)) },
-      record { kind_is = refl; low_is = refl; high_is = refl; from_bottom = omega (arith, ints); to_top = omega (arith, ints); meets = inr (refl, omega (arith, ints)) }))
+    (λ cut. let signs = cut_tells z0 z1 cut in (
+      record { kind_is = refl; low_is = refl; high_is = refl; from_bottom = omega (arith, ints); to_top = omega (arith, ints); meets = inl (refl, omega (arith, ints)) },
+      record { kind_is = refl; low_is = refl; high_is = refl; from_bottom = omega (arith, ints); to_top = omega (arith, ints); meets = inr (refl, omega (arith, ints)) },
+    ))
     (λ not_cut. record { kind_is = refl; low_is = refl; high_is = refl; from_bottom = omega (arith, ints); to_top = omega (arith, ints); meets = meets_whole face low high z0 z1 not_cut })
 
 -- ---- each inner point of a side off the ground lies in one part
@@ -127,12 +130,14 @@ pub one_of_side : (face : FaceKind) (low high z0 z1 u v w : ℤ) → is_same_kin
 one_of_side face low high z0 z1 u v w same left right lower upper off =
     one_of_choice (patch_test face u v w) (is_cut z0 z1) _ _ _
     (λ cut. by_lt_z v (pos 0)
-      (λ under. inl (
-        and_from _ _ same (window_in low high z0 (pos 0) u v w left right lower (omega (arith, ints))),
-        and_right _ _ (window_below low high (pos 0) z1 u v w (omega (arith, ints)))))
-      (λ over. inr (
-        and_right _ _ (window_above low high z0 (pos 0) u v w (omega (arith, ints))),
-        and_from _ _ same (window_in low high (pos 0) z1 u v w left right (by_lt_z (pos 0 *ℤ w) v (λ h. h) (λ h. absurd (off (omega (arith, ints))))) upper))))
+    (λ under. inl (
+      and_from _ _ same (window_in low high z0 (pos 0) u v w left right lower (omega (arith, ints))),
+      and_right _ _ (window_below low high (pos 0) z1 u v w (omega (arith, ints))),
+    ))
+    (λ over. inr (
+      and_right _ _ (window_above low high z0 (pos 0) u v w (omega (arith, ints))),
+      and_from _ _ same (window_in low high (pos 0) z1 u v w left right (by_lt_z (pos 0 *ℤ w) v (λ h. h) (λ h. absurd (off (omega (arith, ints))))) upper),
+    )))
     (λ not_cut. and_from _ _ same (window_in low high z0 z1 u v w left right lower upper))
 
 -- and in none of another face
@@ -167,9 +172,14 @@ side_3 e = side_patches (kind.Side 3) e.y0 e.y1 e.z0 e.z1
 pub all_of_box : (P : BoxPatch → Type 0) (e : Extent) → P (bottom e) → P (top e) → AllByRecursion P (side_0 e)
     → AllByRecursion P (side_1 e) → AllByRecursion P (side_2 e) → AllByRecursion P (side_3 e)
     → AllByRecursion P (box_patches e)
-all_of_box P e b t s0 s1 s2 s3 =
-    (b, (t, all-append P (side_0 e) (side_1 e ++ (side_2 e ++ side_3 e)) s0
-    (all-append P (side_1 e) (side_2 e ++ side_3 e) s1 (all-append P (side_2 e) (side_3 e) s2 s3))))
+all_of_box P e b t s0 s1 s2 s3 = (
+  b,
+  (
+    t,
+    all-append P (side_0 e) (side_1 e ++ (side_2 e ++ side_3 e)) s0
+        (all-append P (side_1 e) (side_2 e ++ side_3 e) s1 (all-append P (side_2 e) (side_3 e) s2 s3)),
+  ),
+)
 
 -- a fact of every kind of face
 pub all_by_kind : (Q : FaceKind → Type 0) (e : Extent) → Q kind.Bottom → Q kind.Top → Q (kind.Side 0)
@@ -396,22 +406,23 @@ rank_of_side n k low high z0 z1 less =
 pub each_two : (e : Extent) → AllOfTwo Precedes (box_patches e)
 each_two e =
     let r3 : (n : ℕ) → n < 5 → AllByRecursion (λ q. n < rank_of q.kind) (side_3 e) =
-        λ n less. rank_of_side n 3 e.y0 e.y1 e.z0 e.z1 less in
+    λ n less. rank_of_side n 3 e.y0 e.y1 e.z0 e.z1 less in
     let r2 : (n : ℕ) → n < 4 → AllByRecursion (λ q. n < rank_of q.kind) (side_2 e ++ side_3 e) =
-        λ n less. all-append (λ q. n < rank_of q.kind) (side_2 e) (side_3 e) (rank_of_side n 2 e.x0 e.x1 e.z0 e.z1 less) (r3 n (omega arith)) in
+    λ n less. all-append (λ q. n < rank_of q.kind) (side_2 e) (side_3 e) (rank_of_side n 2 e.x0 e.x1 e.z0 e.z1 less) (r3 n (omega arith)) in
     let r1 : (n : ℕ) → n < 3 → AllByRecursion (λ q. n < rank_of q.kind) (side_1 e ++ (side_2 e ++ side_3 e)) =
-        λ n less. all-append (λ q. n < rank_of q.kind) (side_1 e) (side_2 e ++ side_3 e) (rank_of_side n 1 e.y0 e.y1 e.z0 e.z1 less) (r2 n (omega arith)) in
+    λ n less. all-append (λ q. n < rank_of q.kind) (side_1 e) (side_2 e ++ side_3 e) (rank_of_side n 1 e.y0 e.y1 e.z0 e.z1 less) (r2 n (omega arith)) in
     let r0 : (n : ℕ) → n < 2 → AllByRecursion (λ q. n < rank_of q.kind) (side_0 e ++ (side_1 e ++ (side_2 e ++ side_3 e))) =
-        λ n less. all-append (λ q. n < rank_of q.kind) (side_0 e) (side_1 e ++ (side_2 e ++ side_3 e)) (rank_of_side n 0 e.x0 e.x1 e.z0 e.z1 less) (r1 n (omega arith)) in
+    λ n less. all-append (λ q. n < rank_of q.kind) (side_0 e) (side_1 e ++ (side_2 e ++ side_3 e)) (rank_of_side n 0 e.x0 e.x1 e.z0 e.z1 less) (r1 n (omega arith)) in
     let sides = two-append Precedes (side_0 e) (side_1 e ++ (side_2 e ++ side_3 e)) (two_of_side (kind.Side 0) e.x0 e.x1 e.z0 e.z1)
-        (two-append Precedes (side_1 e) (side_2 e ++ side_3 e) (two_of_side (kind.Side 1) e.y0 e.y1 e.z0 e.z1)
-            (two-append Precedes (side_2 e) (side_3 e) (two_of_side (kind.Side 2) e.x0 e.x1 e.z0 e.z1) (two_of_side (kind.Side 3) e.y0 e.y1 e.z0 e.z1)
-                (before_all (kind.Side 2) e.x0 e.x1 e.z0 e.z1 (side_3 e) (r3 4 (omega arith))))
-            (before_all (kind.Side 1) e.y0 e.y1 e.z0 e.z1 (side_2 e ++ side_3 e) (r2 3 (omega arith))))
-        (before_all (kind.Side 0) e.x0 e.x1 e.z0 e.z1 (side_1 e ++ (side_2 e ++ side_3 e)) (r1 2 (omega arith))) in
-    let rest = side_0 e ++ (side_1 e ++ (side_2 e ++ side_3 e)) in
-    ((inl (omega arith), all_weaker (λ q. 0 < rank_of q.kind) (Precedes (bottom e)) (λ q h. inl h) rest (r0 0 (omega arith))),
-    (all_weaker (λ q. 1 < rank_of q.kind) (Precedes (top e)) (λ q h. inl h) rest (r0 1 (omega arith)), sides))
+    (two-append Precedes (side_1 e) (side_2 e ++ side_3 e) (two_of_side (kind.Side 1) e.y0 e.y1 e.z0 e.z1)
+    (two-append Precedes (side_2 e) (side_3 e) (two_of_side (kind.Side 2) e.x0 e.x1 e.z0 e.z1) (two_of_side (kind.Side 3) e.y0 e.y1 e.z0 e.z1)
+    (before_all (kind.Side 2) e.x0 e.x1 e.z0 e.z1 (side_3 e) (r3 4 (omega arith))))
+    (before_all (kind.Side 1) e.y0 e.y1 e.z0 e.z1 (side_2 e ++ side_3 e) (r2 3 (omega arith))))
+    (before_all (kind.Side 0) e.x0 e.x1 e.z0 e.z1 (side_1 e ++ (side_2 e ++ side_3 e)) (r1 2 (omega arith))) in
+    let rest = side_0 e ++ (side_1 e ++ (side_2 e ++ side_3 e)) in (
+      (inl (omega arith), all_weaker (λ q. 0 < rank_of q.kind) (Precedes (bottom e)) (λ q h. inl h) rest (r0 0 (omega arith))),
+      (all_weaker (λ q. 1 < rank_of q.kind) (Precedes (top e)) (λ q h. inl h) rest (r0 1 (omega arith)), sides),
+    )
 
 -- ---- each patch looks out at the earth or the open air
 
@@ -433,5 +444,5 @@ all_open e =
     side_open : (face : FaceKind) (low high : ℤ) → AllByRecursion (λ p. IsOpen p.end) (side_patches face low high e.z0 e.z1)
     side_open face low high =
         all_of_side (λ p. IsOpen p.end) face low high e.z0 e.z1
-            (λ cut. (inl refl, inr refl))
-            (λ not_cut. open_choice (int_le (pos 0) e.z0) end.Outside end.Earth (inr refl) (inl refl))
+        (λ cut. (inl refl, inr refl))
+        (λ not_cut. open_choice (int_le (pos 0) e.z0) end.Outside end.Earth (inr refl) (inl refl))

@@ -2,8 +2,12 @@
 ghost use Rattle.std.specs.Prelude.{◌≡◌, ◌++◌, ◌∷◌, [], List, pos, IsTrue, IfOk, OnOk, OnErr, None, nat_le, unsigned_abs};
 ghost use Rattle.sb_box.specs.BoxList.{BoxPatch, IsBoxList, IsBoxBoundary, AreBoxBoundaries, IsLevelFace};
 ghost use Rattle.sb_box.specs.BoxList.{box_patch, side_patches, is_cut, below, above};
+ghost use Rattle.sb_box.specs.BoxModel.{IsBoxModel};
 ghost use Rattle.sb_box.specs.Extents.{farthest};
+ghost use Rattle.sb_model.specs.Building.{Building};
 ghost use Rattle.sb_model.specs.Corners.{whole};
+ghost use Rattle.sb_model.specs.Order.{IsInOrder};
+ghost use Rattle.sb_model.specs.Sound.{IsSound};
 ghost use Rattle.sb_plane.specs.Sides.{level};
 ghost use Rattle.sb_model.specs.Sides.{line_of, is_side_of};
 
@@ -18,7 +22,9 @@ use std::alloc::{AllocError, Global};
 /// has two boundaries, the lower one first. Each boundary ends at once, at the earth where it lies
 /// below the ground and else at the open air.
 pub fn box_boundaries(alloc: Global, space: u32, extent: &Extent) -> Result<Boundaries, AllocError>
-    ensures { IfOk result (λ list. IsBoxList space extent.now list) }
+    ensures list { IfOk result (λ list. IsBoxList space extent.now list) }
+    ensures sound { (m : Building) → IsBoxModel space extent.now m → IfOk result (λ list. IsSound m list) }
+    ensures in_order { IfOk result (λ list. IsInOrder list) }
 {
     let (x, y, z) = (extent.x(), extent.y(), extent.z());
     let mut list = Boundaries::new(alloc);

@@ -124,7 +124,7 @@ apart a b w z positive other e =
     scaled : (a b w z : ℤ) → w *ℤ (a -ℤ b) ≡ ((a *ℤ w) -ℤ z) -ℤ ((b *ℤ w) -ℤ z)
     scaled a b w z =
         equal (times (var w) (minus (var a) (var b)))
-            (minus (minus (times (var a) (var w)) (var z)) (minus (times (var b) (var w)) (var z))) (omega arith)
+        (minus (minus (times (var a) (var w)) (var z)) (minus (times (var b) (var w)) (var z))) (omega arith)
 
 drop_square : (n c : ℤ) → c ≡ pos 0 → (n +ℤ (c *ℤ c)) ≤ℤ pos 0 → n ≤ℤ pos 0
 drop_square n c none h = let e : c *ℤ c ≡ pos 0 = ap (λ z. z *ℤ z) none in omega (arith, ints)
@@ -158,9 +158,10 @@ on_level xa xb y p positive other on =
     let c = (y *ℤ p.w) -ℤ p.y in
     let parts = and_parts (int_eq ((a *ℤ c) -ℤ (c *ℤ b)) (pos 0)) (int_le ((a *ℤ b) +ℤ (c *ℤ c)) (pos 0)) on in
     let turn : (a *ℤ c) -ℤ (c *ℤ b) ≡ pos 0 = (Decides-int_eq ((a *ℤ c) -ℤ (c *ℤ b)) (pos 0)).0 parts.0 in
-    let level : c ≡ pos 0 = zero_factor (a -ℤ b) c (apart xa xb p.w p.x positive other) (sym (level_turn a b c) ∙ turn) in
-    (from_difference (y *ℤ p.w) p.y level,
-    drop_square (a *ℤ b) c level (at_most_from ((a *ℤ b) +ℤ (c *ℤ c)) (pos 0) parts.1))
+    let level : c ≡ pos 0 = zero_factor (a -ℤ b) c (apart xa xb p.w p.x positive other) (sym (level_turn a b c) ∙ turn) in (
+      from_difference (y *ℤ p.w) p.y level,
+      drop_square (a *ℤ b) c level (at_most_from ((a *ℤ b) +ℤ (c *ℤ c)) (pos 0) parts.1),
+    )
 
 pub level_on : (xa xb y : ℤ) (p : Spot) → p.y ≡ y *ℤ p.w → AreAbout (xa *ℤ p.w) (xb *ℤ p.w) p.x
     → is_on p (edge (corner xa y) (corner xb y)) ≡ true
@@ -186,9 +187,10 @@ on_upright x ya yb p positive other on =
     let parts = and_parts (int_eq ((a *ℤ d) -ℤ (c *ℤ a)) (pos 0)) (int_le ((a *ℤ a) +ℤ (c *ℤ d)) (pos 0)) on in
     let turn : (a *ℤ d) -ℤ (c *ℤ a) ≡ pos 0 = (Decides-int_eq ((a *ℤ d) -ℤ (c *ℤ a)) (pos 0)).0 parts.0 in
     let upright : a ≡ pos 0 =
-        zero_factor (d -ℤ c) a (apart yb ya p.w p.y positive (λ e. other (sym e))) (sym (upright_turn a c d) ∙ turn) in
-    (from_difference (x *ℤ p.w) p.x upright,
-    drop_square_before (c *ℤ d) a upright (at_most_from ((a *ℤ a) +ℤ (c *ℤ d)) (pos 0) parts.1))
+    zero_factor (d -ℤ c) a (apart yb ya p.w p.y positive (λ e. other (sym e))) (sym (upright_turn a c d) ∙ turn) in (
+      from_difference (x *ℤ p.w) p.x upright,
+      drop_square_before (c *ℤ d) a upright (at_most_from ((a *ℤ a) +ℤ (c *ℤ d)) (pos 0) parts.1),
+    )
 
 pub upright_on : (x ya yb : ℤ) (p : Spot) → p.x ≡ x *ℤ p.w → AreAbout (ya *ℤ p.w) (yb *ℤ p.w) p.y
     → is_on p (edge (corner x ya) (corner x yb)) ≡ true
@@ -208,16 +210,17 @@ not_same : (n u w : ℤ) → int_eq (cross (rational u w) (rational n (pos 1))) 
 unfolding cross
 not_same n u w other same =
     true≢false (sym ((Decides-int_eq ((w *ℤ n) -ℤ (u *ℤ pos 1)) (pos 0)).1
-        (let e = mul_comm n w in omega (arith, ints))) ∙ other)
+    (let e = mul_comm n w in omega (arith, ints))) ∙ other)
 
 -- a number that is no abscissa of an edge's ends along x is none of their x
 pub no_end_along_x : (e : Edge) (u w : ℤ) → ends_over axis_x (rational u w) e ≡ false
     → (u ≡ e.a.x *ℤ w → ⊥) × (u ≡ e.b.x *ℤ w → ⊥)
 no_end_along_x e u w other =
     let parts = or_parts (int_eq (cross (rational u w) (rational (abscissa_at e.a axis_x) (pos 1))) (pos 0))
-            (int_eq (cross (rational u w) (rational (abscissa_at e.b axis_x) (pos 1))) (pos 0)) other in
-    ((λ same. not_same (abscissa_at e.a axis_x) u w parts.0 (rw (reads_x e.a.x e.a.y) same)),
-    (λ same. not_same (abscissa_at e.b axis_x) u w parts.1 (rw (reads_x e.b.x e.b.y) same)))
+    (int_eq (cross (rational u w) (rational (abscissa_at e.b axis_x) (pos 1))) (pos 0)) other in (
+      (λ same. not_same (abscissa_at e.a axis_x) u w parts.0 (rw (reads_x e.a.x e.a.y) same)),
+      (λ same. not_same (abscissa_at e.b axis_x) u w parts.1 (rw (reads_x e.b.x e.b.y) same)),
+    )
   where
     reads_x : (x y : ℤ) → (x *ℤ pos 1) +ℤ (y *ℤ pos 0) ≡ x
     reads_x x y = omega (arith, ints)
@@ -226,9 +229,10 @@ pub no_end_along_y : (e : Edge) (u w : ℤ) → ends_over axis_y (rational u w) 
     → (u ≡ e.a.y *ℤ w → ⊥) × (u ≡ e.b.y *ℤ w → ⊥)
 no_end_along_y e u w other =
     let parts = or_parts (int_eq (cross (rational u w) (rational (abscissa_at e.a axis_y) (pos 1))) (pos 0))
-            (int_eq (cross (rational u w) (rational (abscissa_at e.b axis_y) (pos 1))) (pos 0)) other in
-    ((λ same. not_same (abscissa_at e.a axis_y) u w parts.0 (rw (reads_y e.a.x e.a.y) same)),
-    (λ same. not_same (abscissa_at e.b axis_y) u w parts.1 (rw (reads_y e.b.x e.b.y) same)))
+    (int_eq (cross (rational u w) (rational (abscissa_at e.b axis_y) (pos 1))) (pos 0)) other in (
+      (λ same. not_same (abscissa_at e.a axis_y) u w parts.0 (rw (reads_y e.a.x e.a.y) same)),
+      (λ same. not_same (abscissa_at e.b axis_y) u w parts.1 (rw (reads_y e.b.x e.b.y) same)),
+    )
   where
     reads_y : (x y : ℤ) → (x *ℤ pos 0) +ℤ (y *ℤ pos 1) ≡ y
     reads_y x y = omega (arith, ints)

@@ -37,8 +37,10 @@ left_turn a c d less =
     same a c d =
         equal (minus (num 0) (minus (times (var a) (var c)) (times (var d) (var a))))
         (times (minus (var d) (var c)) (var a)) (omega arith)
+
     up_from : (n : ℤ) → n <ℤ pos 0 → pos 0 <ℤ (pos 0 -ℤ n)
     up_from n down = omega (arith, ints)
+
     down_from : (n : ℤ) → pos 0 <ℤ (pos 0 -ℤ n) → n <ℤ pos 0
     down_from n up = omega (arith, ints)
 
@@ -120,10 +122,13 @@ within a b c d at_a at_b at_c at_d =
   where
     first : (a b c : ℤ) → (a *ℤ c) -ℤ (c *ℤ b) ≡ c *ℤ (a -ℤ b)
     first a b c = equal (minus (times (var a) (var c)) (times (var c) (var b))) (times (var c) (minus (var a) (var b))) (omega arith)
+
     second : (b c d : ℤ) → (b *ℤ d) -ℤ (c *ℤ b) ≡ b *ℤ (d -ℤ c)
     second b c d = equal (minus (times (var b) (var d)) (times (var c) (var b))) (times (var b) (minus (var d) (var c))) (omega arith)
+
     third : (a b d : ℤ) → (b *ℤ d) -ℤ (d *ℤ a) ≡ d *ℤ (b -ℤ a)
     third a b d = equal (minus (times (var b) (var d)) (times (var d) (var a))) (times (var d) (minus (var b) (var a))) (omega arith)
+
     fourth : (a c d : ℤ) → (a *ℤ c) -ℤ (d *ℤ a) ≡ a *ℤ (c -ℤ d)
     fourth a c d = equal (minus (times (var a) (var c)) (times (var d) (var a))) (times (var a) (minus (var c) (var d))) (omega arith)
 
@@ -212,29 +217,29 @@ enclosed_is_inside : (a b c d : ℤ) → a <ℤ b → c <ℤ d → is_enclosed a
 enclosed_is_inside a b c d across up =
     by_lt_z (pos 0) d
     (λ at_d. by_lt_z (pos 0) c
-      (λ at_c. outside a b c d (outside_levels a b c d up (inr at_c))
-          (inr (inr (inl (test_not_less c (pos 0) (omega (arith, ints)))))))
-      (λ at_c. by_lt_z (pos 0) b
-        (λ at_b. by_lt_z a (pos 0)
-          (λ at_a. by_lt_z c (pos 0)
-            (λ under. within a b c d at_a at_b under at_d ∙ sym (all_inside a b c d at_a at_b under at_d))
-            (λ level. outside a b c d
-              (on_the_bottom a b c d (omega (arith, ints)) (omega (arith, ints)) (omega (arith, ints)))
-              (inr (inr (inl (test_not_less c (pos 0) level))))))
-          (λ at_a. outside a b c d
-            (by_lt_z (pos 0) a (λ right. outside_sides a b c d across (inr right))
-              (λ left. on_the_left a b c d (omega (arith, ints)) at_c (omega (arith, ints))))
-            (inl (test_not_less a (pos 0) at_a))))
-        (λ at_b. outside a b c d (outside_sides a b c d across (inl at_b))
-          (inr (inl (test_not_less (pos 0) b at_b))))))
+    (λ at_c. outside a b c d (outside_levels a b c d up (inr at_c))
+    (inr (inr (inl (test_not_less c (pos 0) (omega (arith, ints)))))))
+    (λ at_c. by_lt_z (pos 0) b
+    (λ at_b. by_lt_z a (pos 0)
+    (λ at_a. by_lt_z c (pos 0)
+    (λ under. within a b c d at_a at_b under at_d ∙ sym (all_inside a b c d at_a at_b under at_d))
+    (λ level. outside a b c d
+    (on_the_bottom a b c d (omega (arith, ints)) (omega (arith, ints)) (omega (arith, ints)))
+    (inr (inr (inl (test_not_less c (pos 0) level))))))
+    (λ at_a. outside a b c d
+    (by_lt_z (pos 0) a (λ right. outside_sides a b c d across (inr right))
+    (λ left. on_the_left a b c d (omega (arith, ints)) at_c (omega (arith, ints))))
+    (inl (test_not_less a (pos 0) at_a))))
+    (λ at_b. outside a b c d (outside_sides a b c d across (inl at_b))
+    (inr (inl (test_not_less (pos 0) b at_b))))))
     (λ at_d. outside a b c d (outside_levels a b c d up (inl at_d))
-      (inr (inr (inr (test_not_less (pos 0) d at_d)))))
+    (inr (inr (inr (test_not_less (pos 0) d at_d)))))
   where
     all_inside : (a b c d : ℤ) → a <ℤ pos 0 → pos 0 <ℤ b → c <ℤ pos 0 → pos 0 <ℤ d → is_inside a b c d ≡ true
     all_inside a b c d at_a at_b at_c at_d =
         and_from (int_lt a (pos 0) && int_lt (pos 0) b) (int_lt c (pos 0) && int_lt (pos 0) d)
-            (and_from (int_lt a (pos 0)) (int_lt (pos 0) b) (test_less a (pos 0) at_a) (test_less (pos 0) b at_b))
-            (and_from (int_lt c (pos 0)) (int_lt (pos 0) d) (test_less c (pos 0) at_c) (test_less (pos 0) d at_d))
+        (and_from (int_lt a (pos 0)) (int_lt (pos 0) b) (test_less a (pos 0) at_a) (test_less (pos 0) b at_b))
+        (and_from (int_lt c (pos 0)) (int_lt (pos 0) d) (test_less c (pos 0) at_c) (test_less (pos 0) d at_d))
 
 -- ---- the rectangle
 

@@ -34,10 +34,13 @@ pub two_passages : {L : Type 0} (f : Arrow → L) (near far : L) (depth : Arrow)
     → ((u : Arrow) → IsRational u → IsBelow ray_start u → IsBelow u depth → f u ≡ near)
     → ((u : Arrow) → IsRational u → IsBelow depth u → f u ≡ far)
     → cut.ArePassages f (break_at ray_start near ∷ break_at depth far ∷ [])
-two_passages f near far depth reduced later other before after = (refl, record {
-  cutting = (reduced, later, λ u rational low high. before u rational low high, (tt, λ u rational low high. after u rational low));
-  different = (other, tt);
-})
+two_passages f near far depth reduced later other before after = (
+  refl,
+  record {
+    cutting = (reduced, later, λ u rational low high. before u rational low high, (tt, λ u rational low high. after u rational low));
+    different = (other, tt);
+  },
+)
 
 same_breaks : {L : Type 0} (b c : Break L) (bs cs : List (Break L)) → b ≡ c → bs ≡ cs → b ∷ bs ≡ c ∷ cs
 same_breaks b c bs cs e f = ap (λ x. x ∷ bs) e ∙ ap (λ xs. c ∷ xs) f
@@ -114,18 +117,21 @@ out_goes m r (label.Element e l) rest found out = absurd out
 -- a walk without items that ends at once is the walk of a point that looks out
 pub looks_out_walk : (m : Building) (f : Surface) (p : Spot) (found : End) (w : Walk) → LooksOut m f p found
     → w.items ≡ [] → w.depth ≡ pos 0 → w.end ≡ found → IsWalk m f p w
-looks_out_walk m f p found w l no_items no_depth ends =
-    (break_at ray_start l.first ∷ l.rest,
-    (l.passages,
+looks_out_walk m f p found w l no_items no_depth ends = (
+  break_at ray_start l.first ∷ l.rest,
+  (
+    l.passages,
     subst (λ (c : Course). Goes m (ray_from p f.normal) (pieces_of (passages_of (break_at ray_start l.first ∷ l.rest))) c)
-    (rw (no_items, no_depth, ends) refl)
-    (out_goes m (ray_from p f.normal) l.first l.rest found l.open_end)))
+        (rw (no_items, no_depth, ends) refl)
+        (out_goes m (ray_from p f.normal) l.first l.rest found l.open_end),
+  ),
+)
 
 -- and no such point is opened
 pub looks_out_not_opened : (m : Building) (f : Surface) (p : Spot) (found : End) → LooksOut m f p found
     → IsOpened m f p → ⊥
 looks_out_not_opened m f p found l o =
     let same = one_list_of_passages (λ depth. label_at m (at_depth (ray_from p f.normal) depth))
-            o.breaks (break_at ray_start l.first ∷ l.rest) o.passages l.passages in
+    o.breaks (break_at ray_start l.first ∷ l.rest) o.passages l.passages in
     let goes = subst (λ (bs : List (Break Label)). Goes m (ray_from p f.normal) (pieces_of (passages_of bs)) o.walk) same o.goes in
     o.has_items (ap (λ (c : Course). c.items) (goes_out m (ray_from p f.normal) l.first l.rest found o.walk l.open_end goes))
