@@ -1,18 +1,20 @@
 -- Between two ends there is a number, and the order goes on through numbers between them.
-use Rattle.std.proofs.Common.{◌≡◌, refl, inl, inr, ⊎_elim, ◌⊎◌, arith, ◌∙◌, sym}
-use Rattle.std.proofs.Common.{Option, Some, None, ℤ, pos, ◌<ℤ◌, ◌+ℤ◌, ◌-ℤ◌, ◌*ℤ◌}
+use Rattle.std.proofs.Common.{◌≡◌, refl, inl, inr, ◌⊎◌, arith, ◌∙◌, sym}
+use Rattle.std.proofs.Common.{Option, Some, None, ℤ, pos, negsuc, ◌+ℤ◌, ◌-ℤ◌, ◌*ℤ◌, neg_ℤ}
+use Rattle.std.proofs.Common.{zero, suc, unsigned_abs}
 use Rattle.std.proofs.lemmas.Int.{ints}
 use Rattle.sb_whole.specs.Arrows.{Arrow, arrow, cross, mirror}
 use Rattle.sb_whole.specs.Rationals.{IsRational, IsBelow, IsAtMost, IsSame, mediant, rational}
-use Rattle.sb_whole.specs.Reduced.{IsReduced}
 use Rattle.sb_whole.proofs.Shapes.{var, plus, minus, times, equal, cross_by, cross_eq}
 use Rattle.sb_whole.proofs.Products.{positive_product}
 use Rattle.sb_whole.proofs.Reduced.{reduced_unique}
-use Rattle.sb_whole.proofs.Arrows.{same_arrow, cross-mirror, mirror-mirror}
+use Rattle.sb_whole.proofs.Arrows.{same_arrow, cross-mirror, mirror-cross, cross-mirror_comm}
 use Rattle.sb_whole.proofs.Ring.{mul_comm}
 use Rattle.sb_whole.proofs.Rationals.{below_trans, below_or_not, at_most_below_trans}
+use Rattle.sb_whole.proofs.Rationals.{below_at_most_trans}
 use Rattle.sb_whole.proofs.Rationals.{mediant-IsRational, mediant_between}
-use Rattle.sb_cuttings.specs.Ends.{IsEnd, IsOpen, IsAfter, IsBefore, mirror_end}
+use Rattle.sb_cuttings.specs.Ends.{IsEnd, IsOpen, IsAfter, IsBefore, IsFrom, IsUpTo}
+use Rattle.sb_cuttings.specs.Ends.{mirror_end}
 use Rattle.sb_cuttings.specs.Cuttings.{IsFraction}
 
 -- ---- the order through the ends
@@ -46,6 +48,20 @@ open_trans (Some r) b None low_in b_in high_in after before = tt
 open_trans (Some r) b (Some t) low_in b_in high_in after before =
     below_trans r b t low_in b_in high_in after before
 
+-- what is above a number that is not below the lower end is above that end
+pub from_trans : (low : Option Arrow) (s u : Arrow) → IsEnd low → IsRational s → IsRational u
+    → IsFrom low s → IsBelow s u → IsAfter low u
+from_trans None s u low_in s_in u_in after more = tt
+from_trans (Some r) s u low_in s_in u_in after more =
+    at_most_below_trans r s u low_in s_in u_in after more
+
+-- what is below a number that is not above the upper end is below that end
+pub up_to_trans : (u t : Arrow) (high : Option Arrow) → IsRational u → IsRational t → IsEnd high
+    → IsBelow u t → IsUpTo t high → IsBefore u high
+up_to_trans u t None u_in t_in high_in less before = tt
+up_to_trans u t (Some h) u_in t_in high_in less before =
+    below_at_most_trans u t h u_in t_in high_in less before
+
 -- ---- a number between the ends
 
 -- u lies strictly between the ends
@@ -56,12 +72,16 @@ pub record IsBetween (low high : Option Arrow) (u : Arrow) : Type 0 where
 
 one_less : (t : Arrow) → cross (arrow t.x (t.y -ℤ t.x)) t ≡ t.x *ℤ t.x
 one_less t =
-    equal (cross_by (arrow t.x (t.y -ℤ t.x)) t (var t.x) (minus (var t.y) (var t.x)) (var t.x) (var t.y))
+    equal
+    (cross_by (arrow t.x (t.y -ℤ t.x)) t (var t.x) (minus (var t.y) (var t.x)) (var t.x)
+    (var t.y))
     (times (var t.x) (var t.x)) (omega arith)
 
 one_more : (r : Arrow) → cross r (arrow r.x (r.y +ℤ r.x)) ≡ r.x *ℤ r.x
 one_more r =
-    equal (cross_by r (arrow r.x (r.y +ℤ r.x)) (var r.x) (var r.y) (var r.x) (plus (var r.y) (var r.x)))
+    equal
+    (cross_by r (arrow r.x (r.y +ℤ r.x)) (var r.x) (var r.y) (var r.x)
+    (plus (var r.y) (var r.x)))
     (times (var r.x) (var r.x)) (omega arith)
 
 -- between open ends there is a number
@@ -113,21 +133,25 @@ below_two_ends low high other low_in high_in other_in wide wide_too =
             → (w : Arrow) × (IsBetween low high w × IsBetween low other w)
         from (inl less) = (
           u,
-          (u_is,
-          record {
-            rational = u_is.rational;
-            after = u_is.after;
-            before = before_trans u v other u_is.rational v_is.rational other_in less v_is.before;
-          }),
+          (
+            u_is,
+            record {
+              rational = u_is.rational;
+              after = u_is.after;
+              before = before_trans u v other u_is.rational v_is.rational other_in less v_is.before;
+            },
+          ),
         )
         from (inr more) = (
           v,
-          (record {
-            rational = v_is.rational;
-            after = v_is.after;
-            before = before_at_most v u high v_is.rational u_is.rational high_in more u_is.before;
-          },
-          v_is),
+          (
+            record {
+              rational = v_is.rational;
+              after = v_is.after;
+              before = before_at_most v u high v_is.rational u_is.rational high_in more u_is.before;
+            },
+            v_is,
+          ),
         )
 
 -- ---- reduced fractions
@@ -147,3 +171,43 @@ fraction_unique r s r_in s_in same =
         let written : (r.x *ℤ s.y) -ℤ (r.y *ℤ s.x) ≡ pos 0 = sym (cross_eq r s) ∙ same in
         let turned = mul_comm s.y r.x in
         omega (arith, ints)
+
+unsigned_abs-neg : (n : ℤ) → unsigned_abs (neg_ℤ n) ≡ unsigned_abs n
+unsigned_abs-neg (pos zero) = refl
+unsigned_abs-neg (pos (suc n)) = refl
+unsigned_abs-neg (negsuc n) = refl
+
+-- its mirror image is a reduced fraction
+pub mirror-IsFraction : (r : Arrow) → IsFraction r → IsFraction (mirror r)
+mirror-IsFraction r r_in =
+    record {
+      positive = r_in.positive;
+      no_divisor = rw (unsigned_abs-neg r.y) r_in.no_divisor;
+    }
+
+-- ---- in the mirror at 0
+
+-- an end stays an end
+pub mirror_end_is : (end : Option Arrow) → IsEnd end → IsEnd (mirror_end end)
+mirror_end_is None end_in = tt
+mirror_end_is (Some r) end_in = end_in
+
+-- the interval from end to end is turned
+pub mirror_open : (low high : Option Arrow) → IsOpen low high
+    → IsOpen (mirror_end high) (mirror_end low)
+mirror_open None None wide = tt
+mirror_open None (Some t) wide = tt
+mirror_open (Some r) None wide = tt
+mirror_open (Some r) (Some t) wide = rw (cross-mirror t r) wide
+
+-- what lies above the mirror image of the upper end has its image below that end
+pub mirror_before : (u : Arrow) (high : Option Arrow) → IsAfter (mirror_end high) u
+    → IsBefore (mirror u) high
+mirror_before u None after = tt
+mirror_before u (Some t) after = rw (mirror-cross u t) after
+
+-- and what lies below that of the lower end, above it
+pub mirror_after : (u : Arrow) (low : Option Arrow) → IsBefore u (mirror_end low)
+    → IsAfter low (mirror u)
+mirror_after u None before = tt
+mirror_after u (Some r) before = rw (cross-mirror_comm r u) before

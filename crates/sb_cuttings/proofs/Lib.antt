@@ -1,8 +1,17 @@
 -- The laws by topic.
 
--- numbers between two ends; reduced fractions
+-- numbers between two ends; reduced fractions; the mirror at 0
 pub mod Ends
 -- two reduced cuttings of one function are equal
 pub mod OneCutting
 -- needless breaks dropped
 pub mod NeedlessBreaks
+-- labels mapped, and grouped into runs
+pub mod Groups
+-- a cutting read backwards
+pub mod Backwards
+-- two cuttings glued, and a part cut off
+pub mod Parts
+-- the passages of a ray
+pub mod OnePassages
+mod Examples

@@ -1,15 +1,16 @@
--- Where no point is odd, dropping the needless breaks leaves a reduced cutting of the same function.
-use Rattle.std.proofs.Common.{◌≡◌, refl, sym, ◌∙◌, inl, inr, ◌⊎◌, ap, subst, Bool, true, false, cond}
-use Rattle.std.proofs.Common.{Option, Some, None, List, [], ◌∷◌, Decides, if◌then◌else◌}
+-- Where no point is odd, dropping the needless breaks leaves a reduced cutting of the same
+-- function.
+use Rattle.std.proofs.Common.{◌≡◌, refl, sym, ◌∙◌, inl, inr, ◌⊎◌, subst, Bool, true, false, cond}
+use Rattle.std.proofs.Common.{Option, Some, List, [], ◌∷◌, Decides}
 use Rattle.sb_whole.specs.Arrows.{Arrow}
 use Rattle.sb_whole.specs.Rationals.{IsRational, IsBelow, IsSame}
-use Rattle.sb_whole.proofs.Rationals.{number_cases, same_sym}
-use Rattle.sb_cuttings.specs.Ends.{IsEnd, IsOpen, IsAfter, IsBefore}
-use Rattle.sb_cuttings.specs.Cuttings.{Break, HasLabel, IsAlike, IsCutting, AreDifferent}
+use Rattle.sb_whole.proofs.Rationals.{number_cases}
+use Rattle.sb_cuttings.specs.Ends.{IsEnd, IsAfter}
+use Rattle.sb_cuttings.specs.Cuttings.{Break, HasLabel, IsAlike, IsCutting}
 use Rattle.sb_cuttings.specs.Cuttings.{IsReducedCutting, HasNoOddPoint}
 use Rattle.sb_cuttings.specs.Changes.{squash}
 use Rattle.sb_cuttings.specs.Laws.{IsReducedBySquash}
-use Rattle.sb_cuttings.proofs.Ends.{after_trans, before_trans, open_trans}
+use Rattle.sb_cuttings.proofs.Ends.{after_trans, open_trans}
 
 -- a label on both sides of a number and at it is the label all through
 pub label_through : {L : Type 0} (f : Arrow → L) → IsAlike f → (low high : Option Arrow)

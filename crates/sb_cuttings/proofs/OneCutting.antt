@@ -1,6 +1,6 @@
 -- Two reduced cuttings of one function are equal, as data.
-use Rattle.std.proofs.Common.{◌≡◌, refl, sym, ◌∙◌, inl, inr, ◌⊎◌, ap, ap₂}
-use Rattle.std.proofs.Common.{Option, Some, None, List, [], ◌∷◌}
+use Rattle.std.proofs.Common.{◌≡◌, refl, sym, ◌∙◌, inl, inr, ◌⊎◌, ap₂}
+use Rattle.std.proofs.Common.{Option, Some, List, [], ◌∷◌}
 use Rattle.sb_whole.specs.Arrows.{Arrow}
 use Rattle.sb_whole.specs.Rationals.{IsRational, IsBelow, IsSame}
 use Rattle.sb_whole.proofs.Rationals.{number_cases}
@@ -8,7 +8,7 @@ use Rattle.sb_cuttings.specs.Ends.{IsEnd, IsOpen, IsAfter, IsBefore}
 use Rattle.sb_cuttings.specs.Cuttings.{Break, HasLabel, IsCutting, AreDifferent}
 use Rattle.sb_cuttings.specs.Laws.{HasOneCutting}
 use Rattle.sb_cuttings.specs.Changes.{break_at}
-use Rattle.sb_cuttings.proofs.Ends.{IsBetween, after_trans, before_trans, number_between}
+use Rattle.sb_cuttings.proofs.Ends.{IsBetween, after_trans, before_trans}
 use Rattle.sb_cuttings.proofs.Ends.{below_two_ends, fraction_unique}
 
 -- where the first piece ends

@@ -1,5 +1,5 @@
 -- Cuttings: a function of the rational numbers that has one label on each piece of an interval.
-use Rattle.std.specs.Prelude.{◌≡◌, Option, Some, None, List, [], ◌∷◌, ⊤}
+use Rattle.std.specs.Prelude.{◌≡◌, Option, Some, List, [], ◌∷◌, ⊤}
 use Rattle.sb_whole.specs.Arrows.{Arrow}
 use Rattle.sb_whole.specs.Rationals.{IsRational, IsSame}
 use Rattle.sb_whole.specs.Reduced.{IsReduced}

@@ -1,7 +1,7 @@
 -- Open intervals of rational numbers, each end of which may be missing.
 use Rattle.std.specs.Prelude.{Option, Some, None, option_map, ⊤}
 use Rattle.sb_whole.specs.Arrows.{Arrow, mirror}
-use Rattle.sb_whole.specs.Rationals.{IsRational, IsBelow}
+use Rattle.sb_whole.specs.Rationals.{IsRational, IsBelow, IsAtMost}
 
 -- an end is a rational number, or it is missing: then the interval goes on for ever
 abbrev pub IsEnd : Option Arrow → Type 0
@@ -22,6 +22,16 @@ IsAfter low u = IsOpen low (Some u)
 -- the number lies below the upper end
 abbrev pub IsBefore : Arrow → Option Arrow → Type 0
 IsBefore u high = IsOpen (Some u) high
+
+-- the number is not below the lower end
+abbrev pub IsFrom : Option Arrow → Arrow → Type 0
+IsFrom None u = ⊤
+IsFrom (Some r) u = IsAtMost r u
+
+-- the number is not above the upper end
+abbrev pub IsUpTo : Arrow → Option Arrow → Type 0
+IsUpTo u None = ⊤
+IsUpTo u (Some t) = IsAtMost u t
 
 -- the end seen in a mirror at 0: the interval from 2 on becomes the one up to -2
 abbrev pub mirror_end : Option Arrow → Option Arrow

@@ -48,3 +48,27 @@ pub none_behind : {X : Type 0} (r : Option X) (opening bytes rest : List ℕ) �
 none_behind None opening bytes rest split none =
     λ n s short same. none n s short (append_cancel_left opening _ _ (sym split ∙ same))
 none_behind (Some x) opening bytes rest split none = none
+
+-- the three numbers are the same too
+pub same_three : (first second third : List ℕ) (a b c d e f : ℤ) (r s t : List ℕ)
+    → AreThree first second third a b c r t → AreThree first second third d e f s t
+    → (a ≡ d) × (b ≡ e) × (c ≡ f)
+same_three first second third a b c d e f r s t one other =
+    let behind_a = one_reading first a d _ _ t one.a_short other.a_short one.spelled other.spelled in
+    let behind_b = number_next b e _ _ one.b_short other.b_short (append_cancel_left second _ _ behind_a.1) in
+    let behind_c = number_next c f _ _ one.c_short other.c_short (append_cancel_left third _ _ behind_b.1) in
+    (behind_a.0, behind_b.0, behind_c.0)
+
+form : ℤ → ℤ → ℤ → ℤ → ℤ → ℤ → FirstForm
+form x y z size_x size_y height =
+    record { x = x; y = y; z = z; size_x = size_x; size_y = size_y; height = height }
+
+-- a text has one form at most
+pub form_is_one : (f g : FirstForm) (bytes : List ℕ) → IsFormOf f bytes → IsFormOf g bytes → g ≡ f
+unfolding form
+form_is_one f g bytes one other =
+    let place = same_three before_place comma comma g.x g.y g.z f.x f.y f.z _ _ bytes (form_begins g bytes other) (form_begins f bytes one) in
+    let sizes = same_three before_sizes comma before_height g.size_x g.size_y g.height f.size_x f.size_y f.height _ _ _
+    (form_goes_on g f.x f.y f.z bytes _ other (form_begins f bytes one)) (form_goes_on f f.x f.y f.z bytes _ one (form_begins f bytes one)) in
+    let same : form g.x g.y g.z g.size_x g.size_y g.height ≡ form f.x f.y f.z f.size_x f.size_y f.height = cc (place.0, place.1, place.2, sizes.0, sizes.1, sizes.2) in
+    same

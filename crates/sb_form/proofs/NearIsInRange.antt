@@ -8,7 +8,7 @@ use Rattle.sb_form.specs.declared.matcher.FirstForm.{FirstForm}
 
 -- from half an even size below a coordinate to half of it above
 pub about_is_interval : (m s : ℤ) → int_lt (pos 0) s ≡ true → is_near_about m s ≡ true → is_even s ≡ true
-  → is_interval (m -ℤ half s) (m +ℤ half s) ≡ true
+    → is_interval (m -ℤ half s) (m +ℤ half s) ≡ true
 about_is_interval m s shape near grid = grind (arith, ints)
 
 pub up_is_interval : (z h : ℤ) → int_lt (pos 0) h ≡ true → is_near_up z h ≡ true → is_interval z (z +ℤ h) ≡ true

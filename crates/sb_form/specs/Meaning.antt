@@ -27,7 +27,7 @@ is_near_doubled twice = nat_le (unsigned_abs twice) 1000000
 -- from x - X/2 to x + X/2, no coordinate is more than 500,000 in size; X may be odd
 abbrev pub is_near_about : ℤ → ℤ → Bool
 is_near_about middle size =
-  is_near_doubled (twice middle -ℤ size) && is_near_doubled (twice middle +ℤ size)
+    is_near_doubled (twice middle -ℤ size) && is_near_doubled (twice middle +ℤ size)
 
 -- the same from z to z + H
 abbrev pub is_near_up : ℤ → ℤ → Bool
@@ -47,7 +47,7 @@ is_on_grid f = is_even f.size_x && is_even f.size_y
 -- the first defect: a size that is not above 0, a coordinate out of range, a corner off the grid
 abbrev pub defect_of : FirstForm → Option Defect
 defect_of f =
-  if has_shape f then (if is_near f then (if is_on_grid f then None else Some OffGrid) else Some Range) else Some Shape
+    if has_shape f then (if is_near f then (if is_on_grid f then None else Some OffGrid) else Some Range) else Some Shape
 
 -- half of a size that is above 0 and even
 abbrev pub half : ℤ → ℤ

@@ -31,7 +31,16 @@ pub fn model(alloc: Global, form: &FirstForm, extent: &Extent) -> Result<Model, 
     let elements = Elements::new(alloc);
     let openings = Openings::new(alloc);
     let fillings = Fillings::new(alloc);
-    match Model::new(alloc, Unit::Millimetre, 0, REACH, spaces, elements, openings, fillings) {
+    match Model::new(
+        alloc,
+        Unit::Millimetre,
+        0,
+        REACH,
+        spaces,
+        elements,
+        openings,
+        fillings,
+    ) {
         Ok(model) => Ok(model),
         Err(ModelError::NoMemory) => Err(AllocError),
         // The one number is 20.
@@ -59,10 +68,22 @@ fn plan(alloc: Global, extent: &Extent) -> Result<Loops, AllocError>
     ensures { IfOk result (λ loops. loops ≡ rectangle extent.now.x0 extent.now.x1 extent.now.y0 extent.now.y1 ∷ []) }
 {
     let mut corners = Points::new(alloc);
-    corners.push(Point { x: extent.x0, y: extent.y0 })?;
-    corners.push(Point { x: extent.x1, y: extent.y0 })?;
-    corners.push(Point { x: extent.x1, y: extent.y1 })?;
-    corners.push(Point { x: extent.x0, y: extent.y1 })?;
+    corners.push(Point {
+        x: extent.x0,
+        y: extent.y0,
+    })?;
+    corners.push(Point {
+        x: extent.x1,
+        y: extent.y0,
+    })?;
+    corners.push(Point {
+        x: extent.x1,
+        y: extent.y1,
+    })?;
+    corners.push(Point {
+        x: extent.x0,
+        y: extent.y1,
+    })?;
     let mut lists = PointLists::new(alloc);
     lists.push(corners)?;
     match Loops::new(alloc, lists) {
@@ -78,11 +99,7 @@ fn frame(form: &FirstForm) -> Frame
 {
     Frame {
         turn: no_turn(),
-        shift: [
-            nanometres(form.x),
-            nanometres(form.y),
-            nanometres(form.z),
-        ],
+        shift: [nanometres(form.x), nanometres(form.y), nanometres(form.z)],
     }
 }
 

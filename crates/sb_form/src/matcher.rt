@@ -29,6 +29,7 @@ pub struct FirstForm {
 /// The text is this project's own; its lines are instances of ISO 16739.
 pub fn first_form(bytes: &[u8]) -> Option<FirstForm>
     ensures found { IfSome result (λ form. IsFormOf form bytes.now) }
+    ensures sole { IfSome result (λ form. (other : FirstForm) → IsFormOf other bytes.now → other ≡ form) }
     ensures none { IfNone result ((form : FirstForm) → IsFormOf form bytes.now → ⊥) }
 {
     let (x, y, z, rest) = three_behind(place_opening(), b",", b",", bytes)?;

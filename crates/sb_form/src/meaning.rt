@@ -50,7 +50,14 @@ fn sound_extent(form: &FirstForm) -> Extent
     let (x0, x1) = interval_about(form.x, form.size_x);
     let (y0, y1) = interval_about(form.y, form.size_y);
     let (z0, z1) = interval_up(form.z, form.height);
-    Extent { x0, x1, y0, y1, z0, z1 }
+    Extent {
+        x0,
+        x1,
+        y0,
+        y1,
+        z0,
+        z1,
+    }
 }
 
 /// From half a size below a coordinate to half of it above.

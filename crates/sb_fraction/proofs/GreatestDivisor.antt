@@ -1,9 +1,12 @@
--- Euclid's remainders end at the greatest common divisor, and dividing by it leaves no common divisor.
+-- Euclid's remainders end at the greatest common divisor, and dividing by it leaves no common
+-- divisor.
 
-use Rattle.std.proofs.Common.{ℕ, zero, suc, ◌+◌, ◌*◌, ◌%◌, ◌/◌, ◌<◌, ◌≤◌, ◌≡◌, refl, subst, arith, sym}
+use Rattle.std.proofs.Common.{ℕ, zero, suc, ◌+◌, ◌*◌, ◌%◌, ◌/◌, ◌<◌, ◌≡◌, refl, subst, arith, sym}
 use Rattle.std.specs.Int.{IsGcd, ◌∣◌}
-use Rattle.std.proofs.lemmas.Nat.Gcd.{IsGcd-from_zero, IsGcd-from_mod, dvd_refl, dvd-zero, same_from_IsGcd}
-use Rattle.std.proofs.Math.Nat.{one-dvd, mul-dvd-mul_right, div-mul_cancel, dvd_of_mul-dvd-mul_right, mod-lt, zero-dvd, eq-zero_of_zero-dvd}
+use Rattle.std.proofs.lemmas.Nat.Gcd.{IsGcd-from_zero, IsGcd-from_mod, dvd_refl, dvd-zero}
+use Rattle.std.proofs.lemmas.Nat.Gcd.{same_from_IsGcd}
+use Rattle.std.proofs.Math.Nat.{one-dvd, mul-dvd-mul_right, div-mul_cancel}
+use Rattle.std.proofs.Math.Nat.{dvd_of_mul-dvd-mul_right, eq-zero_of_zero-dvd}
 use Rattle.sb_fraction.specs.Divisors.{divisor_within, greatest_divisor}
 
 -- enough remainders give the greatest common divisor
@@ -29,7 +32,8 @@ by_zero (suc n) none some = some (omega arith)
 pub divisor_is_positive : (a b : ℕ) → 0 < b → 0 < greatest_divisor a b
 divisor_is_positive a b positive =
     by_zero (greatest_divisor a b)
-    (λ none. absurd (not_zero (eq-zero_of_zero-dvd (subst (λ n. n ∣ b) none (greatest_divisor_is a b).1))))
+    (λ none. absurd (not_zero (eq-zero_of_zero-dvd
+    (subst (λ n. n ∣ b) none (greatest_divisor_is a b).1))))
     (λ some. some)
   where
     not_zero : b ≡ 0 → ⊥
@@ -57,4 +61,5 @@ greatest_divisor-zero a = refl
 
 pub zero-greatest_divisor : (b : ℕ) → greatest_divisor 0 b ≡ b
 zero-greatest_divisor b =
-    same_from_IsGcd _ _ _ _ (greatest_divisor_is 0 b) (dvd-zero b, dvd_refl b, λ d left right. right)
+    same_from_IsGcd _ _ _ _ (greatest_divisor_is 0 b)
+    (dvd-zero b, dvd_refl b, λ d left right. right)

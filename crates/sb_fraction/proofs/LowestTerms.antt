@@ -1,15 +1,20 @@
 -- A fraction divided by its greatest common divisor is in lowest terms and the same number.
 
-use Rattle.std.proofs.Common.{ℕ, ℤ, pos, negsuc, neg_ℤ, suc, ◌+◌, ◌*◌, ◌/◌, ◌<◌, ◌≤◌, ◌<ℤ◌, ◌*ℤ◌, ◌≡◌, zero, Bool, true, ◌&&◌, IsTrue, unsigned_abs, refl, arith, nat_eq, nat_le, int_lt, ap, sym, ◌∙◌}
+use Rattle.std.proofs.Common.{ℕ, ℤ, pos, negsuc, neg_ℤ, suc, ◌*◌, ◌/◌, ◌<◌, ◌≤◌, ◌<ℤ◌, ◌*ℤ◌, ◌≡◌}
+use Rattle.std.proofs.Common.{zero, true, IsTrue, unsigned_abs, refl, arith, nat_le, int_lt, ap}
+use Rattle.std.proofs.Common.{sym, ◌∙◌}
 use Rattle.std.specs.Int.{IsGcd, ◌∣◌}
 use Rattle.std.proofs.lemmas.Int.{ints, to_z-of_z, unsigned_abs-mul}
 use Rattle.std.proofs.Common.{mul_assoc, le_trans}
 use Rattle.std.proofs.lemmas.Bool.{and_from, and_parts, eq-eqb, eqb-true, le-leb}
 use Rattle.std.proofs.lemmas.Nat.Gcd.{same_from_IsGcd, dvd_refl}
-use Rattle.std.proofs.Math.Nat.{div-mul_cancel, mul-div_cancel', mul-div_cancel, div-le_self, div-one, zero-div, dvd-mul_left, div_self}
+use Rattle.std.proofs.Math.Nat.{div-mul_cancel, mul-div_cancel', mul-div_cancel, div-le_self}
+use Rattle.std.proofs.Math.Nat.{div-one, zero-div, dvd-mul_left, div_self}
 use Rattle.sb_fraction.specs.Divisors.{greatest_divisor, are_coprime}
-use Rattle.sb_fraction.specs.Ratio.{Ratio, reduced, divided, is_fraction, is_lowest, is_within, greatest_num, greatest_den}
-use Rattle.sb_fraction.proofs.GreatestDivisor.{greatest_divisor_is, divisor_is_positive, quotients_are_coprime}
+use Rattle.sb_fraction.specs.Ratio.{Ratio, reduced, divided, is_fraction, is_lowest, is_within}
+use Rattle.sb_fraction.specs.Ratio.{greatest_num, greatest_den}
+use Rattle.sb_fraction.proofs.GreatestDivisor.{greatest_divisor_is, divisor_is_positive}
+use Rattle.sb_fraction.proofs.GreatestDivisor.{quotients_are_coprime}
 
 -- the size of a number with its sign changed
 abs-neg : (n : ℕ) → unsigned_abs (neg_ℤ (pos n)) ≡ n
@@ -35,7 +40,8 @@ quotient_is_positive n d zero whole positive = absurd (omega arith)
 quotient_is_positive n d (suc q) whole positive = grind (arith, ints)
 
 -- a positive number divided by a divisor of it is positive
-divided_is_positive : (z : ℤ) (d : ℕ) → pos 0 <ℤ z → d ∣ unsigned_abs z → int_lt (pos 0) (divided z d) ≡ true
+divided_is_positive : (z : ℤ) (d : ℕ) → pos 0 <ℤ z → d ∣ unsigned_abs z
+    → int_lt (pos 0) (divided z d) ≡ true
 divided_is_positive (pos n) d positive divides =
     quotient_is_positive n d (n / d) (div-mul_cancel d divides) (omega (arith, ints))
 divided_is_positive (negsuc n) d positive divides = absurd (omega (arith, ints))
@@ -71,7 +77,8 @@ lowest_terms_at : (num den : ℤ) (g : ℕ) → 0 < g
 lowest_terms_at num den g positive common =
     rw (abs-divided num g, abs-divided den g) (quotients_are_coprime _ _ g positive common)
 
-size_at_most : (z : ℤ) (g bound : ℕ) → unsigned_abs z ≤ bound → nat_le (unsigned_abs (divided z g)) bound ≡ true
+size_at_most : (z : ℤ) (g bound : ℕ) → unsigned_abs z ≤ bound
+    → nat_le (unsigned_abs (divided z g)) bound ≡ true
 size_at_most z g bound size =
     rw (abs-divided z g) (le-leb _ _ (le_trans (div-le_self (unsigned_abs z) g) size))
 
@@ -110,7 +117,8 @@ pub reduced-lowest : (r : Ratio) → IsTrue (is_fraction r) → reduced r.num r.
 unfolding reduced
 reduced-lowest r lowest =
     let sizes = and_parts (is_lowest r) (is_within r) lowest in
-    let parts = and_parts (int_lt (pos 0) r.den) (are_coprime (unsigned_abs r.num) (unsigned_abs r.den)) sizes.0 in
+    let parts = and_parts (int_lt (pos 0) r.den)
+    (are_coprime (unsigned_abs r.num) (unsigned_abs r.den)) sizes.0 in
     rw (eqb-true _ 1 parts.1, divided-one, divided-one) refl
 
 -- the divisor of a multiple and a positive number is this number

@@ -1,6 +1,6 @@
 -- What holds of every segment, homogeneous point and direction, as tests that compute.
 
-use Rattle.std.specs.Prelude.{ℕ, ℤ, pos, Bool, not, ◌&&◌, ◌||◌, int_lt, nat_le, nat_eq, unsigned_abs}
+use Rattle.std.specs.Prelude.{ℕ, ℤ, pos, Bool, not, ◌&&◌, ◌||◌, int_lt, nat_le, unsigned_abs}
 use Rattle.std.specs.Ordering.{int_eq}
 use Rattle.sb_fraction.specs.Divisors.{are_coprime}
 

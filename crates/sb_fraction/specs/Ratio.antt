@@ -1,6 +1,7 @@
 -- Fractions of whole numbers, and the reduced ones among them.
 
-use Rattle.std.specs.Prelude.{ℕ, ℤ, pos, negsuc, suc, neg_ℤ, ◌^◌, ◌/◌, Bool, ◌&&◌, int_lt, nat_le, unsigned_abs}
+use Rattle.std.specs.Prelude.{ℕ, ℤ, pos, negsuc, suc, neg_ℤ, ◌^◌, ◌/◌, Bool, ◌&&◌, int_lt, nat_le}
+use Rattle.std.specs.Prelude.{unsigned_abs}
 use Rattle.sb_fraction.specs.Divisors.{greatest_divisor, are_coprime}
 
 -- the number num/den, where den is positive

@@ -1,9 +1,11 @@
 //! Fractions in lowest terms.
 
-ghost use Rattle.std.specs.Prelude.{◌≡◌, ◌≤◌, ◌<◌, ◌<ℤ◌, ◌^◌, ◌*ℤ◌, pos, neg_ℤ, unsigned_abs, IsTrue};
+ghost use Rattle.std.specs.Prelude.{◌≡◌, ◌≤◌, ◌<◌, ◌<ℤ◌, ◌^◌, ◌*ℤ◌, pos, neg_ℤ, unsigned_abs};
+ghost use Rattle.std.specs.Prelude.{IsTrue};
 ghost use Rattle.std.specs.Prelude.{if◌then◌else◌};
 ghost use Rattle.sb_fraction.specs.Divisors.{greatest_divisor};
-ghost use Rattle.sb_fraction.specs.Ratio.{reduced, divided as quotient, is_fraction, greatest_num, greatest_den};
+ghost use Rattle.sb_fraction.specs.Ratio.{reduced, divided as quotient, is_fraction, greatest_num};
+ghost use Rattle.sb_fraction.specs.Ratio.{greatest_den};
 
 use std::marker::Model;
 

@@ -1,6 +1,6 @@
 -- Worked labels, crossings, abscissae, thicknesses and keys.
 
-use Rattle.std.proofs.Common.{◌≡◌, refl, ℕ, ℤ, Bool, true, false, List, [], ◌∷◌, pos, negsuc, Some}
+use Rattle.std.proofs.Common.{◌≡◌, refl, ℕ, true, false, [], ◌∷◌, pos, negsuc, Some}
 use Rattle.sb_whole.specs.Arrows.{cross, dot}
 use Rattle.sb_whole.specs.Rationals.{rational}
 use Rattle.sb_model.specs.declared.label.Label.TheVariants.{Space, Element, Earth, Void}
@@ -13,39 +13,48 @@ use Rattle.sb_model.specs.PlanEdges.{is_crossing, is_abscissa}
 use Rattle.sb_model.specs.Faces.{axis_x}
 use Rattle.sb_model.specs.OpenedPoints.{key_of}
 use Rattle.sb_model.specs.Walks.{is_rounded}
-use Rattle.sb_model.proofs.ExampleModels.{block, layered_wall, layered_wall_between_rooms, wall_opposite_a_t_joint, crossing_slabs, slanted_sides, half_covered_layer}
+use Rattle.sb_model.proofs.ExampleModels.{block, layered_wall, layered_wall_between_rooms}
+use Rattle.sb_model.proofs.ExampleModels.{wall_opposite_a_t_joint, crossing_slabs, slanted_sides}
+use Rattle.sb_model.proofs.ExampleModels.{half_covered_layer}
 
 -- ---- layers: a band has its lower end and not its upper end, the last has both
 
 -- in the first layer, 12 mm deep
-first_layer : label_at layered_wall_between_rooms (spot (pos 4012) (pos 1500) (pos 1000) (pos 1)) ≡ Element 30 1
+first_layer : label_at layered_wall_between_rooms (spot (pos 4012) (pos 1500) (pos 1000) (pos 1))
+    ≡ Element 30 1
 unfolding cross dot
 first_layer = refl
 
 -- where the first ends and the second begins, 12.5 mm deep
-second_layer : label_at layered_wall_between_rooms (spot (pos 8025) (pos 3000) (pos 2000) (pos 2)) ≡ Element 30 2
+second_layer : label_at layered_wall_between_rooms (spot (pos 8025) (pos 3000) (pos 2000) (pos 2))
+    ≡ Element 30 2
 unfolding cross dot
 second_layer = refl
 
-third_layer : label_at layered_wall_between_rooms (spot (pos 8175) (pos 3000) (pos 2000) (pos 2)) ≡ Element 30 3
+third_layer : label_at layered_wall_between_rooms (spot (pos 8175) (pos 3000) (pos 2000) (pos 2))
+    ≡ Element 30 3
 unfolding cross dot
 third_layer = refl
 
 -- the two ends of the wall, which belong to its first and its last layer
-low_end : layer_at layered_wall.prism layered_wall.layering (spot (pos 4000) (pos 1500) (pos 1000) (pos 1)) ≡ 1
+low_end : layer_at layered_wall.prism layered_wall.layering
+    (spot (pos 4000) (pos 1500) (pos 1000) (pos 1)) ≡ 1
 low_end = refl
 
-high_end : layer_at layered_wall.prism layered_wall.layering (spot (pos 4100) (pos 1500) (pos 1000) (pos 1)) ≡ 3
+high_end : layer_at layered_wall.prism layered_wall.layering
+    (spot (pos 4100) (pos 1500) (pos 1000) (pos 1)) ≡ 3
 high_end = refl
 
 -- ---- what comes first
 
 -- under two overlapping elements the lower number counts
-two_elements : label_at half_covered_layer (spot (pos 2000) (pos 3075) (pos 1000) (pos 1)) ≡ Element 30 0
+two_elements : label_at half_covered_layer (spot (pos 2000) (pos 3075) (pos 1000) (pos 1))
+    ≡ Element 30 0
 unfolding cross dot
 two_elements = refl
 
-one_element : label_at half_covered_layer (spot (pos 2000) (pos 3125) (pos 1000) (pos 1)) ≡ Element 31 1
+one_element : label_at half_covered_layer (spot (pos 2000) (pos 3125) (pos 1000) (pos 1))
+    ≡ Element 31 1
 unfolding cross dot
 one_element = refl
 
@@ -95,7 +104,8 @@ unfolding cross dot
 no_abscissa = refl
 
 -- along y the crossing has the abscissa 20/3
-abscissa_along_y : is_abscissa crossing_slabs (vector (pos 0) (pos 1) (pos 0)) (rational (pos 20) (pos 3)) ≡ true
+abscissa_along_y : is_abscissa crossing_slabs (vector (pos 0) (pos 1) (pos 0))
+    (rational (pos 20) (pos 3)) ≡ true
 unfolding cross dot
 abscissa_along_y = refl
 
@@ -104,7 +114,8 @@ abscissa_along_y = refl
 -- opposite a T-joint, from Side(2) of space #20 at x = 4000
 abbrev opposite_the_joint : ℕ → Spot
 opposite_the_joint depth =
-  along (spot (pos 4000) (pos 3000) (pos 1000) (pos 1)) (vector (pos 0) (pos 1) (pos 0)) (rational (pos depth) (pos 1))
+    along (spot (pos 4000) (pos 3000) (pos 1000) (pos 1)) (vector (pos 0) (pos 1) (pos 0))
+    (rational (pos depth) (pos 1))
 
 in_the_wall : label_at wall_opposite_a_t_joint (opposite_the_joint 100) ≡ Element 30 0
 unfolding cross dot
@@ -121,7 +132,8 @@ behind_it = refl
 -- from the slanted side of space #20 at (500, 500) along (1, 1, 0): depth 200 stands for 200/√2 mm
 abbrev off_the_slant : ℕ → Spot
 off_the_slant depth =
-  along (spot (pos 500) (pos 500) (pos 1000) (pos 1)) (vector (pos 1) (pos 1) (pos 0)) (rational (pos depth) (pos 1))
+    along (spot (pos 500) (pos 500) (pos 1000) (pos 1)) (vector (pos 1) (pos 1) (pos 0))
+    (rational (pos depth) (pos 1))
 
 just_off : label_at slanted_sides (off_the_slant 1) ≡ Element 30 0
 unfolding cross dot
@@ -153,12 +165,18 @@ thickness_of_half = refl
 -- ---- keys: fillings before bare openings, and the lower number before the higher
 
 abbrev opening : ℕ → ℕ → Opening
-opening number element = record { number = number; element = element; prism = block 1000 2000 2900 3300 2100 }
+opening number element = record {
+  number = number;
+  element = element;
+  prism =
+      block 1000 2000 2900 3300 2100;
+}
 
 abbrev filling : ℕ → ℕ → Filling
 filling number opening = record { number = number; opening = opening; kind = Window }
 
-lower_filling : key_of (opening 40 30 ∷ opening 41 31 ∷ []) (filling 50 41 ∷ filling 51 40 ∷ []) ≡ Some 50
+lower_filling : key_of (opening 40 30 ∷ opening 41 31 ∷ []) (filling 50 41 ∷ filling 51 40 ∷ [])
+    ≡ Some 50
 lower_filling = refl
 
 -- filling #60 comes before the bare opening #40

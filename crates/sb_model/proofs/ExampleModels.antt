@@ -1,16 +1,13 @@
 -- The models of the worked rows.
 
-use Rattle.std.proofs.Common.{ℕ, ℤ, pos, List, [], ◌∷◌}
+use Rattle.std.proofs.Common.{ℕ, pos, List, [], ◌∷◌}
 use Rattle.sb_fraction.specs.declared.point.Point.{Point}
 use Rattle.sb_fraction.specs.declared.unit.Unit.TheVariants as unit
-use Rattle.sb_model.specs.declared.layers.Axis.{Axis}
 use Rattle.sb_model.specs.declared.layers.Layer.{Layer}
 use Rattle.sb_model.specs.declared.layers.Layering.{Layering}
 use Rattle.sb_model.specs.declared.layers.Layering.TheVariants.{Plain, Layered}
 use Rattle.sb_model.specs.declared.products.Space.{Space}
 use Rattle.sb_model.specs.declared.products.Element.{Element}
-use Rattle.sb_model.specs.declared.products.Opening.{Opening}
-use Rattle.sb_model.specs.declared.products.Filling.{Filling}
 use Rattle.sb_model.specs.Spots.{vector}
 use Rattle.sb_model.specs.Solids.{Upright, upright}
 use Rattle.sb_model.specs.Building.{Building, building}
@@ -34,8 +31,8 @@ room number prism = record {
   prism = prism;
   frame = record {
     turn = record { x = vector (pos 1) (pos 0) (pos 0); z = vector (pos 0) (pos 0) (pos 1) };
-    shift = pos 0 ∷ pos 0 ∷ pos 0 ∷ []
-  }
+    shift = pos 0 ∷ pos 0 ∷ pos 0 ∷ [];
+  };
 }
 
 abbrev pub element : ℕ → Upright → Layering → Element
@@ -58,44 +55,46 @@ layers_of_wall = layer 1 12500 ∷ layer 2 75000 ∷ layer 3 12500 ∷ []
 
 abbrev pub layered_wall : Element
 layered_wall =
-  element 30 (block 4000 4100 0 3000 2500)
+    element 30 (block 4000 4100 0 3000 2500)
     (Layered layers_of_wall (record { x = pos 1; y = pos 0; z = pos 0 }))
 
 abbrev pub layered_wall_between_rooms : Building
 layered_wall_between_rooms =
-  model
+    model
     (room 20 (block 0 4000 0 3000 2500) ∷ room 21 (block 4100 8100 0 3000 2500) ∷ [])
     (layered_wall ∷ [])
 
 -- wall opposite a T-joint
 abbrev pub wall_opposite_a_t_joint : Building
 wall_opposite_a_t_joint =
-  model
+    model
     (room 20 (block 0 8000 0 3000 2500) ∷ room 21 (block 0 3950 3200 6200 2500)
-      ∷ room 22 (block 4050 8000 3200 6200 2500) ∷ [])
-    (element 30 (block 0 8000 3000 3200 2500) Plain ∷ element 31 (block 3950 4050 3200 6200 2500) Plain ∷ [])
+    ∷ room 22 (block 4050 8000 3200 6200 2500) ∷ [])
+    (element 30 (block 0 8000 3000 3200 2500) Plain
+    ∷ element 31 (block 3950 4050 3200 6200 2500) Plain ∷ [])
 
 -- crossing slabs
 abbrev pub crossing_slabs : Building
 crossing_slabs =
-  model
+    model
     (room 20 (block 0 10 0 10 10) ∷ [])
     (element 30 (upright ((at 0 0 ∷ at 5 10 ∷ at 0 10 ∷ []) ∷ []) (pos 10) (pos 11)) Plain
-      ∷ element 31 (upright ((at 0 10 ∷ at 10 0 ∷ at 10 10 ∷ []) ∷ []) (pos 10) (pos 11)) Plain ∷ [])
+    ∷ element 31 (upright ((at 0 10 ∷ at 10 0 ∷ at 10 10 ∷ []) ∷ []) (pos 10) (pos 11)) Plain ∷ [])
 
 -- slanted sides, the first of its two models
 abbrev pub slanted_sides : Building
 slanted_sides =
-  model
+    model
     (room 20 (upright ((at 0 0 ∷ at 1000 0 ∷ at 0 1000 ∷ []) ∷ []) (pos 0) (pos 2500)) ∷ [])
     (element 30
-      (upright ((at 0 1000 ∷ at 1000 0 ∷ at 1100 100 ∷ at 100 1100 ∷ []) ∷ []) (pos 0) (pos 2500)) Plain ∷ [])
+    (upright ((at 0 1000 ∷ at 1000 0 ∷ at 1100 100 ∷ at 100 1100 ∷ []) ∷ []) (pos 0) (pos 2500))
+    Plain ∷ [])
 
 -- half-covered layer: wall #30 lies over half of the one layer of wall #31
 abbrev pub half_covered_layer : Building
 half_covered_layer =
-  model
+    model
     (room 20 (block 0 4000 0 3000 2500) ∷ [])
     (element 30 (block 0 4000 3000 3100 2500) Plain
-      ∷ element 31 (block 0 4000 3050 3150 2500)
-          (Layered (layer 1 80000 ∷ []) (record { x = pos 0; y = pos 1; z = pos 0 })) ∷ [])
+    ∷ element 31 (block 0 4000 3050 3150 2500)
+    (Layered (layer 1 80000 ∷ []) (record { x = pos 0; y = pos 1; z = pos 0 })) ∷ [])

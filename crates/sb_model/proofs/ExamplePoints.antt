@@ -1,10 +1,10 @@
 -- Worked points: inside, outside and on the edges of a slanted plan with a hole.
 
-use Rattle.std.proofs.Common.{◌≡◌, refl, Bool, true, false, List, [], ◌∷◌, ℤ, pos, negsuc}
+use Rattle.std.proofs.Common.{◌≡◌, refl, true, false, List, [], ◌∷◌, ℤ, pos, negsuc}
 use Rattle.sb_fraction.specs.declared.point.Point.{Point}
 use Rattle.sb_whole.specs.Arrows.{cross, dot}
 use Rattle.sb_model.specs.Spots.{spot}
-use Rattle.sb_model.specs.Plan.{is_in_plan, is_on, edge, edges_of}
+use Rattle.sb_model.specs.Plan.{is_in_plan, is_on, edge}
 use Rattle.sb_model.specs.Solids.{upright, is_in_solid}
 
 abbrev at : ℤ → ℤ → Point
@@ -13,9 +13,9 @@ at x y = record { x = x; y = y }
 -- the triangle (0, 0), (9, 0), (0, 9) with the triangular hole (1, 1), (1, 4), (4, 1)
 abbrev plan : List (List Point)
 plan =
-  (at (pos 0) (pos 0) ∷ at (pos 9) (pos 0) ∷ at (pos 0) (pos 9) ∷ [])
-  ∷ (at (pos 1) (pos 1) ∷ at (pos 1) (pos 4) ∷ at (pos 4) (pos 1) ∷ [])
-  ∷ []
+    (at (pos 0) (pos 0) ∷ at (pos 9) (pos 0) ∷ at (pos 0) (pos 9) ∷ [])
+    ∷ (at (pos 1) (pos 1) ∷ at (pos 1) (pos 4) ∷ at (pos 4) (pos 1) ∷ [])
+    ∷ []
 
 -- between the slanted edges of plan and hole, at (3, 3)
 inside_plan : is_in_plan plan (spot (pos 3) (pos 3) (pos 0) (pos 1)) ≡ true
@@ -32,8 +32,8 @@ outside_in_hole : is_in_plan plan (spot (pos 3) (pos 3) (pos 0) (pos 2)) ≡ fal
 unfolding cross dot
 outside_in_hole = refl
 
--- level with the hole's corner (1, 4), to its left and to its right: the ray through a corner counts
--- it once or not at all
+-- level with the hole's corner (1, 4), to its left and to its right: the ray through a corner
+-- counts it once or not at all
 inside_left_of_corner : is_in_plan plan (spot (pos 1) (pos 8) (pos 0) (pos 2)) ≡ true
 unfolding cross dot
 inside_left_of_corner = refl
@@ -60,15 +60,18 @@ unfolding cross dot
 in_corner = refl
 
 -- past the end of an edge, on its line
-past_edge : is_on (spot (pos 10) (pos 0) (pos 0) (pos 1)) (edge (at (pos 0) (pos 0)) (at (pos 9) (pos 0))) ≡ false
+past_edge : is_on (spot (pos 10) (pos 0) (pos 0) (pos 1))
+    (edge (at (pos 0) (pos 0)) (at (pos 9) (pos 0))) ≡ false
 unfolding cross dot
 past_edge = refl
 
 -- strictly between the heights, and at one of them
-between_heights : is_in_solid (upright plan (pos 0) (pos 5)) (spot (pos 3) (pos 3) (pos 1) (pos 1)) ≡ true
+between_heights : is_in_solid (upright plan (pos 0) (pos 5)) (spot (pos 3) (pos 3) (pos 1) (pos 1))
+    ≡ true
 unfolding cross dot
 between_heights = refl
 
-at_upper_height : is_in_solid (upright plan (pos 0) (pos 5)) (spot (pos 3) (pos 3) (pos 5) (pos 1)) ≡ false
+at_upper_height : is_in_solid (upright plan (pos 0) (pos 5)) (spot (pos 3) (pos 3) (pos 5) (pos 1))
+    ≡ false
 unfolding cross dot
 at_upper_height = refl

@@ -6,3 +6,4 @@ pub mod StraightCorners
 pub mod ExamplePoints
 pub mod ExampleModels
 pub mod ExampleLabels
+pub mod ExampleLists

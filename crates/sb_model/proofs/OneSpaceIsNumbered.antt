@@ -1,6 +1,8 @@
 -- A model of one space alone has no bad number but 0.
 
-use Rattle.std.proofs.Common.{ℕ, ℤ, zero, suc, ◌≡◌, ◌==◌, Bool, true, false, not, ◌||◌, IsTrue, List, [], ◌∷◌, Option, Some, None, refl, ap, ◌∙◌, is_none, arith, nat_lt, if◌then◌else◌}
+use Rattle.std.proofs.Common.{ℕ, ℤ, zero, suc, ◌≡◌, ◌==◌, true, false, not, ◌||◌, IsTrue, List, []}
+use Rattle.std.proofs.Common.{◌∷◌, Option, Some, None, refl, ap, ◌∙◌, is_none, arith, nat_lt}
+use Rattle.std.proofs.Common.{if◌then◌else◌}
 use Rattle.std.specs.List.{list_any}
 use Rattle.std.proofs.lemmas.Bool.{and_from, false≢true, lt-ltb, ne_eqb}
 use Rattle.sb_fraction.specs.declared.unit.Unit as unit
@@ -8,11 +10,13 @@ use Rattle.sb_model.specs.declared.products.Space.{Space}
 use Rattle.sb_model.specs.declared.products.Element.{Element}
 use Rattle.sb_model.specs.declared.products.Opening.{Opening}
 use Rattle.sb_model.specs.declared.products.Filling.{Filling}
-use Rattle.sb_model.specs.Building.{Building, building, first_bad, or_else, is_one_space, is_in_range, is_building}
+use Rattle.sb_model.specs.Building.{Building, building, first_bad, or_else, is_one_space}
+use Rattle.sb_model.specs.Building.{is_in_range, is_building}
 
 -- a number alone in its list is bad where it is 0
 bad_alone : (n : ℕ)
-    → (if not (nat_lt 0 n) || false then Some n else None) ≡ (if (n == 0) || false then Some 0 else None)
+    → (if not (nat_lt 0 n) || false then Some n else None)
+    ≡ (if (n == 0) || false then Some 0 else None)
 bad_alone zero = refl
 bad_alone (suc n) = rw (lt-ltb 0 (suc n) (omega arith), ne_eqb (suc n) 0 (λ e. not_zero n e)) refl
   where

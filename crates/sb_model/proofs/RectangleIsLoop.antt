@@ -1,19 +1,22 @@
 -- The four corners of a rectangle are a normalised loop.
 
-use Rattle.std.proofs.Common.{ℕ, ℤ, pos, ◌≡◌, ◌<ℤ◌, ◌-ℤ◌, ◌*ℤ◌, Bool, true, false, not, ◌&&◌, IsTrue, List, [], ◌∷◌, int_lt, refl, arith, ap, sym, ◌∙◌}
+use Rattle.std.proofs.Common.{ℤ, pos, ◌≡◌, ◌<ℤ◌, ◌-ℤ◌, ◌*ℤ◌, Bool, true, not, ◌&&◌, IsTrue, List}
+use Rattle.std.proofs.Common.{[], ◌∷◌, int_lt, refl, arith, ap, sym, ◌∙◌}
 use Rattle.std.specs.Ordering.{int_eq}
 use Rattle.std.proofs.lemmas.Int.{ints}
-use Rattle.std.proofs.lemmas.Bool.{and_from, and_parts, not_from_false, false≢true, false_from_ne_true}
+use Rattle.std.proofs.lemmas.Bool.{and_from, and_parts, false≢true, false_from_ne_true}
 use Rattle.std.proofs.lemmas.Bool.Decides.{Decides-int_eq}
 use Rattle.std.proofs.Math.IntN.{zero-*ℤ, *ℤ_comm}
 use Rattle.sb_fraction.specs.declared.point.Point.{Point}
-use Rattle.sb_whole.proofs.Products.{positive_product, negative_product, product_of_negatives, zero_product}
+use Rattle.sb_whole.proofs.Products.{positive_product, negative_product, product_of_negatives}
 use Rattle.sb_whole.proofs.Signs.{less_from}
-use Rattle.sb_model.specs.Loops.{is_rectangle, are_corners, is_plan_point, are_loops, is_bent, bend, is_coordinate}
+use Rattle.sb_model.specs.Loops.{is_rectangle, are_corners, is_plan_point, are_loops, is_bent}
+use Rattle.sb_model.specs.Loops.{is_coordinate}
 
 -- a number that is not 0 is told apart from it
 not_zero : (z : ℤ) → (z ≡ pos 0 → ⊥) → not (int_eq z (pos 0)) ≡ true
-not_zero z other = rw (false_from_ne_true (int_eq z (pos 0)) (λ e. other ((Decides-int_eq z (pos 0)).0 e))) refl
+not_zero z other = rw (false_from_ne_true (int_eq z (pos 0))
+    (λ e. other ((Decides-int_eq z (pos 0)).0 e))) refl
 
 -- a product with 0
 zero_times : (q r : ℤ) → q ≡ pos 0 → q *ℤ r ≡ pos 0
@@ -67,7 +70,8 @@ bent_at_d a b c d r =
 bent_at_a : (a b c d : Point) → IsRectangle a b c d → is_bent d a b ≡ true
 bent_at_a a b c d r =
     bent_after_upright (a.x -ℤ d.x) (b.y -ℤ a.y) (a.y -ℤ d.y) (b.x -ℤ a.x)
-    (rw *ℤ_comm (negative_product (b.x -ℤ a.x) (a.y -ℤ d.y) (omega (arith, ints)) (omega (arith, ints))))
+    (rw *ℤ_comm (negative_product (b.x -ℤ a.x) (a.y -ℤ d.y) (omega (arith, ints))
+    (omega (arith, ints))))
     (omega (arith, ints))
 
 -- what the test of the corners says
@@ -90,7 +94,8 @@ corners_tell a b c d all =
 -- a point with these coordinates is in range
 in_range_at : (p : Point) (x y : ℤ) → p.x ≡ x → p.y ≡ y
     → is_coordinate x ≡ true → is_coordinate y ≡ true → is_plan_point p ≡ true
-in_range_at p x y ex ey at_x at_y = and_from (is_coordinate p.x) (is_coordinate p.y) (rw ex at_x) (rw ey at_y)
+in_range_at p x y ex ey at_x at_y = and_from (is_coordinate p.x) (is_coordinate p.y) (rw ex at_x)
+    (rw ey at_y)
 
 all_true : (p q r s k l m n : Bool) → p ≡ true → q ≡ true → r ≡ true → s ≡ true
     → k ≡ true → l ≡ true → m ≡ true → n ≡ true
@@ -98,7 +103,8 @@ all_true : (p q r s k l m n : Bool) → p ≡ true → q ≡ true → r ≡ true
 all_true p q r s k l m n ep eq er es ek el em en = rw (ep, eq, er, es, ek, el, em, en) refl
 
 -- the four corners of a rectangle are a normalised loop
-pub rectangle_is_loop : (loops : List (List Point)) → IsTrue (is_rectangle loops) → IsTrue (are_loops loops)
+pub rectangle_is_loop : (loops : List (List Point)) → IsTrue (is_rectangle loops)
+    → IsTrue (are_loops loops)
 rectangle_is_loop ((a ∷ b ∷ c ∷ d ∷ []) ∷ []) is =
     let parts = and_parts (are_corners a b c d) (is_plan_point a && is_plan_point c) is in
     let r = corners_tell a b c d parts.0 in

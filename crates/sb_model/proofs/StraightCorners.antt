@@ -1,6 +1,8 @@
 -- On a level side and over an edge along x or y, the corners have whole numbers and the abscissa.
 
-use Rattle.std.proofs.Common.{ℕ, ℤ, pos, negsuc, neg_ℤ, zero, suc, ◌+◌, ◌/◌, ◌<◌, ◌≡◌, ◌<ℤ◌, ◌+ℤ◌, ◌-ℤ◌, ◌*ℤ◌, Bool, true, false, not, ◌&&◌, ◌||◌, IsTrue, Option, Some, unsigned_abs, int_lt, refl, arith, ap, sym, ◌∙◌, if◌then◌else◌}
+use Rattle.std.proofs.Common.{ℤ, pos, negsuc, zero, suc, ◌≡◌, ◌<ℤ◌, ◌+ℤ◌, ◌-ℤ◌, ◌*ℤ◌, Bool, true}
+use Rattle.std.proofs.Common.{false, not, ◌&&◌, IsTrue, Some, unsigned_abs, int_lt, refl, arith, ap}
+use Rattle.std.proofs.Common.{sym, ◌∙◌, if◌then◌else◌}
 use Rattle.std.specs.Ordering.{int_eq}
 use Rattle.std.proofs.lemmas.Int.{ints, to_z-of_z}
 use Rattle.std.proofs.lemmas.Bool.{and_parts, lt-ltb, false≢true, false_from_ne_true}
@@ -12,20 +14,21 @@ use Rattle.sb_fraction.specs.Divisors.{greatest_divisor, are_coprime}
 use Rattle.sb_fraction.proofs.GreatestDivisor.{greatest_divisor-zero, zero-greatest_divisor}
 use Rattle.sb_fraction.proofs.LowestTerms.{reduced-lowest, reduced-multiple}
 use Rattle.sb_fraction.specs.declared.point.Point.{Point}
-use Rattle.sb_plane.specs.Sides.{LineSide, line}
+use Rattle.sb_plane.specs.Sides.{LineSide}
 use Rattle.sb_plane.specs.Regions.{is_region}
 use Rattle.sb_whole.specs.Tests.{differ}
 use Rattle.sb_whole.proofs.Signs.{less_from, same_less}
-use Rattle.sb_whole.proofs.Shapes.{var, num, plus, minus, negated, times, equal}
+use Rattle.sb_whole.proofs.Shapes.{var, num, plus, minus, times, equal}
 use Rattle.sb_whole.proofs.Ring.{mul-one, one-mul}
 use Rattle.sb_model.specs.declared.corner.Corner.{Corner}
 use Rattle.sb_model.specs.declared.face.Side.{Side}
-use Rattle.sb_model.specs.Spots.{Vector, vector, inner, opposite}
+use Rattle.sb_model.specs.Spots.{Vector, vector, opposite}
 use Rattle.sb_model.specs.Plan.{Edge, edge}
-use Rattle.sb_model.specs.Sides.{line_of, is_patch, is_abscissa_size, is_side_of, region_between}
+use Rattle.sb_model.specs.Sides.{line_of, is_abscissa_size, is_side_of, region_between}
 use Rattle.sb_model.specs.declared.patch.Patch.{Patch}
 use Rattle.sb_model.specs.Faces.{step, runs_along, direction_of, offset_of}
-use Rattle.sb_model.specs.Corners.{level_corner, side_corner, whole, is_level_side, is_straight_edge}
+use Rattle.sb_model.specs.Corners.{level_corner, side_corner, whole, is_level_side}
+use Rattle.sb_model.specs.Corners.{is_straight_edge}
 
 abbrev corner : Ratio → Ratio → Ratio → Corner
 corner x y z = record { x = x; y = y; z = z }
@@ -34,7 +37,8 @@ corner x y z = record { x = x; y = y; z = z }
 den_is_positive : (u : Ratio) → IsTrue (is_fraction u) → pos 0 <ℤ u.den
 den_is_positive u lowest =
     let sizes = and_parts (is_lowest u) (is_within u) lowest in
-    less_from _ _ (and_parts (int_lt (pos 0) u.den) (are_coprime (unsigned_abs u.num) (unsigned_abs u.den)) sizes.0).0
+    less_from _ _ (and_parts (int_lt (pos 0) u.den)
+    (are_coprime (unsigned_abs u.num) (unsigned_abs u.den)) sizes.0).0
 
 -- a number divided by its size is its sign
 divided_by_size : (z : ℤ) → (z ≡ pos 0 → ⊥)
@@ -46,23 +50,28 @@ divided_by_size (negsuc n) other = rw (div_self {n = suc n} (omega arith)) refl
 
 -- the fraction z/1
 pub reduced-one : (z : ℤ) → reduced z (pos 1) ≡ whole z
-reduced-one z = ap (λ n. reduced n (pos 1)) (sym (mul-one z)) ∙ reduced-multiple z (pos 1) (omega (arith, ints))
+reduced-one z = ap (λ n. reduced n (pos 1)) (sym (mul-one z))
+    ∙ reduced-multiple z (pos 1) (omega (arith, ints))
 
 -- a fraction whose numerator is a multiple of its denominator, and one in lowest terms
-reduced_to_whole : (num scale : ℤ) (o d : ℤ) → pos 0 <ℤ d → num ≡ o *ℤ d → scale ≡ d → reduced num scale ≡ whole o
+reduced_to_whole : (num scale : ℤ) (o d : ℤ) → pos 0 <ℤ d → num ≡ o *ℤ d → scale ≡ d
+    → reduced num scale ≡ whole o
 reduced_to_whole num scale o d positive en es = rw (en, es) (reduced-multiple o d positive)
 
-reduced_to : (num scale : ℤ) (u : Ratio) → IsTrue (is_fraction u) → num ≡ u.num → scale ≡ u.den → reduced num scale ≡ u
+reduced_to : (num scale : ℤ) (u : Ratio) → IsTrue (is_fraction u) → num ≡ u.num → scale ≡ u.den
+    → reduced num scale ≡ u
 reduced_to num scale u lowest en es = rw (en, es) (reduced-lowest u lowest)
 
 -- the value of a line of direction (1, 0)
 level_value : (u : Ratio) (l : LineSide) → pos 0 <ℤ u.den → l.dx ≡ pos 1 → l.dy ≡ pos 0
     → reduced ((l.dy *ℤ u.num) +ℤ (l.off *ℤ u.den)) (l.dx *ℤ u.den) ≡ whole l.off
 level_value u l positive ex ey =
-    rw (ex, ey) (reduced_to_whole _ _ l.off u.den positive (no_slope u.num l.off u.den) (one-mul u.den))
+    rw (ex, ey) (reduced_to_whole _ _ l.off u.den positive (no_slope u.num l.off u.den)
+    (one-mul u.den))
   where
     no_slope : (n o d : ℤ) → (pos 0 *ℤ n) +ℤ (o *ℤ d) ≡ o *ℤ d
-    no_slope n o d = equal (plus (times (num 0) (var n)) (times (var o) (var d))) (times (var o) (var d)) (omega arith)
+    no_slope n o d = equal (plus (times (num 0) (var n)) (times (var o) (var d)))
+        (times (var o) (var d)) (omega arith)
 
 -- the point on a level side
 pub level_corner_is : (z : ℤ) (u : Ratio) (side : Side) → IsTrue (is_fraction u)
@@ -70,10 +79,12 @@ pub level_corner_is : (z : ℤ) (u : Ratio) (side : Side) → IsTrue (is_fractio
     → corner u (whole (line_of side).off) (whole z) ≡ level_corner z u (line_of side)
 unfolding level_corner
 level_corner_is z u side lowest along_x =
-    let parts = and_parts (int_eq (line_of side).dy (pos 0)) (int_eq (line_of side).dx (pos 1)) along_x in
+    let parts = and_parts (int_eq (line_of side).dy (pos 0))
+    (int_eq (line_of side).dx (pos 1)) along_x in
     let dy = (Decides-int_eq (line_of side).dy (pos 0)).0 parts.0 in
     let dx = (Decides-int_eq (line_of side).dx (pos 1)).0 parts.1 in
-    ap (λ y. corner u y (whole z)) (sym (level_value u (line_of side) (den_is_positive u lowest) dx dy))
+    ap (λ y. corner u y (whole z)) (sym (level_value u (line_of side)
+    (den_is_positive u lowest) dx dy))
 
 same_from : (a b : ℤ) → b -ℤ a ≡ pos 0 → a ≡ b
 same_from a b none = omega (arith, ints)
@@ -86,7 +97,8 @@ less_is_difference a b =
     same_less (pos 0) (b -ℤ a) a b (λ less. omega (arith, ints)) (λ less. omega (arith, ints))
 
 same_vector : {x y x' y' : ℤ} → x ≡ x' → y ≡ y' → vector x y (pos 0) ≡ vector x' y' (pos 0)
-same_vector {x} {y} {x'} {y'} ex ey = ap (λ t. vector t y (pos 0)) ex ∙ ap (λ t. vector x' t (pos 0)) ey
+same_vector {x} {y} {x'} {y'} ex ey = ap (λ t. vector t y (pos 0)) ex
+    ∙ ap (λ t. vector x' t (pos 0)) ey
 
 same_corner : {x y x' y' : Ratio} (z : Ratio) → x ≡ x' → y ≡ y' → corner x y z ≡ corner x' y' z
 same_corner {x} {y} {x'} {y'} z ex ey = ap (λ t. corner t y z) ex ∙ ap (λ t. corner x' t z) ey
@@ -99,13 +111,15 @@ step_along_x : (x y : ℤ) → (x ≡ pos 0 → ⊥) → y ≡ pos 0
     → (divided x (greatest_divisor (unsigned_abs x) (unsigned_abs y)) ≡ sign x)
     × (divided y (greatest_divisor (unsigned_abs x) (unsigned_abs y)) ≡ pos 0)
 step_along_x x y other none =
-    rw (none, greatest_divisor-zero (unsigned_abs x)) (divided_by_size x other, ap pos (zero-div (unsigned_abs x)))
+    rw (none, greatest_divisor-zero (unsigned_abs x))
+    (divided_by_size x other, ap pos (zero-div (unsigned_abs x)))
 
 step_along_y : (x y : ℤ) → x ≡ pos 0 → (y ≡ pos 0 → ⊥)
     → (divided x (greatest_divisor (unsigned_abs x) (unsigned_abs y)) ≡ pos 0)
     × (divided y (greatest_divisor (unsigned_abs x) (unsigned_abs y)) ≡ sign y)
 step_along_y x y none other =
-    rw (none, zero-greatest_divisor (unsigned_abs y)) (ap pos (zero-div (unsigned_abs y)), divided_by_size y other)
+    rw (none, zero-greatest_divisor (unsigned_abs y))
+    (ap pos (zero-div (unsigned_abs y)), divided_by_size y other)
 
 level_step : (e : Edge) → e.a.y ≡ e.b.y → (e.a.x ≡ e.b.x → ⊥)
     → step e ≡ vector (sign (e.b.x -ℤ e.a.x)) (pos 0) (pos 0)
@@ -152,7 +166,8 @@ signed_along_y false = (refl, refl)
 level_direction : (e : Edge) → e.a.y ≡ e.b.y → (e.a.x ≡ e.b.x → ⊥)
     → (runs_along e ≡ int_lt e.a.x e.b.x) × (direction_of e ≡ vector (pos 1) (pos 0) (pos 0))
 level_direction e level other =
-    let heading = headed e (vector (sign (e.b.x -ℤ e.a.x)) (pos 0) (pos 0)) (level_step e level other) in
+    let heading = headed e (vector (sign (e.b.x -ℤ e.a.x)) (pos 0) (pos 0))
+    (level_step e level other) in
     let signs = signed_along_x (int_lt (pos 0) (e.b.x -ℤ e.a.x)) in
     (heading.0 ∙ signs.0 ∙ less_is_difference e.a.x e.b.x, heading.1 ∙ signs.1)
 
@@ -160,7 +175,8 @@ level_direction e level other =
 upright_direction : (e : Edge) → e.a.x ≡ e.b.x → (e.a.y ≡ e.b.y → ⊥)
     → (runs_along e ≡ int_lt e.a.y e.b.y) × (direction_of e ≡ vector (pos 0) (pos 1) (pos 0))
 upright_direction e upright other =
-    let heading = headed e (vector (pos 0) (sign (e.b.y -ℤ e.a.y)) (pos 0)) (upright_step e upright other) in
+    let heading = headed e (vector (pos 0) (sign (e.b.y -ℤ e.a.y)) (pos 0))
+    (upright_step e upright other) in
     let signs = signed_along_y (int_lt (pos 0) (e.b.y -ℤ e.a.y)) in
     (heading.0 ∙ signs.0 ∙ less_is_difference e.a.y e.b.y, heading.1 ∙ signs.1)
 
@@ -173,12 +189,14 @@ level_side_corner e u z lowest d =
     rw d (same_corner (whole z)
     (sym (reduced_to _ _ u lowest
     (along u.num (((e.a.y *ℤ pos 1) -ℤ (e.a.x *ℤ pos 0)) *ℤ u.den)) (one-mul u.den)))
-    (sym (reduced_to_whole _ _ e.a.y u.den (den_is_positive u lowest) (across u.num e.a.y e.a.x u.den) (one-mul u.den))))
+    (sym (reduced_to_whole _ _ e.a.y u.den (den_is_positive u lowest)
+    (across u.num e.a.y e.a.x u.den) (one-mul u.den))))
   where
     along : (n o : ℤ) → (n *ℤ pos 1) -ℤ (o *ℤ pos 0) ≡ n
     along n o = equal (minus (times (var n) (num 1)) (times (var o) (num 0))) (var n) (omega arith)
 
-    across : (n y x d : ℤ) → (n *ℤ pos 0) +ℤ ((((y *ℤ pos 1) -ℤ (x *ℤ pos 0)) *ℤ d) *ℤ pos 1) ≡ y *ℤ d
+    across : (n y x d : ℤ) → (n *ℤ pos 0) +ℤ ((((y *ℤ pos 1) -ℤ (x *ℤ pos 0)) *ℤ d) *ℤ pos 1)
+        ≡ y *ℤ d
     across n y x d =
         equal
         (plus (times (var n) (num 0))
@@ -192,14 +210,16 @@ upright_side_corner : (e : Edge) (u : Ratio) (z : ℤ) → IsTrue (is_fraction u
 unfolding side_corner offset_of
 upright_side_corner e u z lowest d =
     rw d (same_corner (whole z)
-    (sym (reduced_to_whole _ _ e.a.x u.den (den_is_positive u lowest) (across u.num e.a.y e.a.x u.den) (one-mul u.den)))
+    (sym (reduced_to_whole _ _ e.a.x u.den (den_is_positive u lowest)
+    (across u.num e.a.y e.a.x u.den) (one-mul u.den)))
     (sym (reduced_to _ _ u lowest
     (along u.num (((e.a.y *ℤ pos 0) -ℤ (e.a.x *ℤ pos 1)) *ℤ u.den)) (one-mul u.den))))
   where
     along : (n o : ℤ) → (n *ℤ pos 1) +ℤ (o *ℤ pos 0) ≡ n
     along n o = equal (plus (times (var n) (num 1)) (times (var o) (num 0))) (var n) (omega arith)
 
-    across : (n y x d : ℤ) → (n *ℤ pos 0) -ℤ ((((y *ℤ pos 0) -ℤ (x *ℤ pos 1)) *ℤ d) *ℤ pos 1) ≡ x *ℤ d
+    across : (n y x d : ℤ) → (n *ℤ pos 0) -ℤ ((((y *ℤ pos 0) -ℤ (x *ℤ pos 1)) *ℤ d) *ℤ pos 1)
+        ≡ x *ℤ d
     across n y x d =
         equal
         (minus (times (var n) (num 0))
@@ -235,11 +255,13 @@ level_tells e straight level same =
     ∙ ap not ((Decides-int_eq e.a.y e.b.y).1 level))
     ∙ (Decides-int_eq e.a.x e.b.x).1 same)
 
-upright_tells : (e : Edge) → IsTrue (is_straight_edge (Some e)) → (e.a.y ≡ e.b.y → ⊥) → e.a.x ≡ e.b.x
+upright_tells : (e : Edge) → IsTrue (is_straight_edge (Some e)) → (e.a.y ≡ e.b.y → ⊥) → e.a.x
+    ≡ e.b.x
 upright_tells e straight other =
     (Decides-int_eq e.a.x e.b.x).0
     (differ_by (int_eq e.a.x e.b.x) (int_eq e.a.y e.b.y) straight
-    ∙ ap not (false_from_ne_true (int_eq e.a.y e.b.y) (λ level. other ((Decides-int_eq e.a.y e.b.y).0 level))))
+    ∙ ap not (false_from_ne_true (int_eq e.a.y e.b.y)
+    (λ level. other ((Decides-int_eq e.a.y e.b.y).0 level))))
 
 is_level : (e : Edge) → int_eq e.a.y e.b.y ≡ true → e.a.y ≡ e.b.y
 is_level e = (Decides-int_eq e.a.y e.b.y).0
@@ -265,13 +287,15 @@ point_along_y a b u z lowest straight test =
     (upright_direction (edge a b) (upright_tells (edge a b) straight other) other).1
 
 -- which way an edge along x runs, and one along y
-pub runs_along_x : (a b : Point) → IsTrue (is_straight_edge (Some (edge a b))) → int_eq a.y b.y ≡ true
+pub runs_along_x : (a b : Point) → IsTrue (is_straight_edge (Some (edge a b))) → int_eq a.y b.y
+    ≡ true
     → int_lt a.x b.x ≡ runs_along (edge a b)
 runs_along_x a b straight test =
     let level = is_level (edge a b) test in
     sym (level_direction (edge a b) level (level_tells (edge a b) straight level)).0
 
-pub runs_along_y : (a b : Point) → IsTrue (is_straight_edge (Some (edge a b))) → int_eq a.y b.y ≡ false
+pub runs_along_y : (a b : Point) → IsTrue (is_straight_edge (Some (edge a b))) → int_eq a.y b.y
+    ≡ false
     → int_lt a.y b.y ≡ runs_along (edge a b)
 runs_along_y a b straight test =
     let other = is_not_level (edge a b) test in

@@ -1,7 +1,8 @@
 -- What contracts see of a model, and what holds of every model.
 
-use Rattle.std.specs.Prelude.{ℕ, ℤ, Bool, true, false, not, ◌&&◌, ◌||◌, ◌==◌, ◌+◌, ◌^◌, List, [], ◌∷◌, length, nat_le, nat_lt, nat_eq}
-use Rattle.std.specs.Prelude.{unsigned_abs, pos, negsuc, if◌then◌else◌, Option, Some, None, is_none}
+use Rattle.std.specs.Prelude.{ℕ, ℤ, Bool, true, false, not, ◌&&◌, ◌||◌, ◌==◌, ◌^◌, List, [], ◌∷◌}
+use Rattle.std.specs.Prelude.{length, nat_le, nat_lt, nat_eq}
+use Rattle.std.specs.Prelude.{unsigned_abs, pos, if◌then◌else◌, Option, Some, None, is_none}
 use Rattle.std.specs.Ordering.{int_eq}
 use Rattle.std.specs.List.{list_all, list_any, find}
 use Rattle.sb_fraction.specs.Divisors.{are_coprime}
@@ -26,7 +27,8 @@ pub record Building : Type 0 where
   pub openings : List Opening
   pub fillings : List Filling
 
-abbrev pub building : unit.Unit → ℤ → ℕ → List Space → List Element → List Opening → List Filling → Building
+abbrev pub building : unit.Unit → ℤ → ℕ → List Space → List Element → List Opening → List Filling
+    → Building
 building unit level reach spaces elements openings fillings = record {
   unit = unit;
   level = level;
@@ -101,7 +103,8 @@ is_opening m n = has_number (λ o. o.number) m.openings n
 abbrev pub is_filling : Building → ℕ → Bool
 is_filling m n = has_number (λ f. f.number) m.fillings n
 
--- the first number that is not above the one before it in its list, or whose item is wrong otherwise
+-- the first number that is not above the one before it in its list, or whose item is wrong
+-- otherwise
 abbrev pub first_wrong : {X : Type 0} → (X → ℕ) → (X → Bool) → ℕ → List X → Option ℕ
 first_wrong number is_wrong before [] = None
 first_wrong number is_wrong before (x ∷ xs) =
@@ -114,8 +117,8 @@ abbrev pub or_else : Option ℕ → Option ℕ → Option ℕ
 or_else (Some n) other = Some n
 or_else None other = other
 
--- the first number that is 0, is not above the number before it in its list, stands in two lists, or
--- is of an opening or a filling that names what is not there; spaces are looked at first, then
+-- the first number that is 0, is not above the number before it in its list, stands in two lists,
+-- or is of an opening or a filling that names what is not there; spaces are looked at first, then
 -- elements, openings and fillings
 abbrev pub first_bad : Building → Option ℕ
 first_bad m =
@@ -147,7 +150,8 @@ is_bare (x ∷ xs) = false
 
 -- one space and no other product
 abbrev pub is_one_space : Building → Bool
-is_one_space m = is_single m.spaces && is_bare m.elements && is_bare m.openings && is_bare m.fillings
+is_one_space m =
+    is_single m.spaces && is_bare m.elements && is_bare m.openings && is_bare m.fillings
 
 -- the name of this layer's material
 abbrev pub material_at : Option Layer → List ℕ

@@ -1,6 +1,6 @@
 -- The corners of patches, in the order in which they are listed.
 
-use Rattle.std.specs.Prelude.{ℤ, pos, ◌+ℤ◌, ◌-ℤ◌, ◌*ℤ◌, Bool, true, false, not, ◌&&◌, Option, Some, None, slice_get}
+use Rattle.std.specs.Prelude.{ℤ, pos, ◌+ℤ◌, ◌-ℤ◌, ◌*ℤ◌, Bool, true, false, ◌&&◌, Option, Some, None}
 use Rattle.std.specs.Prelude.{if◌then◌else◌}
 use Rattle.std.specs.Ordering.{int_eq}
 use Rattle.sb_fraction.specs.Ratio.{Ratio, reduced}
@@ -14,8 +14,8 @@ use Rattle.sb_model.specs.declared.face.FaceKind.TheVariants as kind
 use Rattle.sb_model.specs.declared.face.Side.{Side}
 use Rattle.sb_model.specs.declared.patch.Patch.{Patch}
 use Rattle.sb_model.specs.declared.products.Space.{Space}
-use Rattle.sb_model.specs.Spots.{Vector, inner}
-use Rattle.sb_model.specs.Plan.{Edge, edges_of}
+use Rattle.sb_model.specs.Spots.{inner}
+use Rattle.sb_model.specs.Plan.{Edge}
 use Rattle.sb_model.specs.Sides.{line_of}
 use Rattle.sb_model.specs.Building.{Building}
 use Rattle.sb_model.specs.Faces.{direction_of, runs_along, offset_of, edge_numbered, space_numbered}
@@ -70,7 +70,10 @@ is_same_corner a b = is_same a.x b.x && (is_same a.y b.y && is_same a.z b.z)
 -- four corners, of which one that is equal to the one before it is left out. The two corners at the
 -- low end and the two at the high end stand side by side, and no others are ever equal
 abbrev pub listed : Corner → Corner → Corner → Corner → Corners
-listed a b c d = if is_same_corner a b then Three a c d else (if is_same_corner c d then Three a b c else Four a b c d)
+listed a b c d =
+    if is_same_corner a b
+    then Three a c d
+    else (if is_same_corner c d then Three a b c else Four a b c d)
 
 -- forward: down along the low end, and up along the high end
 abbrev pub forward : Ends → Corners
@@ -89,8 +92,10 @@ side_corners (Some e) p =
 
 -- those of a patch of a face of this space
 abbrev pub corners_of_kind : Space → FaceKind → Patch → Option Corners
-corners_of_kind s kind.Bottom p = Some (backward (ends_by (λ u side. level_corner s.prism.z0 u (line_of side)) p))
-corners_of_kind s kind.Top p = Some (forward (ends_by (λ u side. level_corner s.prism.z1 u (line_of side)) p))
+corners_of_kind s kind.Bottom p =
+    Some (backward (ends_by (λ u side. level_corner s.prism.z0 u (line_of side)) p))
+corners_of_kind s kind.Top p =
+    Some (forward (ends_by (λ u side. level_corner s.prism.z1 u (line_of side)) p))
 corners_of_kind s (kind.Side k) p = side_corners (edge_numbered s.prism k) p
 
 abbrev pub corners_in : Option Space → Patch → Option Corners

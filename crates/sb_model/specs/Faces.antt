@@ -1,6 +1,7 @@
 -- The faces of spaces: the coordinates u and v, the outward normal and its unit.
 
-use Rattle.std.specs.Prelude.{ℕ, ℤ, pos, neg_ℤ, ◌+ℤ◌, ◌-ℤ◌, ◌*ℤ◌, ◌==◌, Bool, true, false, ◌&&◌, Option, Some, None, unsigned_abs, slice_get, is_some, List}
+use Rattle.std.specs.Prelude.{ℕ, ℤ, pos, neg_ℤ, ◌+ℤ◌, ◌-ℤ◌, ◌*ℤ◌, ◌==◌, Bool, false, ◌&&◌, Option}
+use Rattle.std.specs.Prelude.{Some, None, unsigned_abs, slice_get, is_some}
 use Rattle.std.specs.Prelude.{if◌then◌else◌}
 use Rattle.std.specs.Ordering.{int_eq}
 use Rattle.std.specs.List.{find}
@@ -20,10 +21,10 @@ use Rattle.sb_model.specs.Building.{Building}
 -- the step of an edge: from a to b without common divisor
 unfoldable pub step : Edge → Vector
 step e =
-  let x = e.b.x -ℤ e.a.x in
-  let y = e.b.y -ℤ e.a.y in
-  let common = greatest_divisor (unsigned_abs x) (unsigned_abs y) in
-  vector (divided x common) (divided y common) (pos 0)
+    let x = e.b.x -ℤ e.a.x in
+    let y = e.b.y -ℤ e.a.y in
+    let common = greatest_divisor (unsigned_abs x) (unsigned_abs y) in
+    vector (divided x common) (divided y common) (pos 0)
 
 -- the edge runs along its direction, and not against it
 unfoldable pub runs_along : Edge → Bool
@@ -33,8 +34,8 @@ runs_along e = is_forward (step e).x (step e).y
 unfoldable pub direction_of : Edge → Vector
 direction_of e = if runs_along e then step e else opposite (step e)
 
--- the outward normal of the face over an edge, which has the solid on its left: (dy, -dx, 0) where it
--- runs along its direction, (-dy, dx, 0) where it runs against it
+-- the outward normal of the face over an edge, which has the solid on its left: (dy, -dx, 0) where
+-- it runs along its direction, (-dy, dx, 0) where it runs against it
 unfoldable pub normal_over : Edge → Vector
 normal_over e = vector (step e).y (neg_ℤ (step e).x) (pos 0)
 
@@ -42,8 +43,8 @@ normal_over e = vector (step e).y (neg_ℤ (step e).x) (pos 0)
 unfoldable pub offset_of : Edge → ℤ
 offset_of e = (e.a.y *ℤ (direction_of e).x) -ℤ (e.a.x *ℤ (direction_of e).y)
 
--- a face of a space: u is read along `across`, v along `up`, and all points have the same `position`
--- p·n along the outward normal
+-- a face of a space: u is read along `across`, v along `up`, and all points have the same
+-- `position` p·n along the outward normal
 pub record Surface : Type 0 where
   pub across : Vector
   pub up : Vector
@@ -61,7 +62,12 @@ axis_z = vector (pos 0) (pos 0) (pos 1)
 
 -- the face below a space: u is x, v is y
 abbrev pub bottom_of : Upright → Surface
-bottom_of s = record { across = axis_x; up = axis_y; normal = opposite axis_z; position = neg_ℤ s.z0 }
+bottom_of s = record {
+  across = axis_x;
+  up = axis_y;
+  normal = opposite axis_z;
+  position = neg_ℤ s.z0;
+}
 
 -- the face above it
 abbrev pub top_of : Upright → Surface
@@ -73,7 +79,7 @@ side_over e = record {
   across = direction_of e;
   up = axis_z;
   normal = normal_over e;
-  position = (e.a.x *ℤ (normal_over e).x) +ℤ (e.a.y *ℤ (normal_over e).y)
+  position = (e.a.x *ℤ (normal_over e).x) +ℤ (e.a.y *ℤ (normal_over e).y);
 }
 
 -- edge k of a prism's plan, counted through all loops; none where there is no such edge
@@ -110,8 +116,8 @@ abbrev pub is_of_side : Upright → Option Edge → Spot → Bool
 is_of_side s None p = false
 is_of_side s (Some e) p = is_on p e && is_between_heights s.z0 s.z1 p
 
--- p is a point of the face: of Bottom or Top inside the loops at the lower or the upper height, of a
--- side on its edge and strictly between the heights
+-- p is a point of the face: of Bottom or Top inside the loops at the lower or the upper height, of
+-- a side on its edge and strictly between the heights
 abbrev pub is_of_face : Upright → FaceKind → Spot → Bool
 is_of_face s kind.Bottom p = is_in_plan s.loops p && int_eq p.z (s.z0 *ℤ p.w)
 is_of_face s kind.Top p = is_in_plan s.loops p && int_eq p.z (s.z1 *ℤ p.w)

@@ -1,7 +1,8 @@
 -- What is at a point: a space, an element with its layer, the earth or nothing.
 
-use Rattle.std.specs.Prelude.{ℕ, ℤ, pos, ◌+◌, ◌==◌, ◌+ℤ◌, ◌-ℤ◌, ◌*ℤ◌, Bool, ◌&&◌, nat_le, int_lt, int_le, List, [], ◌∷◌, ◌++◌, Option, Some, None}
-use Rattle.std.specs.Prelude.{if◌then◌else◌, map}
+use Rattle.std.specs.Prelude.{ℕ, ℤ, pos, ◌+◌, ◌+ℤ◌, ◌-ℤ◌, ◌*ℤ◌, Bool, ◌&&◌, nat_le, int_lt, int_le}
+use Rattle.std.specs.Prelude.{List, [], ◌∷◌, ◌++◌, Option, Some, None}
+use Rattle.std.specs.Prelude.{if◌then◌else◌}
 use Rattle.std.specs.List.{fold}
 use Rattle.std.specs.Int.{int_min, int_max}
 use Rattle.sb_fraction.specs.declared.point.Point.{Point}
@@ -26,7 +27,7 @@ lower_of number x (Some y) = if nat_le (number x) (number y) then x else y
 abbrev pub lowest : {X : Type 0} → (X → ℕ) → (X → Bool) → List X → Option X
 lowest number passes [] = None
 lowest number passes (x ∷ xs) =
-  if passes x then Some (lower_of number x (lowest number passes xs)) else lowest number passes xs
+    if passes x then Some (lower_of number x (lowest number passes xs)) else lowest number passes xs
 
 -- an axis as a vector
 abbrev pub axis_vector : Axis → Vector
@@ -35,8 +36,8 @@ axis_vector a = vector a.x a.y a.z
 -- p·n for the corners of a prism over one plan point
 abbrev pub readings_over : Upright → Vector → Point → List ℤ
 readings_over s n p =
-  let plan = (p.x *ℤ n.x) +ℤ (p.y *ℤ n.y) in
-  (plan +ℤ (s.z0 *ℤ n.z)) ∷ (plan +ℤ (s.z1 *ℤ n.z)) ∷ []
+    let plan = (p.x *ℤ n.x) +ℤ (p.y *ℤ n.y) in
+    (plan +ℤ (s.z0 *ℤ n.z)) ∷ (plan +ℤ (s.z1 *ℤ n.z)) ∷ []
 
 abbrev pub readings_in : Upright → Vector → List Point → List ℤ
 readings_in s n [] = []
@@ -68,28 +69,30 @@ abbrev pub total_of : List Layer → ℕ
 total_of [] = 0
 total_of (l ∷ ls) = l.micro + total_of ls
 
--- the index of the layer in whose band a reading lies. Where T is the sum of the thicknesses, `at` is
--- the reading less the extent's low end, times T, and `scale` the length of the extent: so a band
--- lies between `scale` times the sum before it and `scale` times the sum through it. A band has its
--- lower end and not its upper end, but the last has both
+-- the index of the layer in whose band a reading lies. Where T is the sum of the thicknesses, `at`
+-- is the reading less the extent's low end, times T, and `scale` the length of the extent: so a
+-- band lies between `scale` times the sum before it and `scale` times the sum through it. A band
+-- has its lower end and not its upper end, but the last has both
 abbrev pub layer_from : ℤ → ℤ → ℕ → List Layer → ℕ
 layer_from at scale before [] = 0
 layer_from at scale before (l ∷ []) =
-  if int_le (scale *ℤ pos before) at && int_le at (scale *ℤ pos (before + l.micro)) then l.index else 0
+    if int_le (scale *ℤ pos before) at && int_le at (scale *ℤ pos (before + l.micro)) then l.index
+    else 0
 layer_from at scale before (l ∷ m ∷ ls) =
-  if int_le (scale *ℤ pos before) at && int_lt at (scale *ℤ pos (before + l.micro))
-  then l.index
-  else layer_from at scale (before + l.micro) (m ∷ ls)
+    if int_le (scale *ℤ pos before) at && int_lt at (scale *ℤ pos (before + l.micro))
+    then l.index
+    else layer_from at scale (before + l.micro) (m ∷ ls)
 
 -- the index of the layer that contains a point of a prism; 0 without layers along an axis
 abbrev pub layer_at : Upright → Layering → Spot → ℕ
 layer_at s Plain p = 0
 layer_at s (Single material) p = 0
 layer_at s (Layered layers axis) p =
-  let n = axis_vector axis in
-  let low = low_along s n in
-  let reading = ((p.x *ℤ n.x) +ℤ (p.y *ℤ n.y)) +ℤ (p.z *ℤ n.z) in
-  layer_from ((reading -ℤ (low *ℤ p.w)) *ℤ pos (total_of layers)) ((high_along s n -ℤ low) *ℤ p.w) 0 layers
+    let n = axis_vector axis in
+    let low = low_along s n in
+    let reading = ((p.x *ℤ n.x) +ℤ (p.y *ℤ n.y)) +ℤ (p.z *ℤ n.z) in
+    layer_from ((reading -ℤ (low *ℤ p.w)) *ℤ pos (total_of layers))
+    ((high_along s n -ℤ low) *ℤ p.w) 0 layers
 
 abbrev pub space_at : Building → Spot → Option Space
 space_at m p = lowest (λ s. s.number) (λ s. is_in_solid s.prism p) m.spaces

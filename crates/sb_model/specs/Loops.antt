@@ -1,6 +1,6 @@
 -- Closed loops of plan points.
 
-use Rattle.std.specs.Prelude.{ℕ, ℤ, pos, Bool, true, false, not, ◌&&◌, ◌-ℤ◌, ◌*ℤ◌, List, [], ◌∷◌}
+use Rattle.std.specs.Prelude.{ℕ, ℤ, pos, Bool, false, not, ◌&&◌, ◌-ℤ◌, ◌*ℤ◌, List, [], ◌∷◌}
 use Rattle.std.specs.Prelude.{length, nat_le, int_lt, unsigned_abs}
 use Rattle.std.specs.Ordering.{int_eq}
 use Rattle.std.specs.List.{list_all}
@@ -56,5 +56,6 @@ are_corners a b c d =
 
 -- one loop, of the four corners of a rectangle in range
 abbrev pub is_rectangle : List (List Point) → Bool
-is_rectangle ((a ∷ b ∷ c ∷ d ∷ []) ∷ []) = are_corners a b c d && (is_plan_point a && is_plan_point c)
+is_rectangle ((a ∷ b ∷ c ∷ d ∷ []) ∷ []) = are_corners a b c d
+    && (is_plan_point a && is_plan_point c)
 is_rectangle _ = false

@@ -1,10 +1,10 @@
 -- Counterparts: the same patch seen from the other space, with the walk reversed.
 
-use Rattle.std.specs.Prelude.{◌≡◌, ℕ, ℤ, neg_ℤ, ◌+ℤ◌, List, reverse, Option, Some, None}
+use Rattle.std.specs.Prelude.{◌≡◌, ℕ, neg_ℤ, ◌+ℤ◌, List, reverse, Option, Some, None}
 use Rattle.sb_model.specs.declared.boundary.Boundary.{Boundary}
 use Rattle.sb_model.specs.declared.walk.End.{End}
 use Rattle.sb_model.specs.declared.walk.End.TheVariants as end
-use Rattle.sb_model.specs.Spots.{Vector, opposite}
+use Rattle.sb_model.specs.Spots.{opposite}
 use Rattle.sb_model.specs.Building.{Building}
 use Rattle.sb_model.specs.Faces.{Surface}
 use Rattle.sb_model.specs.Patches.{surface_at}
@@ -47,12 +47,14 @@ pub record Mirrors (m : Building) (list : List Boundary) (b c : Boundary) : Type
   pub standing : HasLikeParent list b c b.parent
 
 -- exactly one boundary mirrors b, and each of the two names the other by its id
-pub record HasCounterpart (m : Building) (list : List Boundary) (b : Boundary) (id : ℕ) : Type 0 where
+pub record HasCounterpart (m : Building) (list : List Boundary) (b : Boundary)
+    (id : ℕ) : Type 0 where
   pub other_id : ℕ
   pub other : Boundary
   pub other_is : boundary_at list other_id ≡ Some other
   pub mirrors : Mirrors m list b other
-  pub alone : (i : ℕ) → (c : Boundary) → boundary_at list i ≡ Some c → Mirrors m list b c → i ≡ other_id
+  pub alone : (i : ℕ) → (c : Boundary) → boundary_at list i ≡ Some c → Mirrors m list b c
+      → i ≡ other_id
   pub pair : b.pair ≡ Some other_id
   pub back : other.pair ≡ Some id
 
@@ -63,4 +65,5 @@ IsPairedBy m list b id _ = b.pair ≡ None
 
 -- each boundary of the list is paired so
 abbrev pub ArePaired : Building → List Boundary → Type 0
-ArePaired m list = (id : ℕ) → (b : Boundary) → boundary_at list id ≡ Some b → IsPairedBy m list b id b.walk.end
+ArePaired m list = (id : ℕ) → (b : Boundary) → boundary_at list id ≡ Some b
+    → IsPairedBy m list b id b.walk.end

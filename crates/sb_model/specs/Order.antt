@@ -1,6 +1,6 @@
 -- Lists in order.
 
-use Rattle.std.specs.Prelude.{◌≡◌, ◌⊎◌, ℕ, zero, suc, pos, ◌+◌, ◌<◌, ◌≤ℤ◌, List, Some, None, IsTrue}
+use Rattle.std.specs.Prelude.{◌≡◌, ◌⊎◌, ℕ, pos, ◌+◌, ◌<◌, ◌≤ℤ◌, List, Some, None, IsTrue}
 use Rattle.sb_whole.specs.Arrows.{Arrow}
 use Rattle.sb_whole.specs.Rationals.{IsRational, IsBelow, IsSame}
 use Rattle.sb_plane.specs.Sides.{clearance_at}
@@ -19,24 +19,27 @@ rank_of kind.Bottom = 0
 rank_of kind.Top = 1
 rank_of (kind.Side k) = 2 + k
 
--- p is lower in v: its upper side is nowhere above the lower side of q at any u strictly inside both
+-- p is lower in v: its upper side is nowhere above the lower side of q at any u strictly inside
+-- both
 abbrev pub IsLower : Patch → Patch → Type 0
 IsLower p q =
-  (u : Arrow) → IsRational u → IsTrue (is_spanned (region_of p) u) → IsTrue (is_spanned (region_of q) u)
+    (u : Arrow) → IsRational u → IsTrue (is_spanned (region_of p) u)
+    → IsTrue (is_spanned (region_of q) u)
     → pos 0 ≤ℤ clearance_at (line_of p.upper) (line_of q.lower) u
 
 -- p begins at a lower u, or they begin at one u and p is lower in v
 abbrev pub IsBeforeOnFace : Patch → Patch → Type 0
 IsBeforeOnFace p q =
-  IsBelow (arrow_of p.low) (arrow_of q.low) ⊎ (IsSame (arrow_of p.low) (arrow_of q.low) × IsLower p q)
+    IsBelow (arrow_of p.low) (arrow_of q.low)
+    ⊎ (IsSame (arrow_of p.low) (arrow_of q.low) × IsLower p q)
 
 -- p comes before q: by space number, then face, then low, then v
 abbrev pub IsBefore : Patch → Patch → Type 0
 IsBefore p q =
-  (p.face.space < q.face.space)
-  ⊎ ((p.face.space ≡ q.face.space)
+    (p.face.space < q.face.space)
+    ⊎ ((p.face.space ≡ q.face.space)
     × ((rank_of p.face.kind < rank_of q.face.kind)
-      ⊎ ((rank_of p.face.kind ≡ rank_of q.face.kind) × IsBeforeOnFace p q)))
+    ⊎ ((rank_of p.face.kind ≡ rank_of q.face.kind) × IsBeforeOnFace p q)))
 
 -- a list in order
 pub record IsInOrder (list : List Boundary) : Type 0 where
@@ -44,10 +47,11 @@ pub record IsInOrder (list : List Boundary) : Type 0 where
   pub tops : AllOfTwo (λ b c. b.parent ≡ None → c.parent ≡ None → IsBefore b.patch c.patch) list
   -- and of each two children of one parent
   pub children : (id : ℕ) → AllOfTwo
-    (λ b c. b.parent ≡ Some id → c.parent ≡ Some id → IsBefore b.patch c.patch) list
+      (λ b c. b.parent ≡ Some id → c.parent ≡ Some id → IsBefore b.patch c.patch) list
   -- each top-level boundary is followed by its children: a child stands after its parent, and no
   -- top-level boundary between the two
-  pub followed : (id place : ℕ) → (c : Boundary) → boundary_at list place ≡ Some c → c.parent ≡ Some id
-    → (id < place)
+  pub followed : (id place : ℕ) → (c : Boundary) → boundary_at list place ≡ Some c
+      → c.parent ≡ Some id
+      → (id < place)
       × ((between : ℕ) → (b : Boundary) → boundary_at list between ≡ Some b → b.parent ≡ None
-        → id < between → between < place → ⊥)
+      → id < between → between < place → ⊥)

@@ -1,6 +1,6 @@
 -- Passages: the ray from a point, cut into pieces of one label.
 
-use Rattle.std.specs.Prelude.{ℕ, ◌==◌, Bool, false, if◌then◌else◌, List, [], ◌∷◌, Option, Some, None}
+use Rattle.std.specs.Prelude.{◌==◌, Bool, false, if◌then◌else◌, List, [], ◌∷◌, Option, Some, None}
 use Rattle.sb_whole.specs.Arrows.{Arrow}
 use Rattle.sb_cuttings.specs.Cuttings.{Break}
 use Rattle.sb_cuttings.specs.Passages as cut
@@ -22,9 +22,9 @@ ray_from p n = record { start = p; normal = n }
 abbrev pub at_depth : Ray → Arrow → Spot
 at_depth r depth = along r.start r.normal depth
 
--- the passages of a ray: breaks 0 = t0 < t1 < .. with labels, such that all rational depths strictly
--- between two neighbouring breaks have the one label between them, all depths after the last break
--- have the last label, and neighbouring labels differ
+-- the passages of a ray: breaks 0 = t0 < t1 < .. with labels, such that all rational depths
+-- strictly between two neighbouring breaks have the one label between them, all depths after the
+-- last break have the last label, and neighbouring labels differ
 abbrev pub ArePassages : Building → Ray → List (Break Label) → Type 0
 ArePassages m r breaks = cut.ArePassages (λ depth. label_at m (at_depth r depth)) breaks
 
@@ -63,9 +63,9 @@ piece first more = record { first = first; more = more }
 abbrev pub before_pieces : Passage → List Piece → List Piece
 before_pieces q [] = piece q [] ∷ []
 before_pieces q (c ∷ cs) =
-  if are_of_one_element q.label c.first.label
-  then piece q (c.first ∷ c.more) ∷ cs
-  else piece q [] ∷ c ∷ cs
+    if are_of_one_element q.label c.first.label
+    then piece q (c.first ∷ c.more) ∷ cs
+    else piece q [] ∷ c ∷ cs
 
 -- passages with consecutive ones of one element as one crossing
 abbrev pub pieces_of : List Passage → List Piece

@@ -1,6 +1,6 @@
 -- Plain points of faces: all but those on finitely many cut lines.
 
-use Rattle.std.specs.Prelude.{ℤ, ◌*ℤ◌, Bool, false, not, ◌&&◌, ◌||◌, List, Option, Some, None}
+use Rattle.std.specs.Prelude.{◌*ℤ◌, Bool, false, not, ◌&&◌, ◌||◌, Option, Some, None}
 use Rattle.std.specs.Ordering.{int_eq}
 use Rattle.std.specs.List.{list_any}
 use Rattle.sb_model.specs.declared.face.FaceKind.{FaceKind}
@@ -19,7 +19,7 @@ is_on_plan_edge m p = list_any (λ e. is_on p e.edge) (plan_edges m)
 -- p lies at a height of a prism: of a space, an element or an opening, however far away
 abbrev pub is_at_height : Building → Spot → Bool
 is_at_height m p =
-  list_any (λ q. int_eq p.z (q.prism.z0 *ℤ p.w) || int_eq p.z (q.prism.z1 *ℤ p.w)) (products_of m)
+    list_any (λ q. int_eq p.z (q.prism.z0 *ℤ p.w) || int_eq p.z (q.prism.z1 *ℤ p.w)) (products_of m)
 
 -- p lies at the height of the ground
 abbrev pub is_at_ground : Building → Spot → Bool
@@ -29,13 +29,13 @@ is_at_ground m p = int_eq p.z (m.level *ℤ p.w)
 abbrev pub is_off_level_cuts : Building → Spot → Bool
 is_off_level_cuts m p = not (is_on_plan_edge m p) && not (is_abscissa m axis_x (reading p axis_x))
 
--- off the cut lines of the side over an edge: p·d is no abscissa of its direction d, and z is neither
--- a height of a prism nor the ground
+-- off the cut lines of the side over an edge: p·d is no abscissa of its direction d, and z is
+-- neither a height of a prism nor the ground
 abbrev pub is_off_side_cuts : Building → Option Edge → Spot → Bool
 is_off_side_cuts m None p = false
 is_off_side_cuts m (Some e) p =
-  not (is_abscissa m (direction_of e) (reading p (direction_of e)))
-  && (not (is_at_height m p) && not (is_at_ground m p))
+    not (is_abscissa m (direction_of e) (reading p (direction_of e)))
+    && (not (is_at_height m p) && not (is_at_ground m p))
 
 abbrev pub is_off_cuts : Building → Upright → FaceKind → Spot → Bool
 is_off_cuts m s kind.Bottom p = is_off_level_cuts m p

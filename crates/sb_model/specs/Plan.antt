@@ -1,6 +1,7 @@
 -- The edges of a plan, and the points inside it.
 
-use Rattle.std.specs.Prelude.{ℕ, ℤ, pos, ◌+◌, ◌-ℤ◌, ◌*ℤ◌, Bool, false, not, ◌&&◌, nat_lt, int_lt, int_le, List, [], ◌∷◌, ◌++◌}
+use Rattle.std.specs.Prelude.{ℕ, ℤ, pos, ◌+◌, ◌-ℤ◌, ◌*ℤ◌, Bool, false, not, ◌&&◌, nat_lt, int_lt}
+use Rattle.std.specs.Prelude.{int_le, List, [], ◌∷◌, ◌++◌}
 use Rattle.std.specs.Prelude.{if◌then◌else◌}
 use Rattle.std.specs.Ordering.{int_eq}
 use Rattle.std.specs.List.{list_any}
@@ -69,11 +70,11 @@ is_higher p a = int_lt p.y (a.y *ℤ p.w)
 -- up, or right of one that goes down
 abbrev pub is_crossed : Spot → Edge → Bool
 is_crossed p e =
-  if is_higher p e.b
-  then (if is_higher p e.a then false else int_lt (pos 0) (turn_at e p))
-  else (if is_higher p e.a then int_lt (turn_at e p) (pos 0) else false)
+    if is_higher p e.b
+    then (if is_higher p e.a then false else int_lt (pos 0) (turn_at e p))
+    else (if is_higher p e.a then int_lt (turn_at e p) (pos 0) else false)
 
 -- p lies inside the loops: on no edge, and an odd number of edges cross the ray to its right
 abbrev pub is_in_plan : List (List Point) → Spot → Bool
 is_in_plan loops p =
-  not (list_any (is_on p) (edges_of loops)) && is_odd_number (is_crossed p) (edges_of loops)
+    not (list_any (is_on p) (edges_of loops)) && is_odd_number (is_crossed p) (edges_of loops)

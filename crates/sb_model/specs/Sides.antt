@@ -1,6 +1,7 @@
 -- The sides of patches as lines of one kind, and what holds of every patch.
 
-use Rattle.std.specs.Prelude.{ℕ, pos, Bool, true, false, ◌&&◌, ◌*◌, ◌^◌, int_lt, nat_le, unsigned_abs}
+use Rattle.std.specs.Prelude.{ℕ, pos, Bool, true, false, ◌&&◌, ◌*◌, ◌^◌, int_lt, nat_le}
+use Rattle.std.specs.Prelude.{unsigned_abs}
 use Rattle.sb_fraction.specs.Ratio.{Ratio, is_fraction}
 use Rattle.sb_whole.specs.Arrows.{Arrow}
 use Rattle.sb_whole.specs.Rationals.{rational}
@@ -44,11 +45,13 @@ is_side_of _ (OnLine l) = int_lt (pos 0) l.dir.x && nat_le (unsigned_abs l.off) 
 -- a reduced fraction within the bounds of abscissae, 2·10^24 over 2·10^12
 abbrev pub is_abscissa_size : Ratio → Bool
 is_abscissa_size u =
-    is_fraction u && (nat_le (unsigned_abs u.num) (2 * 10 ^ 24) && nat_le (unsigned_abs u.den) (2 * 10 ^ 12))
+    is_fraction u && (nat_le (unsigned_abs u.num) (2 * 10 ^ 24)
+    && nat_le (unsigned_abs u.den) (2 * 10 ^ 12))
 
 -- what holds of every patch: low < high, both within the bounds of abscissae, sides of the kind of
 -- its face, the lower nowhere above the upper, and the two meeting at one end at most
 abbrev pub is_patch : FaceKind → Ratio → Ratio → Side → Side → Bool
 is_patch face low high lower upper =
     (is_abscissa_size low && is_abscissa_size high)
-    && ((is_side_of face lower && is_side_of face upper) && is_region (region_between low high lower upper))
+    && ((is_side_of face lower && is_side_of face upper)
+    && is_region (region_between low high lower upper))

@@ -8,8 +8,8 @@ use Rattle.sb_model.specs.Trimmed.{AreTopsTrimmed}
 use Rattle.sb_model.specs.Mirrors.{ArePaired}
 use Rattle.sb_model.specs.Nested.{IsNested}
 
--- a list is sound for a model: it covers it, its top-level patches are trimmed, counterparts name each
--- other, and the openings are nested. Nothing is said of how long it is
+-- a list is sound for a model: it covers it, its top-level patches are trimmed, counterparts name
+-- each other, and the openings are nested. Nothing is said of how long it is
 pub record IsSound (m : Building) (list : List Boundary) : Type 0 where
   pub covers : Covers m list
   pub trimmed : AreTopsTrimmed m list

@@ -43,9 +43,9 @@ reading p n = rational (((p.x *ℤ n.x) +ℤ (p.y *ℤ n.y)) +ℤ (p.z *ℤ n.z)
 -- at depth k the ray has gone k/(n·n) times n
 abbrev pub along : Spot → Vector → Arrow → Spot
 along p n depth =
-  let scale = depth.x *ℤ inner n n in
-  let far = depth.y *ℤ p.w in
-  spot
+    let scale = depth.x *ℤ inner n n in
+    let far = depth.y *ℤ p.w in
+    spot
     ((p.x *ℤ scale) +ℤ (n.x *ℤ far))
     ((p.y *ℤ scale) +ℤ (n.y *ℤ far))
     ((p.z *ℤ scale) +ℤ (n.z *ℤ far))

@@ -1,6 +1,6 @@
 -- The turns by quarters: where they take the local x and z.
 
-use Rattle.std.specs.Prelude.{ℕ, ◌+◌, pos, Bool, ◌&&◌, nat_eq, unsigned_abs, if◌then◌else◌}
+use Rattle.std.specs.Prelude.{◌+◌, pos, Bool, ◌&&◌, nat_eq, unsigned_abs, if◌then◌else◌}
 use Rattle.std.specs.Ordering.{int_eq}
 use Rattle.std.specs.Prelude.{Option, Some, None}
 use Rattle.sb_model.specs.Spots.{Vector, inner}

@@ -1,6 +1,7 @@
 //! Space boundaries, and the list of them.
 
-ghost use Rattle.std.specs.Prelude.{◌≡◌, [], ◌∷◌, ◌++◌, ◌<◌, ◌≤◌, ◌-◌, ◌↔◌, length, slice_get, IsSome, OnOk, OnErr};
+ghost use Rattle.std.specs.Prelude.{◌≡◌, [], ◌∷◌, ◌++◌, ◌<◌, ◌≤◌, ◌-◌, ◌↔◌, length, slice_get};
+ghost use Rattle.std.specs.Prelude.{IsSome, OnOk, OnErr};
 ghost use Rattle.std.specs.Option.{option_copied};
 
 use crate::patch::Patch;
@@ -59,7 +60,8 @@ impl Boundaries {
         }
     }
 
-    /// Appends one boundary. Want of memory leaves the list as it was; the boundary is dropped then.
+    /// Appends one boundary. Want of memory leaves the list as it was; the boundary is dropped
+    /// then.
     pub fn push(&mut self, item: Boundary) -> Result<(), AllocError>
         ensures ok { OnOk result (self.new ≡ self.old ++ item ∷ []) }
         ensures err { OnErr result (self.new ≡ self.old) }

@@ -4,8 +4,10 @@ ghost use Rattle.std.specs.Prelude.{◌≡◌, ◌↔◌, ◌==◌, ℕ, IsTrue,
 ghost use Rattle.std.specs.List.{list_any, find};
 ghost use Rattle.std.specs.Option.{option_copied};
 ghost use Rattle.std.specs.Result.{IsErrOf};
-ghost use Rattle.sb_model.specs.Building.{building, is_building, is_in_range, is_one_space, first_bad};
-ghost use Rattle.sb_model.specs.Building.{material_of, material_in as material_name, material_at as name_at};
+ghost use Rattle.sb_model.specs.Building.{building, is_building, is_in_range, is_one_space};
+ghost use Rattle.sb_model.specs.Building.{first_bad};
+ghost use Rattle.sb_model.specs.Building.{material_of, material_in as material_name};
+ghost use Rattle.sb_model.specs.Building.{material_at as name_at};
 
 use crate::layers::{Layer, Layering, Layers};
 use crate::products::{Element, Elements, Fillings, Openings, Spaces};

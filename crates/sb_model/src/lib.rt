@@ -17,6 +17,8 @@ mod outline;
 mod patch;
 mod prism;
 mod products;
+#[cfg(test)]
+mod tests;
 mod walk;
 
 pub use boundary::{Boundaries, Boundary, Cell, Cells};

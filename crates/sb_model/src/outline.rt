@@ -1,13 +1,15 @@
 //! The corners of patches.
 
-ghost use Rattle.std.specs.Prelude.{◌≡◌, ◌==◌, ◌<◌, length, int_lt, slice_get, IsTrue, Some, is_some};
+ghost use Rattle.std.specs.Prelude.{◌≡◌, ◌==◌, ◌<◌, length, int_lt, slice_get, IsTrue, Some};
+ghost use Rattle.std.specs.Prelude.{is_some};
 ghost use Rattle.std.specs.Ordering.{int_eq};
 ghost use Rattle.std.specs.Option.{option_copied, option_map};
 ghost use Rattle.sb_fraction.specs.Ratio.{is_fraction};
 ghost use Rattle.sb_model.specs.Plan.{edge, edges_of, edges_of_loop, place_after};
 ghost use Rattle.sb_model.specs.Sides.{line_of};
 ghost use Rattle.sb_model.specs.Faces.{runs_along, space_numbered, is_face_of};
-ghost use Rattle.sb_model.specs.Corners.{whole as whole_number, level_corner, side_corner, listed as corners_listed};
+ghost use Rattle.sb_model.specs.Corners.{whole as whole_number, level_corner, side_corner};
+ghost use Rattle.sb_model.specs.Corners.{listed as corners_listed};
 ghost use Rattle.sb_model.specs.Corners.{corners_of, is_level_side, is_straight, is_straight_edge};
 ghost use Rattle.sb_model.specs.Corners.{corners_in, side_corners, is_straight_face};
 
@@ -23,8 +25,8 @@ use sb_fraction::{Fraction, Point};
 ///
 /// Seen from outside the space they run counterclockwise. Forward, on Top and on a side whose edge
 /// runs along its direction: (low, upper), (low, lower), (high, lower), (high, upper). Backward, on
-/// the other faces: (high, upper), (high, lower), (low, lower), (low, upper). A corner that is equal
-/// to the one before it is left out.
+/// the other faces: (high, upper), (high, lower), (low, lower), (low, upper). A corner that is
+/// equal to the one before it is left out.
 pub fn corners(model: &Model, patch: &Patch) -> Corners
     requires face { IsTrue (is_face_of model.now patch.now.face) }
     requires straight { IsTrue (is_straight model.now patch.now) }

@@ -9,7 +9,8 @@ use sb_fraction::Fraction;
 /// A part of a face between two abscissae `low < high` and between a lower and an upper side.
 ///
 /// On Bottom and Top the sides are lines, on a side face they are heights. The lower side is
-/// nowhere above the upper one, and they meet at one end at most: a patch has three or four corners.
+/// nowhere above the upper one, and they meet at one end at most: a patch has three or four
+/// corners.
 #[derive(Clone, Copy, PartialEq)]
 pub struct Patch {
     pub face: Face,

@@ -1,1 +1,6 @@
 mod SpacesEndWhereTheyChange
+mod CreatedIsEmptyFirst
+mod BoxListRises
+mod FormsAreShort
+mod AnswersHaveTheirCause
+mod BoxListIsReportable

@@ -5,7 +5,7 @@ use Rattle.sb_model.specs.declared.boundary.Boundary.{Boundary}
 use Rattle.sb_run.specs.declared.answer.Answer.{Answer}
 use Rattle.sb_run.specs.declared.answer.Answer.TheVariants.{Done, Usage, ReadFault, TooLong, Refused, WriteFault, NoMemory}
 use Rattle.sb_run.specs.declared.answer.Code.{Code}
-use Rattle.sb_run.specs.declared.answer.Code.TheVariants.{Unbuilt}
+use Rattle.sb_run.specs.declared.answer.Code.TheVariants.{Shape, Range, OffGrid, Unbuilt}
 
 -- the status that the program ends with
 abbrev pub status : Answer → ℕ
@@ -24,7 +24,7 @@ step_of NoMemory = 0
 step_of Usage = 1
 step_of ReadFault = 2
 step_of TooLong = 3
-step_of (Refused n Unbuilt) = 4
+step_of (Refused n code) = 4
 step_of WriteFault = 5
 step_of (Done list) = 6
 
@@ -40,7 +40,7 @@ IsEarly answer = step_of answer ≤ 4
 abbrev pub spaces_in : List Boundary → ℕ
 spaces_in [] = 0
 spaces_in (b ∷ bs) =
-  (if list_any (λ c. c.patch.face.space == b.patch.face.space) bs then 0 else 1) + spaces_in bs
+    (if list_any (λ c. c.patch.face.space == b.patch.face.space) bs then 0 else 1) + spaces_in bs
 
 -- the spaces of the boundaries do not fall, from this number on
 abbrev pub have_rising_spaces : ℕ → List Boundary → Bool
@@ -51,13 +51,16 @@ have_rising_spaces from (b ∷ bs) = nat_le from b.patch.face.space && have_risi
 -- one, and its couples of counterparts
 abbrev pub done_line : List Boundary → List ℕ
 done_line list =
-     codes "spaces " ++ (decimal (spaces_in list)
-  ++ (codes ", boundaries " ++ (decimal (count_by (λ b. is_none b.parent) list)
-  ++ (codes ", openings " ++ (decimal (count_by (λ b. is_some b.parent) list)
-  ++ (codes ", pairs " ++ (decimal (count_by (λ b. is_some b.pair) list / 2) ++ codes "\n")))))))
+    codes "spaces " ++ (decimal (spaces_in list)
+    ++ (codes ", boundaries " ++ (decimal (count_by (λ b. is_none b.parent) list)
+    ++ (codes ", openings " ++ (decimal (count_by (λ b. is_some b.parent) list)
+    ++ (codes ", pairs " ++ (decimal (count_by (λ b. is_some b.pair) list / 2) ++ codes "\n")))))))
 
 -- the name of a code
 abbrev pub name_of : Code → List ℕ
+name_of Shape = codes "Shape"
+name_of Range = codes "Range"
+name_of OffGrid = codes "OffGrid"
 name_of Unbuilt = codes "Unbuilt"
 
 -- the line that is said for an answer

@@ -19,12 +19,12 @@ is_generated word = bytes_eq (take 5 word) (codes "demo:")
 -- the two paths of a command
 abbrev pub are_paths : List ℕ → List ℕ → Bool
 are_paths model report =
-  is_value model && is_value report && not (bytes_eq model report) && not (is_generated model)
+    is_value model && is_value report && not (bytes_eq model report) && not (is_generated model)
 
 -- the command is `MODEL --report C`, and nothing else
 abbrev pub command : List (List ℕ) → Option Command
 command (model ∷ option ∷ report ∷ []) =
-  if bytes_eq option (codes "--report") && are_paths model report
-  then Some (record { model = model; report = report })
-  else None
+    if bytes_eq option (codes "--report") && are_paths model report
+    then Some (record { model = model; report = report })
+    else None
 command _ = None

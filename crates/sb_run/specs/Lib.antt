@@ -2,4 +2,5 @@
 pub mod Command
 pub mod Answers
 pub mod Promises
+pub mod Judgements
 pub mod Steps

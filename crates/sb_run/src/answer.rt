@@ -4,10 +4,16 @@ ghost use Rattle.sb_run.specs.Answers.{status};
 
 use sb_model::Boundaries;
 
-/// Why an input of this length is refused.
+/// Why an input is refused.
 #[derive(Clone, Copy)]
 pub enum Code {
-    /// The program does not read inputs of this form yet.
+    /// A shape is none that is read: a size of the box is not above 0.
+    Shape,
+    /// A coordinate is more than 500,000 mm in size.
+    Range,
+    /// A corner lies more than 10 µm from a whole millimetre.
+    OffGrid,
+    /// The input is not of the first form, which is all that is read yet.
     Unbuilt,
 }
 

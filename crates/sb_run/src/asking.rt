@@ -3,6 +3,7 @@ ghost use Rattle.std.specs.Prelude.{◌≡◌, IfSome, IfNone, Some, None, map, 
 ghost use Rattle.sb_run.specs.Command.{command, is_value, is_generated, are_paths};
 
 /// The paths that the words name.
+#[derive(Clone, Copy)]
 pub(crate) struct Command<'a> {
     pub model: &'a str,
     pub report: &'a str,

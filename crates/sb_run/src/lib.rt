@@ -4,6 +4,10 @@
 
 mod answer;
 mod asking;
+mod judging;
+mod outside;
 mod telling;
+mod top;
 
 pub use answer::{Answer, Code, status};
+pub use top::run;

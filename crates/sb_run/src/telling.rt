@@ -1,11 +1,14 @@
 // The lines that are said for the answers.
 ghost use Rattle.std.specs.Prelude.{◌≡◌, IfOk, true, string_bytes, is_some, is_none, count_by};
-ghost use Rattle.sb_run.specs.Answers.{done_line, spaces_in, have_rising_spaces, line, name_of};
+ghost use Rattle.sb_run.specs.Answers.{done_line, spaces_in, have_rising_spaces, line, name_of, IsEarly};
 ghost use Rattle.sb_run.specs.Steps.{line_bytes, ends_space};
 
 use crate::answer::{Answer, Code};
 use sb_model::{Boundaries, Boundary};
 use std::alloc::{AllocError, Global};
+
+/// The line for words that are no command.
+pub(crate) const USAGE: &str = "usage: sbgen MODEL --report C\n";
 
 /// A line: one that stands in the program, or one that was made.
 #[derive(Drop)]
@@ -82,6 +85,22 @@ fn ends_space(boundaries: &[Boundary]) -> bool
     }
 }
 
+/// The line of an answer that comes before anything is created.
+pub(crate) fn early_line(alloc: Global, answer: &Answer) -> Result<Line, AllocError>
+    requires { IsEarly answer.now }
+    ensures { IfOk result (λ text. line_bytes text ≡ line answer.now) }
+{
+    match answer {
+        Answer::Usage => Ok(Line::Fixed(USAGE)),
+        Answer::ReadFault => Ok(Line::Fixed("read fault\n")),
+        Answer::TooLong => Ok(Line::Fixed("too long\n")),
+        Answer::NoMemory => Ok(Line::Fixed("no memory\n")),
+        Answer::Refused(number, code) => Ok(Line::Made(refused_text(alloc, *number, *code)?)),
+        // These come after something was created.
+        Answer::Done(_) | Answer::WriteFault => unreachable!(),
+    }
+}
+
 /// The line of a refusal.
 pub(crate) fn refused_text(alloc: Global, number: u32, code: Code) -> Result<String, AllocError>
     ensures { IfOk result (λ text. string_bytes text ≡ line (Answer.Refused number code)) }
@@ -94,6 +113,9 @@ fn name_of(code: Code) -> &'static str
     ensures { result.now ≡ name_of code }
 {
     match code {
+        Code::Shape => "Shape",
+        Code::Range => "Range",
+        Code::OffGrid => "OffGrid",
         Code::Unbuilt => "Unbuilt",
     }
 }

@@ -1,3 +1,5 @@
--- Lemmas on whole texts, each file a claim.
+-- Lemmas, each file a claim.
+pub mod CallsCompose
 mod PiecesJoin
 mod PiecesAppend
+mod Examples

@@ -1,5 +1,6 @@
 -- Reading piece by piece loses nothing: what was taken and what is left is the same text all along.
-use Rattle.std.proofs.Common.{◌≡◌, ℕ, ◌<◌, List, [], ◌++◌, length, take, drop, Option, Some, None, refl, zero, suc, ◌∙◌, arith, append_assoc}
+use Rattle.std.proofs.Common.{◌≡◌, ℕ, zero, suc, ◌<◌, List, [], ◌++◌, length, take, drop}
+use Rattle.std.proofs.Common.{Option, Some, None, refl, arith, append_assoc}
 use Rattle.std.specs.Bool.{OnFalse}
 use Rattle.std.specs.Prelude.{is_some, nat_lt}
 use Rattle.std.specs.Option.{ForSome, option_map}
@@ -8,24 +9,10 @@ use Rattle.sb_shelf.specs.Outside.{Outside, OnlyReads}
 use Rattle.sb_shelf.specs.Calls.{Moves}
 use Rattle.sb_shelf.specs.WholeTexts.{taken_and_left}
 
--- so far nothing but reading was done, and what was taken and what is left is what is under the path
+-- so far nothing but reading was done, and what was taken with what is left is the text of the path
 pub record IsReading (path : List ℕ) (start now : Outside) (taken : List ℕ) : Type 0 where
   pub keeps : OnlyReads start now
   pub whole : ForSome (start.under path) (λ told. taken_and_left taken now ≡ Some told)
-
--- two calls that only read are as one
-pub only_reads_twice : {a b c : Outside} → OnlyReads a b → OnlyReads b c → OnlyReads a c
-only_reads_twice first second = record {
-  under = λ path. second.under path ∙ first.under path;
-  tells_left = second.tells_left ∙ first.tells_left;
-  outs = λ out. record {
-    is_created = (second.outs out).is_created ∙ (first.outs out).is_created;
-    bytes = (second.outs out).bytes ∙ (first.outs out).bytes;
-  };
-  read_faults = omega (arith, first.read_faults, second.read_faults);
-  file_faults = second.file_faults ∙ first.file_faults;
-  said_faults = second.said_faults ∙ first.said_faults;
-}
 
 joined_where_told : (was now : Option (List ℕ)) (taken came : List ℕ) (n : ℕ)
     → is_some now ≡ is_some was
@@ -35,7 +22,8 @@ joined_where_told None None taken came n tells told = refl
 joined_where_told None (Some left) taken came n tells told = cc
 joined_where_told (Some left) now taken came n tells told =
     let moved = told left refl in
-    rw (moved.1, moved.0, append_assoc taken (take n left) (drop n left), take-append-drop n left) refl
+    let regrouped = append_assoc taken (take n left) (drop n left) in
+    rw (moved.1, moved.0, regrouped, take-append-drop n left) refl
 
 -- a piece goes from what is left to the end of what was taken
 pub pieces_join : (was now : Outside) (taken before after : List ℕ) (n : ℕ)

@@ -1,19 +1,21 @@
 -- What the four calls of a shelf do, each as a relation of the outside before and after it.
-use Rattle.std.specs.Prelude.{◌≡◌, ◌↔◌, ℕ, ◌<◌, ◌≤◌, true, List, [], ◌++◌, length, take, drop, Some, Result, IfOk, OnOk, OnErr}
+use Rattle.std.specs.Prelude.{◌≡◌, ◌↔◌, ℕ, ◌<◌, ◌≤◌, true, Some, Result, IfOk, OnOk, OnErr}
+use Rattle.std.specs.Prelude.{List, [], ◌++◌, length, take, drop}
 use Rattle.std.specs.Option.{ForSome}
 use Rattle.sb_shelf.specs.declared.shelf.Out.{Out}
 use Rattle.sb_shelf.specs.declared.shelf.Failed.{Failed}
 use Rattle.sb_shelf.specs.Outside.{Outside, Rose, faults_of, OnlyReads, OnlyOutput, OnlyWrites}
 
 -- `open`: the bytes under the path, where they are told, are what is left to read.
-pub record Opens (path : List ℕ) (result : Result (Unit {0}) Failed) (old new : Outside) : Type 0 where
+pub record Opens
+    (path : List ℕ) (result : Result (Unit {0}) Failed) (old new : Outside) : Type 0 where
   pub keeps : OnlyReads old new
   pub ok : OnOk result (ForSome (old.under path) (λ bytes. new.left ≡ Some bytes))
   pub failed : OnErr result (Rose old.read_faults new.read_faults)
   pub as_before : OnErr result (new.left ≡ old.left)
 
--- The first n of the bytes that were left have come into the piece, and the rest is left. None of them
--- comes into a piece that is not empty exactly at the end.
+-- The first n of the bytes that were left have come into the piece, and the rest is left. None of
+-- them comes into a piece that is not empty exactly at the end.
 pub record Moves (n : ℕ) (before after left : List ℕ) (new : Outside) : Type 0 where
   pub there : n ≤ length left
   pub moved : take n after ≡ take n left
@@ -21,9 +23,10 @@ pub record Moves (n : ℕ) (before after left : List ℕ) (new : Outside) : Type
   pub remaining : new.left ≡ Some (drop n left)
   pub at_end : 0 < length after → ((n ≡ 0) ↔ (left ≡ []))
 
--- `read` into a piece: `before` and `after` are the bytes of the piece. After a failed call they are
--- the same where it is told what is left; a host does not say what a failed read leaves there.
-pub record Reads (before after : List ℕ) (result : Result ℕ Failed) (old new : Outside) : Type 0 where
+-- `read` into a piece: `before` and `after` are the bytes of the piece. After a failed call they
+-- are the same where it is told what is left; a host does not say what a failed read leaves there.
+pub record Reads
+    (before after : List ℕ) (result : Result ℕ Failed) (old new : Outside) : Type 0 where
   pub keeps : OnlyReads old new
   pub within : IfOk result (λ n. n ≤ length after)
   pub ok : IfOk result (λ n. ForSome old.left (λ left. Moves n before after left new))
@@ -32,7 +35,8 @@ pub record Reads (before after : List ℕ) (result : Result ℕ Failed) (old new
   pub untouched : OnErr result (ForSome old.left (λ _. after ≡ before))
 
 -- `create`: the output is created and, where its bytes are told, empty.
-pub record Creates (out : Out) (result : Result (Unit {0}) Failed) (old new : Outside) : Type 0 where
+pub record Creates
+    (out : Out) (result : Result (Unit {0}) Failed) (old new : Outside) : Type 0 where
   pub keeps : OnlyOutput out old new
   pub file_faults : old.file_faults ≤ new.file_faults
   pub said_faults : new.said_faults ≡ old.said_faults
@@ -44,10 +48,12 @@ pub record Creates (out : Out) (result : Result (Unit {0}) Failed) (old new : Ou
 
 -- `write`: the first n bytes of the piece stand behind what stood on the output; at least one of a
 -- piece that is not empty.
-pub record Writes (out : Out) (piece : List ℕ) (result : Result ℕ Failed) (old new : Outside) : Type 0 where
+pub record Writes
+    (out : Out) (piece : List ℕ) (result : Result ℕ Failed) (old new : Outside) : Type 0 where
   pub keeps : OnlyWrites out old new
   pub within : IfOk result (λ n. n ≤ length piece)
   pub some : IfOk result (λ n. 0 < length piece → 0 < n)
-  pub ok : IfOk result (λ n. ForSome (old.bytes out) (λ bytes. new.bytes out ≡ Some (bytes ++ take n piece)))
+  pub ok : IfOk result (λ n. ForSome (old.bytes out)
+      (λ bytes. new.bytes out ≡ Some (bytes ++ take n piece)))
   pub failed : OnErr result (Rose (faults_of out old) (faults_of out new))
   pub as_before : OnErr result (new.bytes out ≡ old.bytes out)

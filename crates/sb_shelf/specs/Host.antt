@@ -1,15 +1,6 @@
 -- What a shelf over real files stands for: it tells no bytes.
-use Rattle.std.specs.Prelude.{ℕ, Bool, true, None}
-use Rattle.sb_shelf.specs.declared.shelf.Out.{Out}
-use Rattle.sb_shelf.specs.declared.shelf.Out.TheVariants.{Ifc, Idf, Report, Said}
-use Rattle.sb_shelf.specs.Outside.{Outside}
-
--- which outputs are created: each file as given, and the message always
-abbrev pub created_of : Bool → Bool → Bool → Out → Bool
-created_of ifc idf report Ifc = ifc
-created_of ifc idf report Idf = idf
-created_of ifc idf report Report = report
-created_of ifc idf report Said = true
+use Rattle.std.specs.Prelude.{ℕ, Bool, None}
+use Rattle.sb_shelf.specs.Outside.{Outside, created_of}
 
 -- from which files are created, and from the three counts of faults
 abbrev pub host_state : Bool → Bool → Bool → ℕ → ℕ → ℕ → Outside

@@ -3,5 +3,7 @@ pub mod Outside
 pub mod Calls
 pub mod WholeTexts
 pub mod Counting
+pub mod Input
 pub mod Memory
+pub mod Steady
 pub mod Host

@@ -1,12 +1,12 @@
 -- What a shelf in memory stands for, and what its calls do beyond those of any shelf.
-use Rattle.std.specs.Prelude.{◌≡◌, ◌≢◌, ℕ, min, Bool, true, List, [], drop, Some, if◌then◌else◌}
-use Rattle.std.specs.Str.{bytes_eq}
+use Rattle.std.specs.Prelude.{◌≡◌, ◌≢◌, ℕ, min, Bool, true, List, [], Some}
 use Rattle.sb_shelf.specs.declared.shelf.Out.{Out}
 use Rattle.sb_shelf.specs.declared.shelf.Out.TheVariants.{Ifc, Idf, Report, Said}
 use Rattle.sb_shelf.specs.declared.sheet.Sheet.{Sheet}
 use Rattle.sb_shelf.specs.declared.memory.MemoryShelf.{MemoryShelf}
 use Rattle.sb_shelf.specs.Outside.{Outside, IsUntouched, one_more}
 use Rattle.sb_shelf.specs.Counting.{is_among}
+use Rattle.sb_shelf.specs.Input.{left_of, told_under}
 
 abbrev pub sheet_of : MemoryShelf → Out → Sheet
 sheet_of m Ifc = m.ifc
@@ -21,8 +21,8 @@ room_of m out = (sheet_of m out).room
 -- a shelf in memory tells everything; a path that it does not hold has no bytes
 abbrev pub memory_state : MemoryShelf → Outside
 memory_state m = record {
-  under = λ path. Some (if bytes_eq path m.path then m.bytes else []);
-  left = Some (drop m.taken m.bytes);
+  under = λ path. Some (told_under m.input path);
+  left = Some (left_of m.input);
   is_created = λ out. (sheet_of m out).is_created;
   bytes = λ out. Some (sheet_of m out).bytes.items;
   read_faults = m.read_faults;
@@ -41,8 +41,8 @@ at_most_a_piece m bytes = min m.piece bytes
 -- What a shelf holds, which of its calls fail and how much they move is given once and for all; the
 -- number of its last call is this one now.
 pub record IsCalled (calls : ℕ) (old new : MemoryShelf) : Type 0 where
-  pub path : new.path ≡ old.path
-  pub bytes : new.bytes ≡ old.bytes
+  pub path : new.input.path ≡ old.input.path
+  pub bytes : new.input.bytes ≡ old.input.bytes
   pub failing : new.failing ≡ old.failing
   pub piece : new.piece ≡ old.piece
   pub number : new.calls ≡ calls
@@ -63,7 +63,8 @@ SameOtherRooms out old new = (other : Out) → other ≢ out → room_of new oth
 pub record SameButRooms (old new : MemoryShelf) : Type 0 where
   pub called : IsCalled old.calls old new
   pub left : (memory_state new).left ≡ (memory_state old).left
-  pub is_created : (out : Out) → (memory_state new).is_created out ≡ (memory_state old).is_created out
+  pub is_created : (out : Out)
+      → (memory_state new).is_created out ≡ (memory_state old).is_created out
   pub written : (out : Out) → (memory_state new).bytes out ≡ (memory_state old).bytes out
   pub read_faults : new.read_faults ≡ old.read_faults
   pub file_faults : new.file_faults ≡ old.file_faults
@@ -72,8 +73,8 @@ pub record SameButRooms (old new : MemoryShelf) : Type 0 where
 -- A new shelf: no call was made and none has failed, nothing is left to read, only the message is
 -- created, and there is no room on any output.
 pub record IsNew (path bytes failing : List ℕ) (piece : ℕ) (m : MemoryShelf) : Type 0 where
-  pub path_is : m.path ≡ path
-  pub bytes_are : m.bytes ≡ bytes
+  pub path_is : m.input.path ≡ path
+  pub bytes_are : m.input.bytes ≡ bytes
   pub failing_are : m.failing ≡ failing
   pub piece_is : m.piece ≡ piece
   pub calls : m.calls ≡ 0

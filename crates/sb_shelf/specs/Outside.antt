@@ -1,5 +1,5 @@
 -- What a shelf stands for: what can be read, what was written, and how often its calls have failed.
-use Rattle.std.specs.Prelude.{◌≡◌, ◌≢◌, ℕ, ◌+◌, ◌≤◌, min, Bool, false, List, Option, is_some}
+use Rattle.std.specs.Prelude.{◌≡◌, ◌≢◌, ℕ, ◌+◌, ◌≤◌, min, Bool, false, true, List, Option, is_some}
 use Rattle.sb_shelf.specs.declared.shelf.Out.{Out}
 use Rattle.sb_shelf.specs.declared.shelf.Out.TheVariants.{Ifc, Idf, Report, Said}
 
@@ -46,6 +46,13 @@ other_faults_of Idf s = s.said_faults
 other_faults_of Report s = s.said_faults
 other_faults_of Said s = s.file_faults
 
+-- which outputs are created: each file as given, and the message always
+abbrev pub created_of : Bool → Bool → Bool → Out → Bool
+created_of ifc idf report Ifc = ifc
+created_of ifc idf report Idf = idf
+created_of ifc idf report Report = report
+created_of ifc idf report Said = true
+
 -- none of the three files is created
 pub record IsUntouched (s : Outside) : Type 0 where
   pub ifc : s.is_created Ifc ≡ false
@@ -57,8 +64,8 @@ pub record SameOut (out : Out) (old new : Outside) : Type 0 where
   pub is_created : new.is_created out ≡ old.is_created out
   pub bytes : new.bytes out ≡ old.bytes out
 
--- Of the outside only what is left to read has changed, and the count of read faults has not fallen.
--- Whether it is told what is left stays.
+-- Of the outside only what is left to read has changed, and the count of read faults has not
+-- fallen. Whether it is told what is left stays.
 pub record OnlyReads (old new : Outside) : Type 0 where
   pub under : (path : List ℕ) → new.under path ≡ old.under path
   pub tells_left : is_some new.left ≡ is_some old.left
@@ -67,8 +74,8 @@ pub record OnlyReads (old new : Outside) : Type 0 where
   pub file_faults : new.file_faults ≡ old.file_faults
   pub said_faults : new.said_faults ≡ old.said_faults
 
--- What can be read is as it was, and so are the other outputs. Whether the bytes on this one are told
--- stays.
+-- What can be read is as it was, and so are the other outputs. Whether the bytes on this one are
+-- told stays.
 pub record OnlyOutput (out : Out) (old new : Outside) : Type 0 where
   pub under : (path : List ℕ) → new.under path ≡ old.under path
   pub left : new.left ≡ old.left

@@ -13,7 +13,7 @@ IsJudged result = (¬ IsErrOf result NoMemory) × (¬ IsErrOf result ReadFault)
 abbrev pub taken_and_left : List ℕ → Outside → Option (List ℕ)
 taken_and_left taken s = option_map (λ left. taken ++ left) s.left
 
--- What stands there now is what stood there before, and then a first part of the text: before "ab"
--- and now "abc" is a first part of "cd", "abd" is none.
+-- What stands there now is what stood there before, and then a first part of the text: "abc" is
+-- "ab" and a first part of "cd", and "abd" is not.
 abbrev pub AppendsFirstOf : List ℕ → List ℕ → List ℕ → Type 0
 AppendsFirstOf text before now = now ≡ before ++ take (length now - length before) text

@@ -1,4 +1,5 @@
-ghost use Rattle.std.specs.Prelude.{◌≡◌, ◌≤◌, ◌-◌, ◌++◌, true, length, is_err, nat_lt, ◌||◌, IfOk, OnOk, OnErr};
+ghost use Rattle.std.specs.Prelude.{◌≡◌, ◌≤◌, ◌-◌, ◌++◌, ◌||◌, true, length, nat_lt};
+ghost use Rattle.std.specs.Prelude.{is_err, IfOk, OnOk, OnErr};
 ghost use Rattle.sb_shelf.specs.Outside.{one_more};
 ghost use Rattle.sb_shelf.specs.Counting.{is_among, count_after};
 
@@ -26,8 +27,8 @@ pub(crate) fn is_next_listed(calls: &mut u64, failing: &Calls) -> bool
     failing.as_slice().contains(calls)
 }
 
-/// Appends these bytes, or fails and counts the fault: where the call is listed, and where the sheet
-/// has no room for all of them.
+/// Appends these bytes, or fails and counts the fault: where the call is listed, and where the
+/// sheet has no room for all of them.
 pub(crate) fn append_unless(
     is_listed: bool,
     sheet: &mut Sheet,

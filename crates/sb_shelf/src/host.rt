@@ -1,4 +1,4 @@
-ghost use Rattle.std.specs.Prelude.{◌≡◌, ◌≤◌, false, true, length, is_some, IfOk};
+ghost use Rattle.std.specs.Prelude.{◌≡◌, ◌≤◌, false, true, length, is_some, IfOk, OnOk};
 ghost use Rattle.sb_shelf.specs.Counting.{IsCounted};
 
 use crate::calls::raise;
@@ -28,11 +28,11 @@ impl<R: Files + Print + Drop> HostShelf<R> {
     ghost use Rattle.sb_shelf.specs.Outside.{IsUntouched};
     ghost use Rattle.sb_shelf.specs.Host.{host_state};
 
-    /// A shelf over the files and the standard output of this runtime: nothing is open, and only the
-    /// message is created.
+    /// A shelf over the files and the standard output of this runtime: nothing is open, and only
+    /// the message is created.
     pub fn new(rt: R) -> Self
-        ensures state { ⟦<HostShelf<R> as Shelf>⟧.state result ≡ host_state false false false 0 0 0 }
-        ensures files { IsUntouched (⟦<HostShelf<R> as Shelf>⟧.state result) }
+        ensures state { ⟦<Self as Shelf>⟧.state result ≡ host_state false false false 0 0 0 }
+        ensures files { IsUntouched (⟦<Self as Shelf>⟧.state result) }
     {
         HostShelf {
             rt,
@@ -49,15 +49,24 @@ impl<R: Files + Print + Drop> HostShelf<R> {
 
 impl<R: Files + Print + Drop> Shelf for HostShelf<R> {
     ghost use Rattle.sb_shelf.specs.Host.{host_state};
+    ghost use Rattle.sb_shelf.specs.Calls.{Opens, Reads, Creates, Writes};
+    ghost use Rattle.sb_shelf.specs.Counting.{CountsReads, CountsCreates, CountsWrites};
     ghost use Rattle.std.specs.Prelude.{refl};
 
-    ghost state = { λ h. host_state (is_some h.ifc) (is_some h.idf) (is_some h.report) h.read_faults h.file_faults h.said_faults };
+    ghost state = { λ h. host_state (is_some h.ifc) (is_some h.idf) (is_some h.report)
+        h.read_faults h.file_faults h.said_faults };
 
     ghost said_is_created = { λ h. refl };
 
     ghost tells_left = { λ h path told. told };
 
-    fn open(&mut self, path: &str) -> Result<(), Failed> {
+    fn open(&mut self, path: &str) -> Result<(), Failed>
+        ensures meets { let state = ⟦<Self as Shelf>⟧.state in
+            Opens path.now result (state self.old) (state self.new) }
+        ensures faults { let state = ⟦<Self as Shelf>⟧.state in
+            CountsReads result (state self.old) (state self.new) }
+        ensures opened { OnOk result (is_some self.new.input ≡ true) }
+    {
         match File::open(&self.rt, path) {
             Ok(file) => {
                 self.input = Some(file);
@@ -70,7 +79,12 @@ impl<R: Files + Print + Drop> Shelf for HostShelf<R> {
         }
     }
 
-    fn read(&mut self, into: &mut [u8]) -> Result<usize, Failed> {
+    fn read(&mut self, into: &mut [u8]) -> Result<usize, Failed>
+        ensures meets { let state = ⟦<Self as Shelf>⟧.state in
+            Reads into.old into.new result (state self.old) (state self.new) }
+        ensures faults { let state = ⟦<Self as Shelf>⟧.state in
+            CountsReads result (state self.old) (state self.new) }
+    {
         let Some(file) = &mut self.input else {
             return Ok(0);
         };
@@ -83,7 +97,13 @@ impl<R: Files + Print + Drop> Shelf for HostShelf<R> {
         }
     }
 
-    fn create(&mut self, out: Out, path: &str) -> Result<(), Failed> {
+    fn create(&mut self, out: Out, path: &str) -> Result<(), Failed>
+        requires { (⟦<Self as Shelf>⟧.state self.old).is_created out ≡ false }
+        ensures meets { let state = ⟦<Self as Shelf>⟧.state in
+            Creates out result (state self.old) (state self.new) }
+        ensures faults { let state = ⟦<Self as Shelf>⟧.state in
+            CountsCreates result (state self.old) (state self.new) }
+    {
         let Ok(file) = File::create(&self.rt, path) else {
             raise(&mut self.file_faults);
             return Err(Failed);
@@ -98,7 +118,13 @@ impl<R: Files + Print + Drop> Shelf for HostShelf<R> {
         Ok(())
     }
 
-    fn write(&mut self, out: Out, piece: &[u8]) -> Result<usize, Failed> {
+    fn write(&mut self, out: Out, piece: &[u8]) -> Result<usize, Failed>
+        requires { (⟦<Self as Shelf>⟧.state self.old).is_created out ≡ true }
+        ensures meets { let state = ⟦<Self as Shelf>⟧.state in
+            Writes out piece.now result (state self.old) (state self.new) }
+        ensures faults { let state = ⟦<Self as Shelf>⟧.state in
+            CountsWrites out result (state self.old) (state self.new) }
+    {
         match out {
             Out::Ifc => write_to(&mut self.ifc, piece, &mut self.file_faults),
             Out::Idf => write_to(&mut self.idf, piece, &mut self.file_faults),
@@ -118,8 +144,8 @@ fn write_to<F: Write>(file: &mut Option<F>, piece: &[u8], faults: &mut u64) -> R
     counted(answer, piece, faults)
 }
 
-// The answer of a write as a shelf gives it: an error is counted, and so is 0 for bytes that were to
-// be written.
+// The answer of a write as a shelf gives it: an error is counted, and so is 0 for bytes that were
+// to be written.
 fn counted(answer: io::Result<usize>, piece: &[u8], faults: &mut u64) -> Result<usize, Failed>
     requires { IfOk answer (λ n. n ≤ length piece.now) }
     ensures { IsCounted piece.now result faults.old faults.new }

@@ -1,6 +1,8 @@
-ghost use Rattle.std.specs.Prelude.{◌≡◌, ◌-◌, ◌<◌, ◌≤◌, false, true, ℕ, length, min, is_some, is_err, nat_lt, ◌||◌, IfOk, IfSome, OnOk, OnErr, Some};
+ghost use Rattle.std.specs.Prelude.{◌≡◌, ◌-◌, ◌<◌, ◌≤◌, ◌||◌, false, true, length, min, nat_lt};
+ghost use Rattle.std.specs.Prelude.{Some, is_some, is_err, IfOk, IfSome, OnOk, OnErr};
 
 use crate::calls::{Calls, append_unless, is_next_listed, raise};
+use crate::input::Input;
 use crate::sheet::Sheet;
 use crate::shelf::{Failed, Out, Shelf};
 use sb_list::Text;
@@ -9,16 +11,13 @@ use std::alloc::{AllocError, Global};
 /// A shelf in memory, which tells everything and fails at the calls that it is told to fail.
 ///
 /// It holds bytes under one path; any other path has none. It numbers its calls of `open`, `read`,
-/// `create` and `write` from 1 and fails those that are listed; once the number is 2^64 - 1 it stays
-/// there. A write also fails where its bytes do not fit in the room of their output, which is 0 until
-/// [`MemoryShelf::reserve`] sets it. Each count of faults is the number of its calls that have failed,
-/// at most 2^64 - 1.
+/// `create` and `write` from 1 and fails those that are listed; once the number is 2^64 - 1 it
+/// stays there. A write also fails where its bytes do not fit in the room of their output, which is
+/// 0 until [`MemoryShelf::reserve`] sets it. Each count of faults is the number of its calls that
+/// have failed, at most 2^64 - 1.
 #[derive(Drop)]
 pub struct MemoryShelf {
-    path: Text,
-    bytes: Text,
-    /// How many of the bytes were taken: all of them before the first `open`.
-    taken: usize,
+    input: Input,
     failing: Calls,
     calls: u64,
     /// The most bytes that a read or a write moves.
@@ -30,7 +29,6 @@ pub struct MemoryShelf {
     read_faults: u64,
     file_faults: u64,
     said_faults: u64,
-    ghost taken_is_there: { taken ≤ length bytes },
     ghost moves_some: { 0 < piece },
     ghost message_is_created: { said.is_created ≡ true },
 }
@@ -39,17 +37,14 @@ impl MemoryShelf {
     ghost use Rattle.sb_shelf.specs.Memory.{IsNew, SameButRooms, room_of, memory_state};
     ghost use Rattle.sb_shelf.specs.declared.shelf.Out.{Out};
 
-    /// A shelf with these bytes under this path, where the calls of these numbers will fail and a read
-    /// or a write moves at most `piece` bytes.
+    /// A shelf with these bytes under this path, where the calls of these numbers will fail and a
+    /// read or a write moves at most `piece` bytes.
     pub fn new(alloc: Global, path: Text, bytes: Text, failing: Calls, piece: usize) -> Self
         requires { 0 < piece }
         ensures { IsNew path bytes failing piece result }
     {
-        let taken = bytes.len();
         MemoryShelf {
-            path,
-            bytes,
-            taken,
+            input: Input::new(path, bytes),
             failing,
             calls: 0,
             piece,
@@ -63,8 +58,8 @@ impl MemoryShelf {
         }
     }
 
-    /// Sets the room that is left on each of the four outputs to so many bytes. Want of memory leaves
-    /// the room as it was.
+    /// Sets the room that is left on each of the four outputs to so many bytes. Want of memory
+    /// leaves the room as it was.
     pub fn reserve(&mut self, bytes: usize) -> Result<(), AllocError>
         ensures room { OnOk result ((out : Out) → room_of self.new out ≡ bytes) }
         ensures err { OnErr result ((out : Out) → room_of self.new out ≡ room_of self.old out) }
@@ -84,7 +79,8 @@ impl MemoryShelf {
     /// The bytes on the output, or `None` exactly where it is not created.
     pub fn written(&self, out: Out) -> Option<&[u8]>
         ensures created { is_some result ≡ (memory_state self.now).is_created out }
-        ensures bytes { IfSome result (λ bytes. (memory_state self.now).bytes out ≡ Some bytes.now) }
+        ensures bytes { IfSome result
+            (λ bytes. (memory_state self.now).bytes out ≡ Some bytes.now) }
     {
         let sheet = match out {
             Out::Ifc => &self.ifc,
@@ -102,9 +98,9 @@ impl MemoryShelf {
 
 impl Shelf for MemoryShelf {
     ghost use Rattle.sb_shelf.specs.Calls.{Opens, Reads, Creates, Writes};
-    ghost use Rattle.sb_shelf.specs.Outside.{faults_of};
-    ghost use Rattle.sb_shelf.specs.Memory.{memory_state, is_listed, at_most_a_piece, room_of, IsCall, SameRooms, SameOtherRooms};
-    ghost use Rattle.sb_shelf.specs.Counting.{count_after};
+    ghost use Rattle.sb_shelf.specs.Memory.{memory_state, is_listed, at_most_a_piece, room_of};
+    ghost use Rattle.sb_shelf.specs.Memory.{IsCall, SameRooms, SameOtherRooms};
+    ghost use Rattle.sb_shelf.specs.Counting.{CountsReads, CountsCreates, CountsWrites};
     ghost use Rattle.std.proofs.Common.{refl};
 
     ghost state = { memory_state };
@@ -116,7 +112,7 @@ impl Shelf for MemoryShelf {
     fn open(&mut self, path: &str) -> Result<(), Failed>
         ensures meets { Opens path.now result (memory_state self.old) (memory_state self.new) }
         ensures fails { is_err result ≡ is_listed self.old }
-        ensures faults { (memory_state self.new).read_faults ≡ count_after result (memory_state self.old).read_faults }
+        ensures faults { CountsReads result (memory_state self.old) (memory_state self.new) }
         ensures called { IsCall self.old self.new }
         ensures rooms { SameRooms self.old self.new }
     {
@@ -124,20 +120,17 @@ impl Shelf for MemoryShelf {
             raise(&mut self.read_faults);
             return Err(Failed);
         }
-        if path.as_bytes() == self.path.bytes() {
-            self.taken = 0;
-        } else {
-            self.taken = self.bytes.len();
-        }
+        self.input.open(path);
         Ok(())
     }
 
     fn read(&mut self, into: &mut [u8]) -> Result<usize, Failed>
-        ensures meets { Reads into.old into.new result (memory_state self.old) (memory_state self.new) }
+        ensures meets { Reads into.old into.new result
+            (memory_state self.old) (memory_state self.new) }
         ensures fails { is_err result ≡ is_listed self.old }
         ensures count { IfOk result (λ n. IfSome (memory_state self.old).left (λ left.
             n ≡ at_most_a_piece self.old (min (length into.old) (length left)))) }
-        ensures faults { (memory_state self.new).read_faults ≡ count_after result (memory_state self.old).read_faults }
+        ensures faults { CountsReads result (memory_state self.old) (memory_state self.new) }
         ensures called { IsCall self.old self.new }
         ensures rooms { SameRooms self.old self.new }
     {
@@ -145,18 +138,14 @@ impl Shelf for MemoryShelf {
             raise(&mut self.read_faults);
             return Err(Failed);
         }
-        let left = &self.bytes.bytes()[self.taken..];
-        let count = self.piece.min(into.len().min(left.len()));
-        into[..count].copy_from_slice(&left[..count]);
-        self.taken += count;
-        Ok(count)
+        Ok(self.input.read(into, self.piece))
     }
 
     fn create(&mut self, out: Out, _path: &str) -> Result<(), Failed>
         requires { (memory_state self.old).is_created out ≡ false }
         ensures meets { Creates out result (memory_state self.old) (memory_state self.new) }
         ensures fails { is_err result ≡ is_listed self.old }
-        ensures faults { (memory_state self.new).file_faults ≡ count_after result (memory_state self.old).file_faults }
+        ensures faults { CountsCreates result (memory_state self.old) (memory_state self.new) }
         ensures called { IsCall self.old self.new }
         ensures rooms { SameRooms self.old self.new }
     {
@@ -175,11 +164,12 @@ impl Shelf for MemoryShelf {
 
     fn write(&mut self, out: Out, piece: &[u8]) -> Result<usize, Failed>
         requires { (memory_state self.old).is_created out ≡ true }
-        ensures meets { Writes out piece.now result (memory_state self.old) (memory_state self.new) }
+        ensures meets { Writes out piece.now result
+            (memory_state self.old) (memory_state self.new) }
         ensures fails { is_err result ≡ (is_listed self.old
             || nat_lt (room_of self.old out) (at_most_a_piece self.old (length piece.now))) }
         ensures count { IfOk result (λ n. n ≡ at_most_a_piece self.old (length piece.now)) }
-        ensures faults { faults_of out (memory_state self.new) ≡ count_after result (faults_of out (memory_state self.old)) }
+        ensures faults { CountsWrites out result (memory_state self.old) (memory_state self.new) }
         ensures called { IsCall self.old self.new }
         ensures lowered { IfOk result (λ n. room_of self.new out ≡ room_of self.old out - n) }
         ensures room_stays { OnErr result (room_of self.new out ≡ room_of self.old out) }

@@ -1,4 +1,5 @@
-ghost use Rattle.std.specs.Prelude.{◌≡◌, ◌+◌, ◌<◌, ◌≤◌, ◌↔◌, [], length, Some, IfOk, IfErr, OnOk, IsErrOf, vec_len};
+ghost use Rattle.std.specs.Prelude.{◌≡◌, ◌<◌, ◌≤◌, ◌↔◌, [], length, vec_len};
+ghost use Rattle.std.specs.Prelude.{IfOk, IfErr, OnOk, IsErrOf};
 ghost use Rattle.std.specs.Bool.{OnTrue, OnFalse};
 ghost use Rattle.std.specs.Option.{ForSome};
 ghost use Rattle.sb_shelf.specs.Outside.{OnlyReads, Rose};
@@ -38,10 +39,12 @@ pub enum ReadError {
 /// In each case the outputs are as they were, and so are the other counts.
 pub fn read_all<S: Shelf>(alloc: Global, shelf: &mut S, path: &str) -> Result<Vec<u8>, ReadError>
     ensures keeps { OnlyReads (S.state shelf.old) (S.state shelf.new) }
-    ensures bytes { IfOk result (λ bytes. ForSome ((S.state shelf.old).under path.now) (λ told. bytes.items ≡ told)) }
+    ensures bytes { IfOk result (λ bytes. ForSome ((S.state shelf.old).under path.now)
+        (λ told. bytes.items ≡ told)) }
     ensures within { IfOk result (λ bytes. vec_len bytes ≤ LONGEST_INPUT) }
     ensures all_taken { OnOk result (ForSome (S.state shelf.new).left (λ left. left ≡ [])) }
-    ensures fault { IsErrOf result ReadError.ReadFault → Rose (S.state shelf.old).read_faults (S.state shelf.new).read_faults }
+    ensures fault { IsErrOf result ReadError.ReadFault
+        → Rose (S.state shelf.old).read_faults (S.state shelf.new).read_faults }
     ensures too_long { ForSome ((S.state shelf.old).under path.now) (λ told. IsJudged result
         → (IsErrOf result ReadError.TooLong ↔ (LONGEST_INPUT < length told))) }
 {
@@ -75,10 +78,13 @@ fn take_more<S: Shelf>(
         ≡ taken_and_left bytes.old.items (S.state shelf.old)) }
     ensures within { OnOk result (vec_len bytes.new ≤ LONGEST_INPUT) }
     ensures more { IfOk result (λ more. OnTrue more (vec_len bytes.old < vec_len bytes.new)) }
-    ensures end { IfOk result (λ more. OnFalse more (ForSome (S.state shelf.new).left (λ left. left ≡ []))) }
-    ensures fault { IsErrOf result ReadError.ReadFault → Rose (S.state shelf.old).read_faults (S.state shelf.new).read_faults }
+    ensures end { IfOk result (λ more. OnFalse more
+        (ForSome (S.state shelf.new).left (λ left. left ≡ []))) }
+    ensures fault { IsErrOf result ReadError.ReadFault
+        → Rose (S.state shelf.old).read_faults (S.state shelf.new).read_faults }
     ensures too_long { IsErrOf result ReadError.TooLong
-        → ForSome (taken_and_left bytes.old.items (S.state shelf.old)) (λ all. LONGEST_INPUT < length all) }
+        → ForSome (taken_and_left bytes.old.items (S.state shelf.old))
+        (λ all. LONGEST_INPUT < length all) }
 {
     let Ok(count) = shelf.read(piece) else {
         return Err(ReadError::ReadFault);
@@ -86,7 +92,8 @@ fn take_more<S: Shelf>(
     if count > LONGEST_INPUT - bytes.len() {
         return Err(ReadError::TooLong);
     }
-    match bytes.extend_from_slice(&piece[..count]) {
+    let added = bytes.extend_from_slice(&piece[..count]);
+    match added {
         Ok(()) => Ok(count > 0),
         Err(_) => Err(ReadError::NoMemory),
     }

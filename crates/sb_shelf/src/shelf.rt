@@ -14,7 +14,7 @@ pub enum Out {
 }
 
 /// A call of a shelf has failed. Its count of faults rose, and all else is as it was.
-#[derive(Debug, Drop)]
+#[derive(Drop)]
 pub struct Failed;
 
 /// The outside of the program.
@@ -56,5 +56,6 @@ pub trait Shelf {
     ghost said_is_created: { (shelf : Self) → (state shelf).is_created Said ≡ true };
 
     /// A shelf that tells the bytes under a path tells what is left to read.
-    ghost tells_left: { (shelf : Self) (path : List ℕ) → IsSome ((state shelf).under path) → IsSome (state shelf).left };
+    ghost tells_left: { (shelf : Self) (path : List ℕ)
+        → IsSome ((state shelf).under path) → IsSome (state shelf).left };
 }

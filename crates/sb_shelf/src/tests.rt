@@ -1,7 +1,10 @@
-ghost use Rattle.std.specs.Prelude.{◌<◌, ◌≡◌, false, IfOk};
+ghost use Rattle.std.specs.Prelude.{◌<◌, ◌≡◌, false, IfOk, IsErrOf};
 ghost use Rattle.sb_shelf.specs.Memory.{memory_state};
+ghost use Rattle.sb_shelf.specs.Steady.{steady_state};
 
-use crate::{Calls, HostShelf, MemoryShelf, Out, ReadError, Shelf, read_all, write_all};
+use crate::{
+    Calls, HostShelf, MemoryShelf, Out, ReadError, Shelf, SteadyShelf, read_all, write_all,
+};
 use sb_list::Text;
 use std::alloc::{AllocError, Global};
 use std::fs;
@@ -22,18 +25,9 @@ fn shelf(alloc: Global, bytes: &[u8], failing: u64, piece: usize) -> Result<Memo
     Ok(MemoryShelf::new(alloc, path, bytes, calls, piece))
 }
 
-/// What `read_all` answers, as a word.
-fn read_word(
-    alloc: Global,
-    bytes: &[u8],
-    path: &str,
-    failing: u64,
-    piece: usize,
-) -> Result<&'static str, AllocError>
-    requires { 0 < piece }
-{
-    let mut shelf = shelf(alloc, bytes, failing, piece)?;
-    Ok(match read_all(alloc, &mut shelf, path) {
+/// What `read_all` answers over a shelf that holds `bytes`, as a word.
+fn read_word<S: Shelf>(alloc: Global, shelf: &mut S, path: &str, bytes: &[u8]) -> &'static str {
+    match read_all(alloc, shelf, path) {
         Ok(read) => {
             if read.as_slice() == bytes {
                 "all"
@@ -46,7 +40,7 @@ fn read_word(
         Err(ReadError::ReadFault) => "fault",
         Err(ReadError::TooLong) => "too long",
         Err(ReadError::NoMemory) => "no memory",
-    })
+    }
 }
 
 // The calls of a text of 10 bytes in pieces of 7 are open, read 7, read 3, read 0.
@@ -78,13 +72,15 @@ fn a_text_is_read_whole_or_not_at_all(rt: HostRuntime) -> Result<(), Fail> {
             "the read at the end fails, in pieces of 1",
         ),
     ] {
-        let got = read_word(rt.alloc(), text, path, failing, piece)?;
+        let mut shelf = shelf(rt.alloc(), text, failing, piece)?;
+        let got = read_word(rt.alloc(), &mut shelf, path, text);
         assert_eq!(rt; got, want, "{why}");
     }
     Ok(())
 }
 
-/// Creates the report, writes the text to it, and answers what stands there and whether all went well.
+/// Creates the report, writes the text to it, and answers whether all went well and what stands
+/// there.
 fn write_report(
     alloc: Global,
     text: &[u8],
@@ -133,6 +129,47 @@ fn what_stands_after_a_fault_is_a_first_part(rt: HostRuntime) -> Result<(), Fail
             (None, None) => {}
             _ => panic!(rt; "created or not: {why}"),
         }
+    }
+    Ok(())
+}
+
+/// Reads the path and writes what came there to the report. Over a shelf that never fails there is
+/// no fault, by the contracts alone.
+fn copy_to_report(alloc: Global, shelf: &mut SteadyShelf, path: &str) -> Result<Vec<u8>, ReadError>
+    requires { (steady_state shelf.old).is_created Out.Report ≡ false }
+    ensures { ¬ IsErrOf result ReadError.ReadFault }
+{
+    let bytes = read_all(alloc, shelf, path)?;
+    shelf.create(Out::Report, "report.json").ok().unwrap();
+    write_all(shelf, Out::Report, &bytes).ok().unwrap();
+    Ok(bytes)
+}
+
+#[test]
+fn a_steady_shelf_reads_and_writes_whole_texts(rt: HostRuntime) -> Result<(), Fail> {
+    let held = "model.ifc";
+    let long = vec![in rt.alloc(); b'#'; 70_000]?;
+    for (text, path, count, why) in [
+        (b"ISO-10303-".as_slice(), held, 10, "a short text"),
+        (long.as_slice(), held, 70_000, "a text of two pieces"),
+        (b"".as_slice(), held, 0, "an empty text"),
+        (
+            b"ISO-10303-".as_slice(),
+            "other.ifc",
+            0,
+            "a path that is not held has no bytes",
+        ),
+    ] {
+        let name = Text::of(rt.alloc(), held.as_bytes())?;
+        let bytes = Text::of(rt.alloc(), text)?;
+        let mut shelf = SteadyShelf::new(rt.alloc(), name, bytes);
+        let Ok(read) = copy_to_report(rt.alloc(), &mut shelf, path) else {
+            panic!(rt; "not read: {why}");
+        };
+        assert!(rt;
+            count <= text.len() && read.as_slice() == &text[..count],
+            "{why}"
+        );
     }
     Ok(())
 }

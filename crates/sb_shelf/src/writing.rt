@@ -1,4 +1,4 @@
-ghost use Rattle.std.specs.Prelude.{◌≡◌, ◌+◌, ◌<◌, ◌≤◌, ◌++◌, length, take, drop, true, Some, IfOk, OnOk, OnErr};
+ghost use Rattle.std.specs.Prelude.{◌≡◌, ◌++◌, true, Some, OnOk, OnErr};
 ghost use Rattle.std.specs.Option.{ForSome};
 ghost use Rattle.sb_shelf.specs.Outside.{OnlyWrites, Rose, faults_of};
 ghost use Rattle.sb_shelf.specs.WholeTexts.{AppendsFirstOf};
@@ -6,7 +6,7 @@ ghost use Rattle.sb_shelf.specs.WholeTexts.{AppendsFirstOf};
 use crate::shelf::{Out, Shelf};
 
 /// A write has failed, and only a first part of the text stands on its output.
-#[derive(Debug, Drop)]
+#[derive(Drop)]
 pub struct WriteFault;
 
 /// Appends the whole text to the output, without memory. The output has to be created.
@@ -21,7 +21,8 @@ pub fn write_all<S: Shelf>(shelf: &mut S, out: Out, text: &[u8]) -> Result<(), W
     ensures keeps { OnlyWrites out (S.state shelf.old) (S.state shelf.new) }
     ensures bytes { OnOk result (ForSome ((S.state shelf.old).bytes out) (λ before.
         (S.state shelf.new).bytes out ≡ Some (before ++ text.now))) }
-    ensures fault { OnErr result (Rose (faults_of out (S.state shelf.old)) (faults_of out (S.state shelf.new))) }
+    ensures fault { OnErr result
+        (Rose (faults_of out (S.state shelf.old)) (faults_of out (S.state shelf.new))) }
     ensures first_part { OnErr result (ForSome ((S.state shelf.old).bytes out) (λ before.
         ForSome ((S.state shelf.new).bytes out) (AppendsFirstOf text.now before))) }
 {

@@ -1,6 +1,7 @@
+-- The law is its lemma, at the type of the labels.
 use Rattle.sb_cuttings.proofs.NeedlessBreaks.{is_reduced_by_squash}
 use Rattle.sb_cuttings.proofs.squash.Goals as goal
 
--- src/lib.rt:19:1
+-- squash
 pub returns : goal.returns
 returns g c = is_reduced_by_squash _

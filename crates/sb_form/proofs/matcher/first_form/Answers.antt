@@ -1,7 +1,7 @@
-use Rattle.std.proofs.Common.{◌≡◌, ◌∙◌, sym, true}
+use Rattle.std.proofs.Common.{◌≡◌, ◌∙◌, sym, true, rules}
 use Rattle.std.proofs.lemmas.Slice.Eq.{bytes_eq-Decides}
 use Rattle.sb_form.specs.FirstForm.{before_sizes, before_height, behind_height, comma}
-use Rattle.sb_form.proofs.FormHasOneReading.{form_goes_on, one_reading_of_three}
+use Rattle.sb_form.proofs.FormHasOneReading.{form_goes_on, form_is_one, one_reading_of_three}
 use Rattle.sb_form.proofs.matcher.first_form.Goals as goal
 
 pub returns-in_err-size_x-clause-none : goal.returns-in_err-size_x-clause-none
@@ -17,3 +17,6 @@ returns-else-eq-clause-none c form spelled =
     let ends = one_reading_of_three before_sizes comma before_height _ _ _ _ _ _ _ _ _ sizes (form_goes_on form _ _ _ _ _ spelled begins) in
     let equal : c.eq.result ≡ true = c.eq.ensures ∙ (bytes_eq-Decides _ _).1 (ends ∙ sym c.closing.ensures) in
     cc (equal, c.if-eq.false)
+
+pub returns-then-eq-clause-sole : goal.returns-then-eq-clause-sole
+returns-then-eq-clause-sole c other spelled = form_is_one _ other c.args.bytes.now (search rules) spelled

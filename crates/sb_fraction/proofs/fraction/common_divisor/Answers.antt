@@ -8,5 +8,6 @@ loop-y-preserved c g h = c.loop-y.invariant g (IsGcd-from_mod _ _ g h)
 
 pub returns : goal.returns
 returns c = record {
-  value = same_from_IsGcd _ _ _ _ (c.loop-y.invariant _ (IsGcd-from_zero _ _ (omega arith))) (greatest_divisor_is _ _);
+  value = same_from_IsGcd _ _ _ _ (c.loop-y.invariant _ (IsGcd-from_zero _ _ (omega arith)))
+      (greatest_divisor_is _ _);
 }

@@ -1,4 +1,3 @@
-use Rattle.std.proofs.Common.{◌≡◌}
 use Rattle.sb_model.proofs.EdgesByPlace.{edge_by_place}
 use Rattle.sb_model.proofs.outline.edge_in.Goals as goal
 

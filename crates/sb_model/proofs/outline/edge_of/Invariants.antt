@@ -5,4 +5,5 @@ use Rattle.sb_model.proofs.outline.edge_of.Given as goal
 -- the edge that is looked for is edge `left` of the loops that are left
 abbrev pub invariant-loop-points : goal.invariant-loop-points
 invariant-loop-points l =
-    slice_get (edges_of (drop l.points-index l.points-items)) l.left ≡ slice_get (edges_of l.fn.loops) l.fn.k
+    slice_get (edges_of (drop l.points-index l.points-items)) l.left
+    ≡ slice_get (edges_of l.fn.loops) l.fn.k

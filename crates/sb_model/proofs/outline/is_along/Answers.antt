@@ -1,4 +1,4 @@
-use Rattle.std.proofs.Common.{◌≡◌, ◌∙◌, sym}
+use Rattle.std.proofs.Common.{◌∙◌, sym}
 use Rattle.sb_model.proofs.StraightCorners.{runs_along_x, runs_along_y}
 use Rattle.sb_model.proofs.outline.is_along.Goals as goal
 

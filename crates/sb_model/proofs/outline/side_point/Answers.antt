@@ -1,4 +1,4 @@
-use Rattle.std.proofs.Common.{◌≡◌, ◌∙◌, sym, rules, w32, w64, FitsSigned}
+use Rattle.std.proofs.Common.{◌∙◌, sym, rules, w32, w64, FitsSigned}
 use Rattle.std.proofs.lemmas.Int.{to_z-of_z}
 use Rattle.sb_model.proofs.StraightCorners.{point_along_x, point_along_y}
 use Rattle.sb_model.proofs.outline.side_point.Goals as goal
@@ -10,7 +10,8 @@ returns-then-is_level c =
     let k : FitsSigned w64 c.value_of.result = search rules in
     let y = simp to_z-of_z at c.whole.ensures in
     let z = simp to_z-of_z at c.whole-then-is_level.ensures in
-    rw (y, z, c.value_of.ensures) (point_along_x c.args.a c.args.b c.args.u _ c.requires.lowest c.requires.straight
+    rw (y, z, c.value_of.ensures) (point_along_x c.args.a c.args.b c.args.u _ c.requires.lowest
+    c.requires.straight
     (sym c.is_level.ensures ∙ c.if-is_level.true))
 
 pub returns-else-is_level : goal.returns-else-is_level
@@ -20,5 +21,6 @@ returns-else-is_level c =
     let k : FitsSigned w64 c.value_of-else-is_level.result = search rules in
     let x = simp to_z-of_z at c.whole-else-is_level.ensures in
     let z = simp to_z-of_z at c.whole-else-is_level-2.ensures in
-    rw (x, z, c.value_of-else-is_level.ensures) (point_along_y c.args.a c.args.b c.args.u _ c.requires.lowest c.requires.straight
+    rw (x, z, c.value_of-else-is_level.ensures)
+    (point_along_y c.args.a c.args.b c.args.u _ c.requires.lowest c.requires.straight
     (sym c.is_level.ensures ∙ c.if-is_level.false))

@@ -1,4 +1,4 @@
--- Of the text under the path some is taken and the rest is left, and at most the longest input is taken.
+-- Of the text under the path some is taken, no more than the longest input, and the rest is left.
 use Rattle.std.proofs.Common.{◌<◌, ◌≤◌, ◌-◌, vec_len}
 use Rattle.sb_shelf.proofs.PiecesJoin.{IsReading}
 use Rattle.sb_shelf.specs.declared.reading.TheConstants.{LONGEST_INPUT}

@@ -1,12 +1,23 @@
+-- A write goes on where the writes before it have ended.
 use Rattle.std.proofs.Common.{arith, length-drop}
 use Rattle.std.proofs.lemmas.List.{take_rest}
 use Rattle.sb_shelf.proofs.PiecesAppend.{pieces_append}
 use Rattle.sb_shelf.proofs.writing.write_all.Goals as goal
 
 pub turns-preserved : goal.turns-preserved
-turns-preserved g c = record {
-  writing = pieces_append c.args.out (g.S.Shelf.state c.args.shelf.now) (g.S.Shelf.state c.turns.shelf)
-      (g.S.Shelf.state c.write.new.self) c.args.text.now c.turns.done c.in-Ok.count _ (take_rest c.args.text.now c.turns.done)
-      c.turns.invariant.writing c.write.ensures.keeps c.in-Ok.ensures.ok;
-  within = omega (arith, c.in-Ok.ensures.within, length-drop c.turns.done c.args.text.now, take_rest c.args.text.now c.turns.done);
-}
+turns-preserved g c =
+    let start = g.S.Shelf.state c.args.shelf.now in
+    let between = g.S.Shelf.state c.turns.shelf in
+    let now = g.S.Shelf.state c.write.new.self in
+    let text = c.args.text.now in
+    let done = c.turns.done in
+    let rest = take_rest text done in
+    let first = c.turns.invariant.writing in
+    let keeps = c.write.ensures.keeps in
+    let appended = c.in-Ok.ensures.ok in
+    let count = c.in-Ok.count in
+    record {
+      writing =
+          pieces_append c.args.out start between now text done count _ rest first keeps appended;
+      within = omega (arith, c.in-Ok.ensures.within, length-drop done text, rest);
+    }

@@ -1,0 +1,153 @@
+-- A comment ends at the next `*/`: there is one way to read it.
+use Rattle.std.proofs.Common.{◌≡◌, ℕ, suc, ◌+◌, ◌<◌, Bool, true, false, ◌&&◌, eqb, List, [], ◌∷◌, ◌++◌, Option, Some, None, length, get_or, sym, refl, ap, ◌∙◌, subst, arith, one-add}
+use Rattle.std.specs.Prelude.{codes}
+use Rattle.std.proofs.lemmas.Bool.{cond_both, cond-false, and_parts, eqb-true, both_ways, and_right, and_from, eq-eqb, false_from_ne_true}
+use Rattle.sb_lex.specs.Sets.{Text, ◌⋅◌, Holds}
+use Rattle.sb_lex.specs.Kinds.{Unclosed, IsComment}
+use Rattle.sb_lex.specs.Steps.{after, close_at, closed_len, comment_len}
+use Rattle.sb_lex.proofs.PiecesJoin.{Stands, Ends, stands_so_long, stands_joined, stands_text, around, around_append, around_length}
+
+-- the text before the next `*/`
+pub record Closing (bytes : List ℕ) (n : ℕ) : Type 0 where
+  pub text : List ℕ
+  pub rest : List ℕ
+  pub joined : bytes ≡ text ++ (42 ∷ 47 ∷ rest)
+  pub long : length text ≡ n
+  pub unclosed : Unclosed text
+
+-- what was found is the text before the next `*/`
+abbrev pub IsClosing : Option ℕ → List ℕ → Type 0
+IsClosing None bytes = Unit {0}
+IsClosing (Some n) bytes = Closing bytes n
+
+-- `*/` is at the front
+abbrev pub closes : ℕ → List ℕ → Bool
+closes b bs = eqb b 42 && eqb (get_or bs 0 0) 47
+
+nothing_holds : Holds (codes "*/") [] → ⊥
+nothing_holds h = elim h.before as (λ l. [] ≡ l ++ (42 ∷ 47 ∷ h.after) → ⊥)
+    [ [] ↦ λ e. cc | x ∷ xs ↦ λ e. cc ] h.found
+
+holds_later : (b : ℕ) (text : List ℕ) → Holds (codes "*/") text → Holds (codes "*/") (b ∷ text)
+holds_later b text h = record {
+  before = b ∷ h.before;
+  after = h.after;
+  found = ap (λ l. b ∷ l)
+      h.found;
+}
+
+closing_here : (b : ℕ) (bs : List ℕ) → closes b bs ≡ true → Closing (b ∷ bs) 0
+closing_here b [] closed = absurd (both_ways (closes b []) (and_right (eqb b 42) (eqb 0 47) refl)
+    closed)
+closing_here b (c ∷ bs) closed =
+    let parts = and_parts (eqb b 42) (eqb c 47) closed in
+    record {
+      text = [];
+      rest = bs;
+      joined = λ i. eqb-true b 42 parts.0 i ∷ (eqb-true c 47 parts.1 i ∷ bs);
+      long = refl;
+      unclosed = λ h. nothing_holds h;
+    }
+
+-- one byte more at the front, unless `*/` begins with it, leaves a text unclosed
+unclosed_more : (b : ℕ) (text rest : List ℕ) → closes b (text ++ (42 ∷ 47 ∷ rest)) ≡ false
+    → Unclosed text → Unclosed (b ∷ text)
+unclosed_more b text rest apart unclosed h = at_front h.before h.found
+  where
+    at_front : (before : List ℕ) → b ∷ text ≡ before ++ (42 ∷ 47 ∷ h.after) → ⊥
+    at_front [] found =
+        let first : b ≡ 42 = cc in
+        let behind : text ≡ 47 ∷ h.after = cc in
+        let second : get_or (text ++ (42 ∷ 47 ∷ rest)) 0 0 ≡ 47 = ap
+        (λ l. get_or (l ++ (42 ∷ 47 ∷ rest)) 0 0) behind in
+        both_ways (closes b (text ++ (42 ∷ 47 ∷ rest))) apart
+        (and_from (eqb b 42) (eqb (get_or (text ++ (42 ∷ 47 ∷ rest)) 0 0) 47)
+        (eq-eqb b 42 first) (eq-eqb (get_or (text ++ (42 ∷ 47 ∷ rest)) 0 0) 47 second))
+    at_front (x ∷ before) found =
+        let later : text ≡ before ++ (42 ∷ 47 ∷ h.after) = cc in
+        unclosed (record { before = before; after = h.after; found = later })
+
+closing_more : (b : ℕ) (bs : List ℕ) (o : Option ℕ) → closes b bs ≡ false → IsClosing o bs
+    → IsClosing (after 1 o) (b ∷ bs)
+closing_more b bs None apart c = tt
+closing_more b bs (Some n) apart c = record {
+  text = b ∷ c.text;
+  rest = c.rest;
+  joined = ap (λ l. b ∷ l) c.joined;
+  long = ap suc c.long ∙ sym (one-add n);
+  unclosed = unclosed_more b c.text c.rest (ap (closes b) (sym c.joined) ∙ apart) c.unclosed;
+}
+
+-- what is found is the next `*/`
+pub closing_found : (bytes : List ℕ) → IsClosing (close_at bytes) bytes
+closing_found [] = tt
+closing_found (b ∷ bs) =
+    cond_both (closes b bs) (Some 0) (after 1 (close_at bs)) (λ o. IsClosing o (b ∷ bs))
+    (closing_here b bs) (λ apart. closing_more b bs (close_at bs) apart (closing_found bs))
+
+not_closed_here : (b : ℕ) (text rest : List ℕ) → Unclosed (b ∷ text)
+    → closes b (text ++ (42 ∷ 47 ∷ rest)) ≡ false
+not_closed_here b [] rest unclosed = and_right (eqb b 42) (eqb 42 47) refl
+not_closed_here b (c ∷ text) rest unclosed =
+    false_from_ne_true (closes b (c ∷ text ++ (42 ∷ 47 ∷ rest))) (λ closed.
+    let parts = and_parts (eqb b 42) (eqb c 47) closed in
+    unclosed (record {
+      before = [];
+      after = text;
+      found = λ i. eqb-true b 42 parts.0 i ∷ (eqb-true c 47 parts.1 i ∷ text);
+    }))
+
+-- and it is found
+pub close_at-text : (text rest : List ℕ) → Unclosed text → close_at (text ++ (42 ∷ 47 ∷ rest))
+    ≡ Some (length text)
+close_at-text [] rest unclosed = refl
+close_at-text (b ∷ text) rest unclosed =
+    let apart = not_closed_here b text rest unclosed in
+    rw apart (ap (after 1) (close_at-text text rest (λ h. unclosed (holds_later b text h)))
+    ∙ ap (λ n. Some n) (one-add (length text)))
+
+-- the length of a comment at the front, whatever follows it
+pub comment_len-comment : (xs rest : List ℕ) → IsComment xs → comment_len (xs ++ rest) ≡ length xs
+unfolding comment_len
+comment_len-comment xs rest is =
+    let t = around (codes "/*") (codes "*/") Unclosed xs is in
+    ap comment_len (around_append (codes "/*") (codes "*/") Unclosed xs rest t) ∙ ap closed_len
+    (close_at-text t.inside rest t.is)
+    ∙ omega (arith, around_length (codes "/*") (codes "*/") Unclosed xs t)
+
+comment_stands : (bs : List ℕ) (o : Option ℕ) → IsClosing o bs → 0 < closed_len o → Ends IsComment
+    (47 ∷ 42 ∷ bs) (closed_len o)
+comment_stands bs None c some = absurd (omega arith)
+comment_stands bs (Some n) c some =
+    let inside : Stands Unclosed bs (42 ∷ 47 ∷ c.rest) n = record
+    { text = c.text; joined = c.joined; long = c.long; is = c.unclosed } in
+    record {
+      rest = c.rest;
+      stands =
+          stands_so_long IsComment (47 ∷ 42 ∷ bs) c.rest (2 + (n + 2)) (n + 4) (omega arith)
+          (stands_joined (Text (codes "/*")) (Unclosed ⋅ Text (codes "*/")) (47 ∷ 42 ∷ bs) bs
+          c.rest 2 (n + 2) (stands_text (codes "/*") bs 2 refl)
+          (stands_joined Unclosed (Text (codes "*/")) bs (42 ∷ 47 ∷ c.rest) c.rest n 2 inside
+          (stands_text (codes "*/") c.rest 2 refl)));
+    }
+
+-- where a length is found, a comment so long stands there
+pub comment_found : (bytes : List ℕ) → 0 < comment_len bytes → Ends IsComment bytes
+    (comment_len bytes)
+unfolding comment_len
+comment_found [] some = absurd (omega arith)
+comment_found (x ∷ []) some = absurd
+    (omega (
+      arith,
+      cond-false (eqb x 47 && eqb 0 42) (closed_len (close_at [])) 0
+          (and_right (eqb x 47) (eqb 0 42) refl),
+    ))
+comment_found (x ∷ y ∷ bs) some =
+    let opened = eqb x 47 && eqb y 42 in
+    let P : ℕ → Type 0 = λ n. 0 < n → Ends IsComment (x ∷ y ∷ bs) n in
+    cond_both opened (closed_len (close_at bs)) 0 P
+    (λ both more. let parts = and_parts (eqb x 47) (eqb y 42) both in let Q : List ℕ
+    → Type 0 = λ l. Ends IsComment l (closed_len (close_at bs)) in subst Q
+    (λ i. sym (eqb-true x 47 parts.0) i ∷ (sym (eqb-true y 42 parts.1) i ∷ bs))
+    (comment_stands bs (close_at bs) (closing_found bs) more))
+    (λ other none. absurd (omega arith)) some

@@ -1,0 +1,331 @@
+-- To a call for the next token there is one answer.
+use Rattle.std.proofs.Common.{◌≡◌, ◌≢◌, ℕ, ◌+◌, ◌-◌, ◌<◌, ◌≤◌, ◌↔◌, true, cond, ◌&&◌, eqb, leb, List, ◌∷◌, ◌++◌, Option, Some, None, Result, Ok, Err, length, take, drop, sym, refl, ap, ◌∙◌, subst, ⊎_elim, inl, inr, arith, drop_at, length-append, length-take-le, length-drop, drop-drop, take-append-drop, le_refl}
+use Rattle.std.specs.Prelude.{codes, slice_range}
+use Rattle.std.proofs.lemmas.Bool.{cond_both, cond-true, cond-false, eqb-true, eq-eqb, ne_eqb, and_parts, or_cases, leb-true, cases_lt, eqb-false}
+use Rattle.std.proofs.lemmas.Option.{none-some}
+use Rattle.std.proofs.lemmas.List.{drop_all}
+use Rattle.sb_lex.specs.declared.kinds.Kind.{Kind}
+use Rattle.sb_lex.specs.declared.kinds.Token.{Token}
+use Rattle.sb_lex.specs.declared.kinds.BadToken.{BadToken}
+use Rattle.sb_lex.specs.declared.kinds.Mark.TheVariants as mark
+use Rattle.sb_lex.specs.declared.dispatch.Head.{Head}
+use Rattle.sb_lex.specs.declared.dispatch.Head.TheVariants as head
+use Rattle.sb_lex.specs.Bytes.{begins_with, is_white}
+use Rattle.sb_lex.specs.Sets.{Begins}
+use Rattle.sb_lex.specs.Kinds.{IsOf, not_after, Unclosed, BlankPiece}
+use Rattle.sb_lex.specs.Tokens.{IsCandidate, IsToken, IsGap, Reading, Answers}
+use Rattle.sb_lex.specs.Steps.{Found, head_of, scan_at, scan, comment_len, piece_len}
+use Rattle.sb_lex.proofs.PiecesJoin.{text_is, around, around_append}
+use Rattle.sb_lex.proofs.GapsAgree.{piece_found, piece_len-piece, blanks_agree}
+use Rattle.sb_lex.proofs.ScannedIsToken.{Front, IsFront, HeadFits, head_fits, scan_front, le_zero}
+use Rattle.sb_lex.proofs.TokenIsScanned.{Covers, scan_covers}
+
+-- a token at a place, by its length
+abbrev pub token_of : Kind → ℕ → ℕ → Token
+token_of k from n = record { kind = k; start = from; end = from + n }
+
+-- what stands at a place, and what follows it
+
+sliced : (input : List ℕ) (from to : ℕ) → from ≤ to → drop from input ≡ slice_range input from to
+    ++ drop to input
+sliced input from to ordered =
+    sym (take-append-drop (to - from) (drop from input)) ∙ ap (λ l. slice_range input from to ++ l)
+    (drop-drop (to - from) from input ∙ ap (λ k. drop k input) (omega arith))
+
+-- what stands at a span is as long as the span
+pub slice_length : (input : List ℕ) (from to : ℕ) → from ≤ to → to ≤ length input
+    → length (slice_range input from to) ≡ to - from
+slice_length input from to ordered within =
+    length-take-le (to - from) (drop from input) (omega (arith, length-drop from input))
+
+front_from_candidate : (input : List ℕ) (t : Token) → IsCandidate input t
+    → Front (drop t.start input) t.kind (t.end - t.start)
+front_from_candidate input t c = record {
+  rest = drop t.end input;
+  stands = record {
+    text = slice_range input t.start t.end;
+    joined = sliced input t.start t.end c.ordered;
+    long = slice_length input t.start t.end c.ordered c.within;
+    is = c.of_kind;
+  };
+  free = c.free;
+}
+
+candidate_from_front : (input : List ℕ) (from : ℕ) (k : Kind) (n : ℕ) → from ≤ length input
+    → Front (drop from input) k n → IsCandidate input (token_of k from n)
+candidate_from_front input from k n within f =
+    let bytes = drop from input in
+    let size : from + n - from ≡ n = omega arith in
+    let text : f.stands.text ≡ slice_range input from (from + n) =
+    text_is (IsOf k) bytes f.rest n f.stands ∙ ap (λ m. take m bytes) (sym size) in
+    let rest : f.rest ≡ drop (from + n) input =
+    sym (drop_at f.stands.text f.rest n f.stands.long) ∙ ap (drop n) (sym f.stands.joined)
+    ∙ drop-drop n from input in
+    record {
+      ordered = omega arith;
+      within =
+          omega (
+            arith,
+            length-drop from input,
+            ap length f.stands.joined,
+            length-append
+                f.stands.text f.rest,
+            f.stands.long,
+          );
+      of_kind = subst (IsOf k) text f.stands.is;
+      free = ap (begins_with (not_after k)) (sym rest) ∙ f.free;
+    }
+
+front_covered : (bytes : List ℕ) (k : Kind) (n : ℕ) → Front bytes k n → Covers (scan bytes) k n
+front_covered bytes k n f =
+    subst (λ l. Covers (scan l) k n) (sym f.stands.joined)
+    (subst (Covers (scan (f.stands.text ++ f.rest)) k) f.stands.long
+    (scan_covers k f.stands.text f.rest f.stands.is f.free))
+
+candidate_covered : (input : List ℕ) (t : Token) → IsCandidate input t
+    → Covers (scan (drop t.start input)) t.kind (t.end - t.start)
+candidate_covered input t c = front_covered (drop t.start input) t.kind (t.end - t.start)
+    (front_from_candidate input t c)
+
+found_candidate : (input : List ℕ) (from : ℕ) (x : Kind × ℕ) → from ≤ length input
+    → scan (drop from input) ≡ Some x → IsCandidate input (token_of x.0 from x.1)
+found_candidate input from x within found =
+    candidate_from_front input from x.0 x.1 within
+    (subst (λ o. IsFront o (drop from input)) found (scan_front (drop from input)))
+
+-- what is found is the token
+pub found_token : (input : List ℕ) (from : ℕ) (x : Kind × ℕ) → from ≤ length input
+    → scan (drop from input) ≡ Some x → IsToken input (token_of x.0 from x.1)
+found_token input from x within found = record {
+  candidate = found_candidate input from x within found;
+  longest =
+      λ other candidate same.
+      let covered : Covers (Some x) other.kind (other.end - other.start) =
+      subst (λ o. Covers o other.kind (other.end - other.start))
+      (ap (λ k. scan (drop k input)) same ∙ found) (candidate_covered input other candidate) in
+      omega (arith, covered.0, candidate.ordered, same);
+}
+
+-- where nothing is found there is no token
+pub no_token_found : (input : List ℕ) (place : ℕ) → scan (drop place input) ≡ None → (t : Token)
+    → IsCandidate input t → t.start ≢ place
+no_token_found input place none t candidate same =
+    subst (λ o. Covers o t.kind (t.end - t.start)) (ap (λ k. scan (drop k input)) same ∙ none)
+    (candidate_covered input t candidate)
+
+-- the token is what is found
+pub token_found : (input : List ℕ) (t : Token) (o : Found) → IsToken input t
+    → scan (drop t.start input) ≡ o → o ≡ Some (t.kind, t.end - t.start)
+token_found input t None token found =
+    absurd (no_token_found input t.start found t token.candidate refl)
+token_found input t (Some x) token found =
+    let c = token.candidate in
+    let from_in : t.start ≤ length input = omega (arith, c.ordered, c.within) in
+    let covered : Covers (Some x) t.kind (t.end - t.start) =
+    subst (λ o. Covers o t.kind (t.end - t.start)) found (candidate_covered input t c) in
+    let longest = token.longest (token_of x.0 t.start x.1)
+    (found_candidate input t.start x from_in found) refl in
+    let size : x.1 ≡ t.end - t.start = omega (arith, covered.0, longest, c.ordered) in
+    λ i. Some (covered.1 size i, size i)
+
+none_found : (input : List ℕ) (place : ℕ) (o : Found) → place ≤ length input
+    → ((t : Token) → IsCandidate input t → t.start ≢ place) → scan (drop place input) ≡ o → o ≡ None
+none_found input place None within no_token found = refl
+none_found input place (Some x) within no_token found =
+    absurd (no_token (token_of x.0 place x.1) (found_candidate input place x within found) refl)
+
+-- white space and comments begin no token
+
+low_head : (h : Head) (b : ℕ) → b ≤ 32 → HeadFits h b → h ≡ head.Other
+low_head head.Letter b low fits =
+    ⊎_elim (λ (capital : (leb 65 b && leb b 90) ≡ true). absurd
+    (omega (arith, leb-true 65 b (and_parts (leb 65 b) (leb b 90) capital).0)))
+    (λ underscore. absurd (omega (arith, eqb-true b 95 underscore)))
+    (or_cases _ (eqb b 95) fits)
+low_head head.Digit b low fits = absurd
+    (omega (arith, leb-true 48 b (and_parts (leb 48 b) (leb b 57) fits).0))
+low_head head.Sign b low fits =
+    ⊎_elim (λ plus. absurd (omega (arith, eqb-true b 43 plus)))
+    (λ minus. absurd (omega (arith, eqb-true b 45 minus))) (or_cases (eqb b 43) (eqb b 45) fits)
+low_head head.Exclamation b low fits = absurd (omega arith)
+low_head head.Hash b low fits = absurd (omega arith)
+low_head head.Apostrophe b low fits = absurd (omega (arith, eqb-true b 39 fits))
+low_head head.Point b low fits = absurd (omega arith)
+low_head head.Quote b low fits = absurd (omega arith)
+low_head (head.Mark mark.Dollar) b low fits = absurd (omega arith)
+low_head (head.Mark mark.Asterisk) b low fits = absurd (omega arith)
+low_head (head.Mark mark.Open) b low fits = absurd (omega arith)
+low_head (head.Mark mark.Close) b low fits = absurd (omega arith)
+low_head (head.Mark mark.Comma) b low fits = absurd (omega arith)
+low_head (head.Mark mark.Semicolon) b low fits = absurd (omega arith)
+low_head (head.Mark mark.Equals) b low fits = absurd (omega arith)
+low_head head.Other b low fits = refl
+
+white_is_low : (b : ℕ) → is_white b ≡ true → b ≤ 32
+white_is_low b white =
+    ⊎_elim (λ (control : (leb 9 b && leb b 13) ≡ true). omega (arith, leb-true b 13 (and_parts (leb 9 b) (leb b 13) control).1))
+    (λ space. omega (arith, eqb-true b 32 space)) (or_cases _ (eqb b 32) white)
+
+blank_is_no_token : (text rest : List ℕ) → BlankPiece text → scan (text ++ rest) ≡ None
+blank_is_no_token text rest (inl white) =
+    let other = low_head (head_of white.byte) white.byte (white_is_low white.byte white.passes)
+    (head_fits white.byte) in
+    ap (λ l. scan (l ++ rest)) white.alone ∙ ap (λ h. scan_at h (white.byte ∷ rest)) other
+blank_is_no_token text rest (inr comment) =
+    let t = around (codes "/*") (codes "*/") Unclosed text comment in
+    ap scan (around_append (codes "/*") (codes "*/") Unclosed text rest t)
+
+-- where a token is found no piece begins
+stops_at_token : (bytes : List ℕ) (x : Kind × ℕ) → scan bytes ≡ Some x → piece_len bytes ≡ 0
+stops_at_token bytes x found =
+    ⊎_elim
+    (λ some.
+    let e = piece_found bytes some in
+    let none : scan bytes ≡ None = ap scan e.stands.joined ∙ blank_is_no_token e.stands.text e.rest
+    e.stands.is in
+    absurd (none-some x (sym none ∙ found)))
+    (λ none. le_zero (piece_len bytes) none)
+    (cases_lt 0 (piece_len bytes))
+
+stops_at_bad : (bytes : List ℕ) → (Begins BlankPiece bytes → ⊥) → piece_len bytes ≡ 0
+stops_at_bad bytes no_blank =
+    ⊎_elim
+    (λ some.
+    let e = piece_found bytes some in
+    absurd (no_blank
+    (record {
+      front = e.stands.text;
+      rest = e.rest;
+      joined = e.stands.joined;
+      is = e.stands.is;
+    })))
+    (λ none. le_zero (piece_len bytes) none)
+    (cases_lt 0 (piece_len bytes))
+
+-- where no length is found no piece begins
+pub no_blank_found : (bytes : List ℕ) → piece_len bytes ≡ 0 → Begins BlankPiece bytes → ⊥
+no_blank_found bytes stops b =
+    let piece = piece_len-piece b.front b.rest b.is in
+    omega (arith, ap piece_len b.joined, piece.0, piece.1)
+
+stops_at_end : (input : List ℕ) → piece_len (drop (length input) input) ≡ 0
+unfolding comment_len
+stops_at_end input = ap piece_len (drop_all (length input) input (le_refl (length input)))
+
+not_at_end : (place size : ℕ) → place ≤ size → place ≢ size → place < size
+not_at_end place size within other = omega arith
+
+-- the answer at the place where the gap ends
+
+-- the answer to a call
+abbrev pub Answer : Type 0
+Answer = Result (Option Token) BadToken
+
+-- the answer by what is found where the gap ends
+abbrev pub answer_by : Found → ℕ → ℕ → Answer
+answer_by (Some x) place size = Ok (Some (token_of x.0 place x.1))
+answer_by None place size = cond (eqb place size) (Ok None) (Err (record { 0 = place }))
+
+-- a gap up to a place where no piece goes on
+pub record Stop (input : List ℕ) (from place : ℕ) : Type 0 where
+  pub gap : IsGap input from place
+  pub stops : piece_len (drop place input) ≡ 0
+
+-- this answer is so
+pub answer_holds : (input : List ℕ) (from place : ℕ) (o : Found) → Stop input from place
+    → scan (drop place input) ≡ o → Answers (record { input = input; place = from })
+    (answer_by o place (length input))
+answer_holds input from place (Some x) stop found =
+    record { gap = stop.gap; token = found_token input place x stop.gap.within found }
+answer_holds input from place None stop found =
+    cond_both (eqb place (length input)) (Ok None) (Err (record { 0 = place }))
+    (Answers (record { input = input; place = from }))
+    (λ at_end. subst (IsGap input from) (eqb-true place (length input) at_end) stop.gap)
+    (λ before. record {
+      gap = stop.gap;
+      within = not_at_end place (length input) stop.gap.within
+          (eqb-false place (length input) before);
+      no_blank = no_blank_found (drop place input) stop.stops;
+      no_token = no_token_found input place found;
+    })
+
+-- an answer that holds is the answer at such a place
+pub record Answered (input : List ℕ) (from : ℕ) (answer : Answer) : Type 0 where
+  pub place : ℕ
+  pub stop : Stop input from place
+  pub answer_is : answer ≡ answer_by (scan (drop place input)) place (length input)
+
+-- and an answer that is so is this one
+pub answered : (input : List ℕ) (from : ℕ) (answer : Answer)
+    → Answers (record { input = input; place = from }) answer → Answered input from answer
+answered input from (Ok (Some t)) next =
+    let found : scan (drop t.start input) ≡ Some (t.kind, t.end - t.start) =
+    token_found input t (scan (drop t.start input)) next.token refl in
+    let end : t.start + (t.end - t.start) ≡ t.end = omega (arith, next.token.candidate.ordered) in
+    record {
+      place = t.start;
+      stop = record {
+        gap = next.gap;
+        stops = stops_at_token (drop t.start input)
+            (t.kind, t.end - t.start) found;
+      };
+      answer_is =
+          (λ i. Ok (Some (record { kind = t.kind; start = t.start; end = sym end i })))
+          ∙ ap (λ o. answer_by o t.start (length input)) (sym found);
+    }
+answered input from (Ok None) at_end =
+    let none : scan (drop (length input) input) ≡ None = ap scan
+    (drop_all (length input) input (le_refl (length input))) in
+    record {
+      place = length input;
+      stop = record { gap = at_end; stops = stops_at_end input };
+      answer_is =
+          sym (cond-true (eqb (length input) (length input)) (Ok None)
+          (Err (record { 0 = length input })) (eq-eqb (length input) (length input) refl))
+          ∙ ap (λ o. answer_by o (length input) (length input)) (sym none);
+    }
+answered input from (Err bad) is =
+    let none : scan (drop bad.0 input) ≡ None =
+    none_found input bad.0 (scan (drop bad.0 input)) is.gap.within is.no_token refl in
+    record {
+      place = bad.0;
+      stop = record { gap = is.gap; stops = stops_at_bad (drop bad.0 input) is.no_blank };
+      answer_is =
+          sym (cond-false (eqb bad.0 (length input)) (Ok None) (Err (record { 0 = bad.0 }))
+          (ne_eqb bad.0 (length input) (λ same. omega (arith, is.within))))
+          ∙ ap (λ o. answer_by o bad.0 (length input)) (sym none);
+    }
+
+-- two gaps from one place end at one place
+stops_agree : (input : List ℕ) (from p q : ℕ) → Stop input from p → Stop input from q → p ≡ q
+stops_agree input from p q a b =
+    let same = sym (sliced input from p a.gap.ordered) ∙ sliced input from q b.gap.ordered in
+    let as_long = blanks_agree (slice_range input from p) (slice_range input from q) (drop p input)
+    (drop q input) a.gap.blank b.gap.blank same a.stops b.stops in
+    omega (
+      arith,
+      as_long,
+      slice_length input from p a.gap.ordered a.gap.within,
+      slice_length input
+          from q b.gap.ordered b.gap.within,
+      a.gap.ordered,
+      b.gap.ordered,
+    )
+
+-- there is one answer
+pub answers_agree : (at : Reading) (r q : Answer) → Answers at r → Answers at q → r ≡ q
+answers_agree at r q a b =
+    let first = answered at.input at.place r a in
+    let second = answered at.input at.place q b in
+    let same = stops_agree at.input at.place first.place second.place first.stop second.stop in
+    first.answer_is ∙ ap (λ k. answer_by (scan (drop k at.input)) k (length at.input)) same
+    ∙ sym second.answer_is
+
+-- an answer that holds is given exactly where another holds that is the same
+pub answer_pins : (at : Reading) (r q : Answer) → Answers at r
+    → (r ≡ q) ↔ Answers at q
+answer_pins at r q holds = (
+  λ same. subst (Answers at) same holds,
+  λ other. answers_agree at
+      r q holds other,
+)

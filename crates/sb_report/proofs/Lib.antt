@@ -1,0 +1,7 @@
+mod CharactersOfMore
+mod Examples
+mod LowestBesideZero
+mod NamedInModel
+mod NoFloats
+mod OneMoreEntry
+mod Passing

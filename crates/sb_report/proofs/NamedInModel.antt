@@ -1,0 +1,32 @@
+-- What is asked of a list of boundaries holds of each of them.
+
+use Rattle.std.proofs.Common.{◌≡◌, ℕ, zero, suc, Bool, IsTrue, List, [], ◌∷◌, length, Some, slice_get}
+use Rattle.std.proofs.lemmas.Bool.{and_parts}
+use Rattle.std.specs.List.{list_all}
+use Rattle.sb_model.specs.declared.boundary.Boundary.{Boundary}
+use Rattle.sb_model.specs.Building.{Building}
+use Rattle.sb_model.specs.Corners.{is_straight}
+use Rattle.sb_model.specs.Faces.{is_face_of}
+use Rattle.sb_report.specs.Conditions.{is_boundary_of, is_list_of, have_corners}
+
+-- a test that all items pass is passed by the item at each place
+passed_at : {X : Type 0} (p : X → Bool) (xs : List X) (i : ℕ) (x : X)
+    → IsTrue (list_all p xs) → slice_get xs i ≡ Some x → IsTrue (p x)
+passed_at p [] i x all here = absurd (cc)
+passed_at p (y ∷ ys) zero x all here =
+    let same : y ≡ x = cc in
+    rw same at (and_parts (p y) (list_all p ys) all).0
+passed_at p (y ∷ ys) (suc i) x all here =
+    passed_at p ys i x (and_parts (p y) (list_all p ys) all).1 here
+
+-- the face of each boundary is the model's
+pub face_at : (m : Building) (bs : List Boundary) (i : ℕ) (b : Boundary)
+    → IsTrue (is_list_of m bs) → slice_get bs i ≡ Some b → IsTrue (is_face_of m b.patch.face)
+face_at m bs i b all here =
+    let named = passed_at (is_boundary_of m (length bs)) bs i b all here in
+    (and_parts (is_face_of m b.patch.face) _ named).0
+
+-- the corners of each patch can be told
+pub straight_at : (m : Building) (bs : List Boundary) (i : ℕ) (b : Boundary)
+    → IsTrue (have_corners m bs) → slice_get bs i ≡ Some b → IsTrue (is_straight m b.patch)
+straight_at m bs i b all here = passed_at (λ b. is_straight m b.patch) bs i b all here

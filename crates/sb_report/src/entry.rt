@@ -1,0 +1,141 @@
+//! The entry of a boundary.
+
+ghost use Rattle.std.specs.Prelude.{◌≡◌, IfOk, OnOk, Some, IsTrue, codes};
+ghost use Rattle.serde_json.specs.Data.{string, put as with};
+ghost use Rattle.serde_json.specs.View.{view, members_view};
+ghost use Rattle.sb_model.specs.Corners.{corners_of, is_straight};
+ghost use Rattle.sb_model.specs.Faces.{is_face_of};
+ghost use Rattle.sb_report.specs.Texts.{face_name, end_name};
+ghost use Rattle.sb_report.specs.Normals.{normal_of};
+ghost use Rattle.sb_report.specs.Steps.{vector_of, is_short};
+ghost use Rattle.sb_report.specs.Entries.{count, signed, number_or_null, target, items_data};
+ghost use Rattle.sb_report.specs.Entries.{corners_data, normal_data, unit_data, boundary_data};
+
+use crate::corner::corners_value;
+use crate::item::items_value;
+use crate::normal::{normal, unit_of};
+use crate::text::{name_of_end, name_of_face};
+use sb_model::{Axis, Boundary, Corners, End, Face, Model, Walk, corners};
+use serde_json::{Map, Value, json, put};
+use std::alloc::{AllocError, Global};
+
+/// A number, or null.
+fn number(number: Option<u64>) -> Value
+    ensures { view result ≡ number_or_null number }
+{
+    match number {
+        Some(number) => Value::from(number),
+        None => Value::Null,
+    }
+}
+
+/// The number of a product, or null.
+fn product(number: Option<u32>) -> Value
+    ensures { view result ≡ number_or_null number }
+{
+    match number {
+        Some(number) => Value::from(number),
+        None => Value::Null,
+    }
+}
+
+/// The number of the space or element at an end.
+fn target_of(end: End) -> Option<u32>
+    ensures { result ≡ target end }
+{
+    match end {
+        End::Space(number) | End::Solid(number) => Some(number),
+        End::Outside | End::Earth => None,
+    }
+}
+
+/// Adds what a walk crosses and meets.
+fn put_walk(
+    entry: &mut Map<String, Value>,
+    alloc: Global,
+    model: &Model,
+    walk: &Walk,
+) -> Result<(), AllocError>
+    ensures { OnOk result (members_view entry.new.entries
+        ≡ with (codes "target") (number_or_null (target walk.now.end))
+        (with (codes "items") (items_data model.now walk.now.items)
+        (with (codes "end") (string (end_name walk.now.end))
+        (with (codes "depth") (signed walk.now.depth) (members_view entry.old.entries))))) }
+{
+    put(entry, alloc, "depth", Value::from(walk.depth))?;
+    let end = Value::try_from_str(alloc, name_of_end(walk.end))?;
+    put(entry, alloc, "end", end)?;
+    let items = items_value(alloc, model, &walk.items)?;
+    put(entry, alloc, "items", items)?;
+    put(entry, alloc, "target", product(target_of(walk.end)))
+}
+
+/// Adds the key, the counterpart and the parent of a boundary.
+fn put_ties(
+    entry: &mut Map<String, Value>,
+    alloc: Global,
+    boundary: &Boundary,
+) -> Result<(), AllocError>
+    ensures { OnOk result (members_view entry.new.entries
+        ≡ with (codes "parent") (number_or_null boundary.now.parent)
+        (with (codes "pair") (number_or_null boundary.now.pair)
+        (with (codes "key") (number_or_null boundary.now.key) (members_view entry.old.entries)))) }
+{
+    put(entry, alloc, "key", product(boundary.key))?;
+    put(entry, alloc, "pair", number(boundary.pair))?;
+    put(entry, alloc, "parent", number(boundary.parent))
+}
+
+/// The three coordinates of a normal.
+fn normal_value(alloc: Global, normal: Axis) -> Result<Value, AllocError>
+    ensures { IfOk result (λ v. view v ≡ normal_data (Some (vector_of normal))) }
+{
+    json!(in alloc; [normal.x, normal.y, normal.z])
+}
+
+/// Adds the face, its corners, its outward normal and the unit of the normal.
+fn put_face(
+    entry: &mut Map<String, Value>,
+    alloc: Global,
+    face: Face,
+    corners: &Corners,
+    normal: Axis,
+) -> Result<(), AllocError>
+    requires { IsTrue (is_short normal) }
+    ensures { OnOk result (members_view entry.new.entries
+        ≡ with (codes "unit") (unit_data (Some (vector_of normal)))
+        (with (codes "space") (count face.space)
+        (with (codes "normal") (normal_data (Some (vector_of normal)))
+        (with (codes "face") (string (face_name face.kind))
+        (with (codes "corners") (corners_data (Some corners.now))
+        (members_view entry.old.entries)))))) }
+{
+    put(entry, alloc, "corners", corners_value(alloc, corners)?)?;
+    let name = Value::try_from_str(alloc, name_of_face(face.kind))?;
+    put(entry, alloc, "face", name)?;
+    put(entry, alloc, "normal", normal_value(alloc, normal)?)?;
+    put(entry, alloc, "space", Value::from(face.space))?;
+    put(entry, alloc, "unit", Value::from(unit_of(normal)))
+}
+
+/// A boundary, whose id is this number.
+#[tactic(auto, unfolding(crate::specs::Entries::boundary_data))]
+pub fn boundary_value(
+    alloc: Global,
+    model: &Model,
+    id: u64,
+    boundary: &Boundary,
+) -> Result<Value, AllocError>
+    requires face { IsTrue (is_face_of model.now boundary.now.patch.face) }
+    requires straight { IsTrue (is_straight model.now boundary.now.patch) }
+    ensures { IfOk result (λ v. view v ≡ boundary_data model.now id boundary.now) }
+{
+    let face = boundary.patch.face;
+    let corners = corners(model, &boundary.patch);
+    let mut entry = Map::new(alloc);
+    put(&mut entry, alloc, "id", Value::from(id))?;
+    put_face(&mut entry, alloc, face, &corners, normal(model, face))?;
+    put_walk(&mut entry, alloc, model, &boundary.walk)?;
+    put_ties(&mut entry, alloc, boundary)?;
+    Ok(Value::Object(entry))
+}

@@ -1,0 +1,181 @@
+//! The outward normals of faces.
+
+ghost use Rattle.std.specs.Prelude.{◌≡◌, ◌==◌, ◌&&◌, ◌<◌, ◌≤◌, IfSome, ◌-ℤ◌, ◌*ℤ◌, ◌+ℤ◌};
+ghost use Rattle.std.specs.Prelude.{◌+◌, ◌/◌, length, slice_get, IsTrue, Some, pos, neg_ℤ, unsigned_abs};
+ghost use Rattle.std.specs.Option.{option_copied, option_map};
+ghost use Rattle.std.specs.List.{list_all};
+ghost use Rattle.sb_fraction.specs.Divisors.{greatest_divisor};
+ghost use Rattle.sb_model.specs.Spots.{vector, inner};
+ghost use Rattle.sb_model.specs.Plan.{edge, edges_of, edges_of_loop, place_after};
+ghost use Rattle.sb_model.specs.Loops.{is_plan_point};
+ghost use Rattle.sb_model.specs.Faces.{normal_over as normal_over_edge, space_numbered};
+ghost use Rattle.sb_model.specs.Faces.{is_face_of};
+ghost use Rattle.sb_report.specs.Normals.{normal_of};
+ghost use Rattle.sb_report.specs.Steps.{vector_of, is_short, signed_as};
+
+use sb_fraction::{Fraction, Point};
+use sb_model::{Axis, Face, FaceKind, Loops, Model, Space};
+
+/// The outward normal of a face of the model.
+pub fn normal(model: &Model, face: Face) -> Axis
+    requires { IsTrue (is_face_of model.now face) }
+    ensures value { normal_of model.now face ≡ Some (vector_of result) }
+    ensures short { IsTrue (is_short result) }
+{
+    match face.kind {
+        FaceKind::Bottom => Axis { x: 0, y: 0, z: -1 },
+        FaceKind::Top => Axis { x: 0, y: 0, z: 1 },
+        FaceKind::Side(k) => {
+            let space = find_space(model, face.space).unwrap();
+            let (a, b) = edge_of(space.prism.loops(), k as usize).unwrap();
+            normal_over(a, b)
+        }
+    }
+}
+
+/// The unit of a normal: its inner product with itself.
+#[tactic(auto, using(crate::proofs::Passing::passing))]
+pub fn unit_of(normal: Axis) -> i64
+    requires { IsTrue (is_short normal) }
+    ensures { result ≡ inner (vector_of normal) (vector_of normal) }
+{
+    sum(sum(square(normal.x), square(normal.y)), square(normal.z))
+}
+
+/// The product of a number with itself.
+fn square(a: i32) -> i64
+    requires { unsigned_abs a ≤ 1000000 }
+    ensures value { result ≡ a *ℤ a }
+    ensures size { unsigned_abs result ≤ 1000000000000 }
+{
+    a as i64 * a as i64
+}
+
+/// The sum of two numbers.
+fn sum(a: i64, b: i64) -> i64
+    requires a_size { unsigned_abs a ≤ 2000000000000 }
+    requires b_size { unsigned_abs b ≤ 2000000000000 }
+    ensures value { result ≡ a +ℤ b }
+    ensures size { unsigned_abs result ≤ unsigned_abs a + unsigned_abs b }
+{
+    a + b
+}
+
+/// The outward normal of the face over the edge from `a` to `b`.
+#[tactic(auto, using(crate::proofs::Passing::passing), unfolding(sb_model::specs::Faces::normal_over, sb_model::specs::Faces::step))]
+fn normal_over(a: Point, b: Point) -> Axis
+    requires a_in_range { IsTrue (is_plan_point a) }
+    requires b_in_range { IsTrue (is_plan_point b) }
+    ensures value { vector_of result ≡ normal_over_edge (edge a b) }
+    ensures short { IsTrue (is_short result) }
+{
+    let x = difference(b.x, a.x);
+    let y = difference(b.y, a.y);
+    let (along_x, along_y) = lowest(x.unsigned_abs(), y.unsigned_abs());
+    level(with_sign(along_y, y), opposite(with_sign(along_x, x)))
+}
+
+/// The level direction with these coordinates.
+fn level(x: i32, y: i32) -> Axis
+    requires x_size { unsigned_abs x ≤ 1000000 }
+    requires y_size { unsigned_abs y ≤ 1000000 }
+    ensures value { vector_of result ≡ vector x y (pos 0) }
+    ensures short { IsTrue (is_short result) }
+{
+    Axis { x, y, z: 0 }
+}
+
+/// The difference of two coordinates.
+fn difference(a: i32, b: i32) -> i32
+    requires a_size { unsigned_abs a ≤ 500000 }
+    requires b_size { unsigned_abs b ≤ 500000 }
+    ensures value { result ≡ a -ℤ b }
+    ensures size { unsigned_abs result ≤ 1000000 }
+{
+    a - b
+}
+
+/// Two numbers divided by their greatest common divisor.
+#[tactic(auto, unfolding(sb_fraction::specs::Ratio::reduced))]
+fn lowest(x: u32, y: u32) -> (u32, u32)
+    requires x_size { x ≤ 1000000 }
+    requires y_size { y ≤ 1000000 }
+    ensures x { result.0 ≡ x / greatest_divisor x y }
+    ensures y { result.1 ≡ y / greatest_divisor x y }
+    ensures x_size { result.0 ≤ 1000000 }
+    ensures y_size { result.1 ≤ 1000000 }
+{
+    if y == 0 {
+        return (x.min(1), 0);
+    }
+    let fraction = Fraction::new(x as i128, y as i128);
+    (fraction.num() as u32, fraction.den() as u32)
+}
+
+/// The number of this size with the sign of `like`.
+fn with_sign(size: u32, like: i32) -> i32
+    requires { size ≤ 1000000 }
+    ensures value { result ≡ signed_as like size }
+    ensures size { unsigned_abs result ≤ 1000000 }
+{
+    if like < 0 {
+        -(size as i32)
+    } else {
+        size as i32
+    }
+}
+
+/// The number with its sign changed.
+fn opposite(a: i32) -> i32
+    requires { unsigned_abs a ≤ 1000000 }
+    ensures value { result ≡ neg_ℤ a }
+    ensures size { unsigned_abs result ≤ 1000000 }
+{
+    -a
+}
+
+/// The space with this number.
+fn find_space(model: &Model, number: u32) -> Option<&Space>
+    ensures { option_copied result ≡ space_numbered model.now number }
+{
+    model
+        .spaces()
+        .as_slice()
+        .iter()
+        .find(|s| s.number == number)
+}
+
+/// The ends of edge `k`, counted through all loops; `None` where there is none.
+fn edge_of(loops: &Loops, k: usize) -> Option<(Point, Point)>
+    ensures value { option_map (λ e. edge e.0 e.1) result ≡ slice_get (edges_of loops.now) k }
+    ensures in_range { IfSome result (λ e. IsTrue (is_plan_point e.0 && is_plan_point e.1)) }
+{
+    let mut left = k;
+    for points in loops.points().as_slice() {
+        let points = points.as_slice();
+        if left < points.len() {
+            return Some(edge_in(points, left));
+        }
+        left -= points.len();
+    }
+    None
+}
+
+/// The ends of edge `k` of a loop.
+fn edge_in(points: &[Point], k: usize) -> (Point, Point)
+    requires within { k < length points.now }
+    requires in_range { IsTrue (list_all is_plan_point points.now) }
+    ensures value { slice_get (edges_of_loop points.now) k ≡ Some (edge result.0 result.1) }
+    ensures in_range { IsTrue (is_plan_point result.0 && is_plan_point result.1) }
+{
+    (points[k], points[next_place(k, points.len())])
+}
+
+/// The place after `k` in a closed loop of `len` points.
+fn next_place(k: usize, len: usize) -> usize
+    requires { k < len }
+    ensures value { result ≡ place_after k len }
+    ensures within { result < len }
+{
+    if k + 1 < len { k + 1 } else { 0 }
+}

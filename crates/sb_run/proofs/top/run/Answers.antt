@@ -1,0 +1,28 @@
+use Rattle.sb_run.proofs.AnswersHaveTheirCause.{told_under, refused_exactly, refused_is_unsound, finished_is_not_too_long, finished_is_not_refused, report_stands}
+use Rattle.sb_run.proofs.top.run.Goals as goal
+
+pub returns-in-Err-clause-refused : goal.returns-in-Err-clause-refused
+returns-in-Err-clause-refused g c input is =
+    let told = told_under _ _ _ input c.in-Some.ensures.some is in
+    refused_exactly _ _ _ _ _ input c.in-Err.ensures.refused c.said_early.ensures.same told
+
+pub returns-in-Err-clause-complete : goal.returns-in-Err-clause-complete
+returns-in-Err-clause-complete g c input is form sound steady files =
+    let told = told_under _ _ _ input c.in-Some.ensures.some is in
+    refused_is_unsound _ _ _ _ _ input form c.in-Err.ensures.refused c.said_early.ensures.same told sound
+    (λ rose. steady (rw c.said_early.ensures.keeps.output.read_faults rose))
+
+pub returns-in-Ok-clause-too_long : goal.returns-in-Ok-clause-too_long
+returns-in-Ok-clause-too_long g c input is reached =
+    let told = told_under _ _ _ input c.in-Some.ensures.some is in
+    finished_is_not_too_long _ _ _ _ input c.finished.ensures.answer (c.in-Ok.ensures.ready input told)
+
+pub returns-in-Ok-clause-refused : goal.returns-in-Ok-clause-refused
+returns-in-Ok-clause-refused g c input is n why reached =
+    let told = told_under _ _ _ input c.in-Some.ensures.some is in
+    finished_is_not_refused _ _ _ _ input c.finished.ensures.answer (c.in-Ok.ensures.ready input told) n why
+
+pub returns-in-Ok-clause-report : goal.returns-in-Ok-clause-report
+returns-in-Ok-clause-report g c input is =
+    let told = told_under _ _ _ input c.in-Some.ensures.some is in
+    report_stands _ _ _ _ input c.finished.ensures.answer (c.in-Ok.ensures.ready input told)
