@@ -1,7 +1,8 @@
 -- What lies round a box: outside it is the earth below the ground, and the open air above.
-use Rattle.std.proofs.Common.{◌≡◌, refl, sym, ap, ◌∙◌, arith, ℕ, ℤ, pos, ◌+ℤ◌, ◌-ℤ◌, ◌*ℤ◌, ◌<ℤ◌, ◌≤ℤ◌, Bool, true, false, ◌&&◌, List, [], ◌∷◌, int_lt, if◌then◌else◌}
+use Rattle.std.proofs.Common.{◌≡◌, refl, ap, ◌∙◌, arith, ℕ, pos, ◌*ℤ◌, ◌<ℤ◌, ◌≤ℤ◌, false, List, []}
+use Rattle.std.proofs.Common.{◌∷◌}
 use Rattle.std.proofs.lemmas.Int.{ints}
-use Rattle.std.proofs.lemmas.Bool.{and_left, and_right}
+use Rattle.std.proofs.lemmas.Bool.{and_left}
 use Rattle.sb_fraction.specs.declared.unit.Unit as unit
 use Rattle.sb_whole.proofs.Signs.{test_less, test_not_less}
 use Rattle.sb_model.specs.declared.frame.Frame.{Frame}
@@ -9,7 +10,7 @@ use Rattle.sb_model.specs.declared.label.Label.TheVariants as label
 use Rattle.sb_model.specs.declared.products.Space.{Space}
 use Rattle.sb_model.specs.Spots.{Spot}
 use Rattle.sb_model.specs.Plan.{is_in_plan}
-use Rattle.sb_model.specs.Solids.{is_in_solid, is_between_heights}
+use Rattle.sb_model.specs.Solids.{is_in_solid}
 use Rattle.sb_model.specs.Building.{Building, building}
 use Rattle.sb_model.specs.Labels.{label_at, open_label}
 use Rattle.sb_laws.specs.Rectangles.{rectangle}
@@ -25,7 +26,13 @@ pub record Besides : Type 0 where
 
 -- the one space
 abbrev pub box_space : Besides → ℕ → Extent → Space
-box_space k n e = record { number = n; global_id = k.global_id; prism = prism_of e; frame = k.frame }
+box_space k n e = record {
+  number = n;
+  global_id = k.global_id;
+  prism = prism_of e;
+  frame =
+      k.frame;
+}
 
 -- and the model
 abbrev pub box_model : Besides → ℕ → Extent → Building
@@ -41,9 +48,12 @@ is_box_model n e m is =
     ap (λ level. building m.unit level m.reach m.spaces m.elements m.openings m.fillings) is.level
     ∙ ap (λ spaces. building m.unit (pos 0) m.reach spaces m.elements m.openings m.fillings)
     (is.spaces ∙ ap (λ s. s ∷ []) (whole is.space is.number is.prism))
-    ∙ ap (λ es. building m.unit (pos 0) m.reach (box_space (besides_of m is.space) n e ∷ []) es m.openings m.fillings) is.elements
-    ∙ ap (λ os. building m.unit (pos 0) m.reach (box_space (besides_of m is.space) n e ∷ []) [] os m.fillings) is.openings
-    ∙ ap (λ fs. building m.unit (pos 0) m.reach (box_space (besides_of m is.space) n e ∷ []) [] [] fs) is.fillings
+    ∙ ap (λ es. building m.unit (pos 0) m.reach
+    (box_space (besides_of m is.space) n e ∷ []) es m.openings m.fillings) is.elements
+    ∙ ap (λ os. building m.unit (pos 0) m.reach
+    (box_space (besides_of m is.space) n e ∷ []) [] os m.fillings) is.openings
+    ∙ ap (λ fs. building m.unit (pos 0) m.reach
+    (box_space (besides_of m is.space) n e ∷ []) [] [] fs) is.fillings
   where
     whole : (s : Space) → s.number ≡ n → s.prism ≡ prism_of e → s ≡ box_space (besides_of m s) n e
     whole s number_is prism_is =
@@ -51,7 +61,8 @@ is_box_model n e m is =
         ∙ ap (λ prism. record (box_space (besides_of m s) n e) { prism = prism }) prism_is
 
 -- a point outside the box has the label of the open
-pub label_outside : (k : Besides) (n : ℕ) (e : Extent) (q : Spot) → is_in_solid (prism_of e) q ≡ false
+pub label_outside : (k : Besides) (n : ℕ) (e : Extent) (q : Spot)
+    → is_in_solid (prism_of e) q ≡ false
     → label_at (box_model k n e) q ≡ open_label (pos 0) q
 label_outside k n e q out = rw out refl
 

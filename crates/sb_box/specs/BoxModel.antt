@@ -1,5 +1,5 @@
 -- The models that are one box in the open.
-use Rattle.std.specs.Prelude.{◌≡◌, ℕ, pos, List, [], ◌∷◌}
+use Rattle.std.specs.Prelude.{◌≡◌, ℕ, pos, [], ◌∷◌}
 use Rattle.sb_model.specs.declared.products.Space.{Space}
 use Rattle.sb_model.specs.Solids.{Upright, upright}
 use Rattle.sb_model.specs.Building.{Building}
