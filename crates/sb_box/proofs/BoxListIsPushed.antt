@@ -1,7 +1,9 @@
 -- Boundaries that are pushed one by one are a list in their order.
-use Rattle.std.proofs.Common.{◌≡◌, ℕ, ℤ, pos, true, false, ◌++◌, ◌∷◌, [], List, append_assoc, ap, ◌∙◌, subst}
+use Rattle.std.proofs.Common.{◌≡◌, ℕ, ℤ, pos, true, false, ◌++◌, ◌∷◌, [], List, append_assoc, ap}
+use Rattle.std.proofs.Common.{◌∙◌, subst}
 use Rattle.sb_model.specs.declared.boundary.Boundary.{Boundary}
-use Rattle.sb_box.specs.BoxList.{BoxPatch, IsBoxBoundary, AreBoxBoundaries, IsBoxList, box_patch, box_patches, side_patches, is_cut, above, below}
+use Rattle.sb_box.specs.BoxList.{BoxPatch, IsBoxBoundary, AreBoxBoundaries, IsBoxList, box_patch}
+use Rattle.sb_box.specs.BoxList.{box_patches, side_patches, is_cut, above, below}
 use Rattle.sb_box.specs.declared.extent.Extent.{Extent}
 use Rattle.sb_model.specs.declared.face.FaceKind.TheVariants as kind
 use Rattle.sb_model.specs.declared.walk.End.{End}
@@ -17,7 +19,8 @@ appended space [] (c ∷ cs) p b are is = absurd are
 appended space (q ∷ qs) [] p b are is = absurd are
 
 -- a list with one more boundary stands for one more patch
-pub pushed : (space : ℕ) (ps : List BoxPatch) (before after : List Boundary) (p : BoxPatch) (b : Boundary)
+pub pushed : (space : ℕ) (ps : List BoxPatch) (before after : List Boundary) (p : BoxPatch)
+    (b : Boundary)
     → AreBoxBoundaries space ps before → IsBoxBoundary space p b → after ≡ before ++ b ∷ []
     → AreBoxBoundaries space (ps ++ p ∷ []) after
 pushed space ps before after p b are is grown = rw grown (appended space ps before p b are is)
@@ -29,14 +32,18 @@ pub one_pushed : (space : ℕ) (ps : List BoxPatch) (before after : List Boundar
     → IsBoxBoundary space (box_patch face low high z0 z1 (above z0)) b → after ≡ before ++ b ∷ []
     → AreBoxBoundaries space (ps ++ side_patches face low high z0 z1) after
 one_pushed space ps before after b face low high z0 z1 whole_side are is grown =
-    rw whole_side (pushed space ps before after (box_patch face low high z0 z1 (above z0)) b are is grown)
+    rw whole_side (pushed space ps before after
+    (box_patch face low high z0 z1 (above z0)) b are is grown)
 
 -- a list with the two boundaries of a side that the ground cuts
-pub two_pushed : (space : ℕ) (ps : List BoxPatch) (before between after : List Boundary) (b c : Boundary)
+pub two_pushed : (space : ℕ) (ps : List BoxPatch) (before between after : List Boundary)
+    (b c : Boundary)
     (face : FaceKind) (low high z0 z1 : ℤ) → is_cut z0 z1 ≡ true
     → AreBoxBoundaries space ps before
-    → IsBoxBoundary space (box_patch face low high z0 (pos 0) end.Earth) b → between ≡ before ++ b ∷ []
-    → IsBoxBoundary space (box_patch face low high (pos 0) z1 end.Outside) c → after ≡ between ++ c ∷ []
+    → IsBoxBoundary space (box_patch face low high z0 (pos 0) end.Earth) b
+    → between ≡ before ++ b ∷ []
+    → IsBoxBoundary space (box_patch face low high (pos 0) z1 end.Outside) c
+    → after ≡ between ++ c ∷ []
     → AreBoxBoundaries space (ps ++ side_patches face low high z0 z1) after
 two_pushed space ps before between after b c face low high z0 z1 cut are is grown is_too grown_too =
     let earth = box_patch face low high z0 (pos 0) end.Earth in
@@ -53,7 +60,8 @@ Extends space face low high z0 z1 before after =
 
 joined : (a b c d e : List BoxPatch) → (((a ++ b) ++ c) ++ d) ++ e ≡ a ++ (b ++ (c ++ (d ++ e)))
 joined a b c d e =
-    append_assoc ((a ++ b) ++ c) d e ∙ append_assoc (a ++ b) c (d ++ e) ∙ append_assoc a b (c ++ (d ++ e))
+    append_assoc ((a ++ b) ++ c) d e ∙ append_assoc (a ++ b) c (d ++ e)
+    ∙ append_assoc a b (c ++ (d ++ e))
 
 -- the patches of a box by its six numbers
 abbrev patches_at : ℤ → ℤ → ℤ → ℤ → ℤ → ℤ → List BoxPatch
@@ -67,8 +75,10 @@ same_numbers : (x0 x1 y0 y1 z0 z1 : ℤ) (e : Extent)
     → patches_at x0 x1 y0 y1 z0 z1 ≡ box_patches e
 same_numbers x0 x1 y0 y1 z0 z1 e ex0 ex1 ey0 ey1 ez0 ez1 =
     ap (λ n. patches_at n x1 y0 y1 z0 z1) ex0 ∙ ap (λ n. patches_at e.x0 n y0 y1 z0 z1) ex1
-    ∙ ap (λ n. patches_at e.x0 e.x1 n y1 z0 z1) ey0 ∙ ap (λ n. patches_at e.x0 e.x1 e.y0 n z0 z1) ey1
-    ∙ ap (λ n. patches_at e.x0 e.x1 e.y0 e.y1 n z1) ez0 ∙ ap (λ n. patches_at e.x0 e.x1 e.y0 e.y1 e.z0 n) ez1
+    ∙ ap (λ n. patches_at e.x0 e.x1 n y1 z0 z1) ey0
+    ∙ ap (λ n. patches_at e.x0 e.x1 e.y0 n z0 z1) ey1
+    ∙ ap (λ n. patches_at e.x0 e.x1 e.y0 e.y1 n z1) ez0
+    ∙ ap (λ n. patches_at e.x0 e.x1 e.y0 e.y1 e.z0 n) ez1
 
 -- Bottom, Top and the four sides, pushed in this order, are the list of the box
 pub box_pushed : (space : ℕ) (e : Extent) (x0 x1 y0 y1 z0 z1 : ℤ)
@@ -80,7 +90,8 @@ pub box_pushed : (space : ℕ) (e : Extent) (x0 x1 y0 y1 z0 z1 : ℤ)
     → Extends space (kind.Side 0) x0 x1 z0 z1 l2 l3 → Extends space (kind.Side 1) y0 y1 z0 z1 l3 l4
     → Extends space (kind.Side 2) x0 x1 z0 z1 l4 l5 → Extends space (kind.Side 3) y0 y1 z0 z1 l5 l6
     → IsBoxList space e l6
-box_pushed space e x0 x1 y0 y1 z0 z1 ex0 ex1 ey0 ey1 ez0 ez1 l0 l1 l2 l3 l4 l5 l6 bottom top under over
+box_pushed space e x0 x1 y0 y1 z0 z1 ex0 ex1 ey0 ey1 ez0 ez1 l0 l1 l2 l3 l4 l5 l6 bottom top under
+    over
     none first second bottom_is under_is top_is over_is side0 side1 side2 side3 =
     let low = box_patch kind.Bottom x0 x1 y0 y1 (below z0) in
     let high = box_patch kind.Top x0 x1 y0 y1 (above z1) in
@@ -94,7 +105,8 @@ box_pushed space e x0 x1 y0 y1 z0 z1 ex0 ex1 ey0 ey1 ez0 ez1 l0 l1 l2 l3 l4 l5 l
     let b = side_patches (kind.Side 1) y0 y1 z0 z1 in
     let c = side_patches (kind.Side 2) x0 x1 z0 z1 in
     let d = side_patches (kind.Side 3) y0 y1 z0 z1 in
-    let all = side3 (((faces ++ a) ++ b) ++ c) (side2 ((faces ++ a) ++ b) (side1 (faces ++ a) (side0 faces two))) in
+    let all = side3 (((faces ++ a) ++ b) ++ c)
+    (side2 ((faces ++ a) ++ b) (side1 (faces ++ a) (side0 faces two))) in
     subst (λ (ps : List BoxPatch). AreBoxBoundaries space ps l6)
     (joined faces a b c d ∙ same_numbers x0 x1 y0 y1 z0 z1 e ex0 ex1 ey0 ey1 ez0 ez1)
     all

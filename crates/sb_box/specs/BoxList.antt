@@ -1,5 +1,6 @@
 -- Which boundaries a box has. The ground is at height 0.
-use Rattle.std.specs.Prelude.{◌≡◌, ℕ, ℤ, pos, Bool, ◌&&◌, List, [], ◌∷◌, ◌++◌, None, int_lt, int_le, if◌then◌else◌}
+use Rattle.std.specs.Prelude.{◌≡◌, ℕ, ℤ, pos, Bool, ◌&&◌, List, [], ◌∷◌, ◌++◌, None, int_lt, int_le}
+use Rattle.std.specs.Prelude.{if◌then◌else◌}
 use Rattle.sb_model.specs.Corners.{whole}
 use Rattle.sb_plane.specs.Sides.{level}
 use Rattle.sb_model.specs.Sides.{line_of}
@@ -39,7 +40,8 @@ is_cut z0 z1 = int_lt z0 (pos 0) && int_lt (pos 0) z1
 abbrev pub side_patches : FaceKind → ℤ → ℤ → ℤ → ℤ → List BoxPatch
 side_patches face low high z0 z1 =
     if is_cut z0 z1
-    then box_patch face low high z0 (pos 0) end.Earth ∷ box_patch face low high (pos 0) z1 end.Outside ∷ []
+    then box_patch face low high z0 (pos 0) end.Earth
+    ∷ box_patch face low high (pos 0) z1 end.Outside ∷ []
     else box_patch face low high z0 z1 (above z0) ∷ []
 
 -- the patches in order: u and v are x and y on Bottom and Top, x and z on the sides along x, and

@@ -1,5 +1,5 @@
 -- Boxes with sides along the axes.
-use Rattle.std.specs.Prelude.{ℕ, ℤ, pos, Bool, ◌&&◌, int_lt, nat_le, unsigned_abs}
+use Rattle.std.specs.Prelude.{ℕ, ℤ, Bool, ◌&&◌, int_lt, nat_le, unsigned_abs}
 
 -- the greatest size of a coordinate, in mm
 abbrev pub farthest : ℕ
@@ -7,7 +7,9 @@ farthest = 500000
 
 -- from a lower to a greater coordinate, both in range
 abbrev pub is_interval : ℤ → ℤ → Bool
-is_interval low high = int_lt low high && nat_le (unsigned_abs low) farthest && nat_le (unsigned_abs high) farthest
+is_interval low high =
+    int_lt low high && nat_le (unsigned_abs low) farthest && nat_le (unsigned_abs high) farthest
 
+-- three intervals, along x, y and z
 abbrev pub is_extent : ℤ → ℤ → ℤ → ℤ → ℤ → ℤ → Bool
 is_extent x0 x1 y0 y1 z0 z1 = is_interval x0 x1 && is_interval y0 y1 && is_interval z0 z1

@@ -1,3 +1,4 @@
 -- What contracts of this crate cite, in reading order.
 pub mod Extents
 pub mod BoxList
+pub mod BoxModel

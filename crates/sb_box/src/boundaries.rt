@@ -1,9 +1,15 @@
 // The list of the boundaries of a box.
-ghost use Rattle.std.specs.Prelude.{◌≡◌, ◌++◌, ◌∷◌, [], List, pos, IsTrue, IfOk, OnOk, OnErr, None, nat_le, unsigned_abs};
-ghost use Rattle.sb_box.specs.BoxList.{BoxPatch, IsBoxList, IsBoxBoundary, AreBoxBoundaries, IsLevelFace};
+ghost use Rattle.std.specs.Prelude.{◌≡◌, ◌++◌, ◌∷◌, [], List, pos, IsTrue, IfOk, OnOk, OnErr, None};
+ghost use Rattle.std.specs.Prelude.{nat_le, unsigned_abs};
+ghost use Rattle.sb_box.specs.BoxList.{BoxPatch, IsBoxList, IsBoxBoundary, AreBoxBoundaries};
+ghost use Rattle.sb_box.specs.BoxList.{IsLevelFace};
 ghost use Rattle.sb_box.specs.BoxList.{box_patch, side_patches, is_cut, below, above};
+ghost use Rattle.sb_box.specs.BoxModel.{IsBoxModel};
 ghost use Rattle.sb_box.specs.Extents.{farthest};
+ghost use Rattle.sb_model.specs.Building.{Building};
 ghost use Rattle.sb_model.specs.Corners.{whole};
+ghost use Rattle.sb_model.specs.Order.{IsInOrder};
+ghost use Rattle.sb_model.specs.Sound.{IsSound};
 ghost use Rattle.sb_plane.specs.Sides.{level};
 ghost use Rattle.sb_model.specs.Sides.{line_of, is_side_of};
 
@@ -14,11 +20,15 @@ use std::alloc::{AllocError, Global};
 
 /// The boundaries of the box-shaped space with this number, in order: Bottom, Top, and the sides.
 ///
-/// The ground is at height 0, and there is nothing else in the building. A side that the ground cuts
-/// has two boundaries, the lower one first. Each boundary ends at once, at the earth where it lies
-/// below the ground and else at the open air.
+/// The ground is at height 0, and there is nothing else in the building. A side that the ground
+/// cuts has two boundaries, the lower one first. Each boundary ends at once, at the earth where it
+/// lies below the ground and else at the open air. The list is sound and in order for each model
+/// that is this box; the only error is that memory ran out.
 pub fn box_boundaries(alloc: Global, space: u32, extent: &Extent) -> Result<Boundaries, AllocError>
-    ensures { IfOk result (λ list. IsBoxList space extent.now list) }
+    ensures list { IfOk result (λ list. IsBoxList space extent.now list) }
+    ensures sound { (m : Building) → IsBoxModel space extent.now m
+        → IfOk result (λ list. IsSound m list) }
+    ensures in_order { IfOk result (λ list. IsInOrder list) }
 {
     let (x, y, z) = (extent.x(), extent.y(), extent.z());
     let mut list = Boundaries::new(alloc);
@@ -41,7 +51,9 @@ fn push_side(
     up: &Interval,
 ) -> Result<(), AllocError>
     ensures { (ps : List BoxPatch) → AreBoxBoundaries space ps list.old
-        → OnOk result (AreBoxBoundaries space (ps ++ side_patches (FaceKind.Side edge) along.now.low along.now.high up.now.low up.now.high) list.new) }
+        → OnOk result (AreBoxBoundaries space
+        (ps ++ side_patches (FaceKind.Side edge) along.now.low along.now.high up.now.low up.now.high)
+        list.new) }
 {
     if is_cut(up) {
         let below_ground = up_to_ground(up);
@@ -95,7 +107,8 @@ fn level_boundary(
     end: End,
 ) -> Boundary
     requires { IsLevelFace kind }
-    ensures { IsBoxBoundary space (box_patch kind x.now.low x.now.high y.now.low y.now.high end) result }
+    ensures { IsBoxBoundary space
+        (box_patch kind x.now.low x.now.high y.now.low y.now.high end) result }
 {
     let patch = Patch {
         face: Face { space, kind },
@@ -116,7 +129,8 @@ fn side_boundary(
     up: &Interval,
     end: End,
 ) -> Boundary
-    ensures { IsBoxBoundary space (box_patch (FaceKind.Side edge) along.now.low along.now.high up.now.low up.now.high end) result }
+    ensures { IsBoxBoundary space (box_patch (FaceKind.Side edge)
+        along.now.low along.now.high up.now.low up.now.high end) result }
 {
     let patch = Patch {
         face: Face {

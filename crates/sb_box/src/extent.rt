@@ -2,8 +2,8 @@
 ghost use Rattle.std.specs.Prelude.{◌≡◌, IsTrue};
 ghost use Rattle.sb_box.specs.Extents.{is_interval, is_extent};
 
-/// A box: three intervals of whole millimetres (mm), each from a lower to a greater coordinate of at
-/// most 500,000 mm in size.
+/// A box: three intervals of whole millimetres (mm), each from a lower to a greater coordinate of
+/// at most 500,000 mm in size.
 #[derive(Clone, Copy)]
 pub struct Extent {
     pub x0: i32,

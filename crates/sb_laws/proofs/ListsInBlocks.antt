@@ -1,10 +1,11 @@
 -- Lists that are put together from blocks: exactly one, each two, each one, and places.
-use Rattle.std.proofs.Common.{◌≡◌, refl, sym, ap, ◌∙◌, ℕ, zero, suc, Bool, true, false, ◌||◌, List, [], ◌∷◌, ◌++◌, Option, Some, None, slice_get, subst, inl, inr, ⊎_elim, is_some}
-use Rattle.std.specs.Bool.{MatchBool, ⊤}
+use Rattle.std.proofs.Common.{◌≡◌, refl, sym, ap, ℕ, zero, suc, Bool, true, false, List, [], ◌∷◌}
+use Rattle.std.proofs.Common.{◌++◌, Option, Some, None, slice_get, subst, inl, inr, ⊎_elim, is_some}
+use Rattle.std.specs.Bool.{MatchBool}
 use Rattle.std.specs.List.{AllByRecursion, list_any}
 use Rattle.std.proofs.lemmas.Bool.{or_parts, or_from, false≢true}
 use Rattle.sb_model.specs.declared.boundary.Boundary.{Boundary}
-use Rattle.sb_model.specs.Places.{Stands, ExactlyOne, NoneOf, AllOfTwo, boundary_at}
+use Rattle.sb_model.specs.Places.{Stands, ExactlyOne, AllOfTwo, boundary_at}
 
 -- ---- any
 
@@ -15,7 +16,8 @@ none-append test (x ∷ xs) ys left right =
     let parts = or_parts (test x) (list_any test xs) left in
     or_from (test x) (list_any test (xs ++ ys)) parts.0 (none-append test xs ys parts.1 right)
 
-pub none_where : {X : Type 0} (test : X → Bool) (xs : List X) → AllByRecursion (λ x. test x ≡ false) xs
+pub none_where : {X : Type 0} (test : X → Bool) (xs : List X)
+    → AllByRecursion (λ x. test x ≡ false) xs
     → list_any test xs ≡ false
 none_where test [] all = refl
 none_where test (x ∷ xs) all = or_from (test x) (list_any test xs) all.0 (none_where test xs all.1)
@@ -74,7 +76,8 @@ all_weaker P Q to [] all = tt
 all_weaker P Q to (x ∷ xs) all = (to x all.0, all_weaker P Q to xs all.1)
 
 -- what holds of each item holds of one that stands in the list
-pub all_stands : {X : Type 0} (P : X → Type 0) (xs : List X) (x : X) → AllByRecursion P xs → Stands x xs → P x
+pub all_stands : {X : Type 0} (P : X → Type 0) (xs : List X) (x : X) → AllByRecursion P xs
+    → Stands x xs → P x
 all_stands P [] x all at = absurd at
 all_stands P (y ∷ ys) x all at =
     ⊎_elim (λ e. subst P (sym e) all.0) (λ there. all_stands P ys x all.1 there) at
@@ -106,6 +109,7 @@ stands_at (y ∷ ys) zero x at = inl (sym (some_is y x at))
 stands_at (y ∷ ys) (suc i) x at = inr (stands_at ys i x at)
 
 -- a boundary with an id stands in the list
-pub stands_with_id : (list : List Boundary) (id : ℕ) (b : Boundary) → boundary_at list id ≡ Some b → Stands b list
+pub stands_with_id : (list : List Boundary) (id : ℕ) (b : Boundary) → boundary_at list id ≡ Some b
+    → Stands b list
 stands_with_id list zero b at = absurd (none_is_not_some b at)
 stands_with_id list (suc i) b at = stands_at list i b at

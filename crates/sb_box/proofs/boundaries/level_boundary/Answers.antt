@@ -18,5 +18,6 @@ invariant_of-patch c =
           (simp to_z-of_z at c.whole.ensures) (simp to_z-of_z at c.whole-2.ensures)
           (side_of_level_face _ _ c.requires c.level_line.ensures.fits)
           (side_of_level_face _ _ c.requires c.level_line-2.ensures.fits)
-          (simp to_z-of_z at c.level_line.ensures.same) (simp to_z-of_z at c.level_line-2.ensures.same);
+          (simp to_z-of_z at c.level_line.ensures.same)
+          (simp to_z-of_z at c.level_line-2.ensures.same);
     }

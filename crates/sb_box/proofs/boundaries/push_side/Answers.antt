@@ -10,7 +10,8 @@ pub returns-in_ok-push-2 : goal.returns-in_ok-push-2
 returns-in_ok-push-2 c = λ ps are.
     let earth = c.up_to_ground-below_ground.ensures in
     let air = c.from_ground-above_ground.ensures in
-    two_pushed c.args.space ps _ _ _ _ _ (kind.Side c.args.edge) _ _ _ _ (sym c.is_cut.ensures ∙ c.if-is_cut.true) are
+    two_pushed c.args.space ps _ _ _ _ _ (kind.Side c.args.edge) _ _ _ _
+    (sym c.is_cut.ensures ∙ c.if-is_cut.true) are
     (rw (earth.low, earth.high) at c.side_boundary.ensures) c.in_ok-push.ensures.ok
     (rw (air.low, air.high) at c.side_boundary-then-is_cut.ensures) c.in_ok-push-2.ensures.ok
 
@@ -18,5 +19,6 @@ pub returns-in_ok-push-3 : goal.returns-in_ok-push-3
 returns-in_ok-push-3 c = λ ps are.
     let low : FitsSigned w32 c.args.up.now.low = search rules in
     let end : c.above.result ≡ above c.args.up.now.low = simp to_z-of_z at c.above.ensures in
-    one_pushed c.args.space ps _ _ _ (kind.Side c.args.edge) _ _ _ _ (sym c.is_cut.ensures ∙ c.if-is_cut.false) are
+    one_pushed c.args.space ps _ _ _ (kind.Side c.args.edge) _ _ _ _
+    (sym c.is_cut.ensures ∙ c.if-is_cut.false) are
     (rw end at c.side_boundary-else-is_cut.ensures) c.in_ok-push-3.ensures.ok

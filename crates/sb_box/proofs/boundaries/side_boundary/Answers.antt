@@ -17,7 +17,8 @@ invariant_of-patch c =
     let upper : FitsSigned w32 up.high = search rules in
     record {
       is_patch =
-          is_patch_between_heights c.args.edge along.low along.high up.low up.high _ _ _ _ along.is_interval up.is_interval
+          is_patch_between_heights c.args.edge along.low along.high up.low up.high _ _ _ _
+          along.is_interval up.is_interval
           (simp to_z-of_z at c.whole.ensures) (simp to_z-of_z at c.whole-2.ensures)
           (to_z-of_z w32 up.low lower) (to_z-of_z w32 up.high upper);
     }
@@ -36,8 +37,10 @@ returns c =
       of_face = ap (λ (p : Patch). p.face.kind) patch;
       low = ap (λ (p : Patch). p.low) patch ∙ (simp to_z-of_z at c.whole.ensures);
       high = ap (λ (p : Patch). p.high) patch ∙ (simp to_z-of_z at c.whole-2.ensures);
-      lower = ap (λ (p : Patch). line_of p.lower) patch ∙ ap level (to_z-of_z w32 up.low fits_lower);
-      upper = ap (λ (p : Patch). line_of p.upper) patch ∙ ap level (to_z-of_z w32 up.high fits_upper);
+      lower = ap (λ (p : Patch). line_of p.lower) patch
+          ∙ ap level (to_z-of_z w32 up.low fits_lower);
+      upper = ap (λ (p : Patch). line_of p.upper) patch
+          ∙ ap level (to_z-of_z w32 up.high fits_upper);
       items = c.boundary.ensures.items;
       depth = c.boundary.ensures.depth;
       end = c.boundary.ensures.end;

@@ -1,0 +1,560 @@
+-- The patches of a box by faces: which stand on each, and that each inner point lies in one of
+-- them.
+use Rattle.std.proofs.Common.{◌≡◌, refl, sym, ap, ◌∙◌, arith, ℕ, ℤ, pos, ◌*ℤ◌, ◌<ℤ◌, ◌≤ℤ◌, Bool}
+use Rattle.std.proofs.Common.{true, false, ◌&&◌, List, [], ◌∷◌, ◌++◌, int_lt, int_le, ◌⊎◌, inl, inr}
+use Rattle.std.proofs.Common.{⊎_elim, ◌<◌, ◌+◌, if◌then◌else◌}
+use Rattle.std.specs.List.{AllByRecursion, list_any}
+use Rattle.std.proofs.lemmas.Int.{ints, by_lt_z}
+use Rattle.std.proofs.lemmas.Bool.{and_from, and_parts, and_left, and_right, or_from, false≢true}
+use Rattle.std.proofs.lemmas.Bool.{eqb-true}
+use Rattle.sb_whole.proofs.Signs.{test_less, test_not_less, test_at_most, test_not_at_most}
+use Rattle.sb_whole.proofs.Signs.{less_from}
+use Rattle.sb_model.specs.declared.face.FaceKind.{FaceKind}
+use Rattle.sb_model.specs.declared.face.FaceKind.TheVariants as kind
+use Rattle.sb_model.specs.declared.walk.End.{End}
+use Rattle.sb_model.specs.declared.walk.End.TheVariants as end
+use Rattle.sb_model.specs.Patches.{is_same_kind}
+use Rattle.sb_model.specs.Order.{rank_of}
+use Rattle.sb_model.specs.Places.{ExactlyOne, AllOfTwo}
+use Rattle.sb_laws.proofs.PatchesBetweenLevels.{is_in_window}
+use Rattle.sb_laws.proofs.ListsInBlocks.{none-append, none_where, first_alone, one_behind}
+use Rattle.sb_laws.proofs.ListsInBlocks.{one_in_first, one_in_second, all-append, all_weaker}
+use Rattle.sb_laws.proofs.ListsInBlocks.{two-append}
+use Rattle.sb_box.specs.declared.extent.Extent.{Extent}
+use Rattle.sb_box.specs.BoxList.{BoxPatch, box_patch, box_patches, side_patches, is_cut, below}
+use Rattle.sb_box.specs.BoxList.{above}
+
+-- the patch stands on this face and contains the point (u/w, v/w)
+abbrev pub patch_test : FaceKind → ℤ → ℤ → ℤ → BoxPatch → Bool
+patch_test k u v w p = is_same_kind p.kind k && is_in_window p.low p.high p.lower p.upper u v w
+
+window_in : (a b c d u v w : ℤ) → (a *ℤ w) <ℤ u → u <ℤ (b *ℤ w) → (c *ℤ w) <ℤ v → v <ℤ (d *ℤ w)
+    → is_in_window a b c d u v w ≡ true
+window_in a b c d u v w left right low high =
+    and_from (int_lt (a *ℤ w) u && int_lt u (b *ℤ w)) (int_lt (c *ℤ w) v && int_lt v (d *ℤ w))
+    (and_from (int_lt (a *ℤ w) u) (int_lt u (b *ℤ w)) (test_less (a *ℤ w) u left)
+    (test_less u (b *ℤ w) right))
+    (and_from (int_lt (c *ℤ w) v) (int_lt v (d *ℤ w)) (test_less (c *ℤ w) v low)
+    (test_less v (d *ℤ w) high))
+
+window_above : (a b c d u v w : ℤ) → (d *ℤ w) ≤ℤ v → is_in_window a b c d u v w ≡ false
+window_above a b c d u v w high =
+    and_right (int_lt (a *ℤ w) u && int_lt u (b *ℤ w)) (int_lt (c *ℤ w) v && int_lt v (d *ℤ w))
+    (and_right (int_lt (c *ℤ w) v) (int_lt v (d *ℤ w)) (test_not_less v (d *ℤ w) high))
+
+window_below : (a b c d u v w : ℤ) → v ≤ℤ (c *ℤ w) → is_in_window a b c d u v w ≡ false
+window_below a b c d u v w low =
+    and_right (int_lt (a *ℤ w) u && int_lt u (b *ℤ w)) (int_lt (c *ℤ w) v && int_lt v (d *ℤ w))
+    (and_left (int_lt (c *ℤ w) v) (int_lt v (d *ℤ w)) (test_not_less (c *ℤ w) v low))
+
+-- a point of a window lies between its four numbers
+pub window_tells : (a b c d u v w : ℤ) → is_in_window a b c d u v w ≡ true
+    → (((a *ℤ w) <ℤ u) × (u <ℤ (b *ℤ w))) × (((c *ℤ w) <ℤ v) × (v <ℤ (d *ℤ w)))
+window_tells a b c d u v w inside =
+    let parts = and_parts (int_lt (a *ℤ w) u && int_lt u (b *ℤ w))
+    (int_lt (c *ℤ w) v && int_lt v (d *ℤ w)) inside in
+    let across = and_parts (int_lt (a *ℤ w) u) (int_lt u (b *ℤ w)) parts.0 in
+    let up = and_parts (int_lt (c *ℤ w) v) (int_lt v (d *ℤ w)) parts.1 in (
+      (less_from (a *ℤ w) u across.0, less_from u (b *ℤ w) across.1),
+      (less_from (c *ℤ w) v up.0, less_from v (d *ℤ w) up.1),
+    )
+
+-- one kind, as a test
+pub kinds_are : (a b : FaceKind) → is_same_kind a b ≡ true → a ≡ b
+kinds_are kind.Bottom kind.Bottom same = refl
+kinds_are kind.Top kind.Top same = refl
+kinds_are (kind.Side j) (kind.Side k) same = ap kind.Side (eqb-true j k same)
+kinds_are kind.Bottom kind.Top same = absurd (false≢true same)
+kinds_are kind.Bottom (kind.Side k) same = absurd (false≢true same)
+kinds_are kind.Top kind.Bottom same = absurd (false≢true same)
+kinds_are kind.Top (kind.Side k) same = absurd (false≢true same)
+kinds_are (kind.Side j) kind.Bottom same = absurd (false≢true same)
+kinds_are (kind.Side j) kind.Top same = absurd (false≢true same)
+
+-- ---- the patches of one side
+
+all_of_choice : (P : BoxPatch → Type 0) (b : Bool) (p q r : BoxPatch) → (b ≡ true → P p × P q)
+    → (b ≡ false → P r)
+    → AllByRecursion P (if b then p ∷ q ∷ [] else r ∷ [])
+all_of_choice P true p q r two one = ((two refl).0, ((two refl).1, tt))
+all_of_choice P false p q r two one = (one refl, tt)
+
+-- what holds of both parts where the ground cuts the side, and of the whole elsewhere
+pub all_of_side : (P : BoxPatch → Type 0) (face : FaceKind) (low high z0 z1 : ℤ)
+    → (is_cut z0 z1 ≡ true → P (box_patch face low high z0 (pos 0) end.Earth)
+    × P (box_patch face low high (pos 0) z1 end.Outside))
+    → (is_cut z0 z1 ≡ false → P (box_patch face low high z0 z1 (above z0)))
+    → AllByRecursion P (side_patches face low high z0 z1)
+all_of_side P face low high z0 z1 = all_of_choice P (is_cut z0 z1) _ _ _
+
+cut_tells : (z0 z1 : ℤ) → is_cut z0 z1 ≡ true → (z0 <ℤ pos 0) × (pos 0 <ℤ z1)
+cut_tells z0 z1 cut =
+    let parts = and_parts (int_lt z0 (pos 0)) (int_lt (pos 0) z1) cut in
+    (less_from z0 (pos 0) parts.0, less_from (pos 0) z1 parts.1)
+
+-- what a part of a side meets: the earth below the ground, the open air above
+abbrev pub MeetsBySide : BoxPatch → Type 0
+MeetsBySide p = ((p.end ≡ end.Earth) × (p.upper ≤ℤ pos 0))
+    ⊎ ((p.end ≡ end.Outside) × (pos 0 ≤ℤ p.lower))
+
+-- a part of the side over this face
+pub record IsPart (face : FaceKind) (low high z0 z1 : ℤ) (p : BoxPatch) : Type 0 where
+  pub kind_is : p.kind ≡ face
+  pub low_is : p.low ≡ low
+  pub high_is : p.high ≡ high
+  pub from_bottom : z0 ≤ℤ p.lower
+  pub to_top : p.upper ≤ℤ z1
+  pub meets : MeetsBySide p
+
+meets_whole : (face : FaceKind) (low high z0 z1 : ℤ) → is_cut z0 z1 ≡ false
+    → MeetsBySide (box_patch face low high z0 z1 (above z0))
+meets_whole face low high z0 z1 not_cut =
+    by_lt_z z0 (pos 0)
+    (λ under. inl (
+      rw (test_not_at_most (pos 0) z0 under) refl,
+      by_lt_z (pos 0) z1
+          (λ over. absurd (false≢true
+          (sym not_cut ∙ and_from (int_lt z0 (pos 0)) (int_lt (pos 0) z1)
+          (test_less z0 (pos 0) under) (test_less (pos 0) z1 over))))
+          (λ top. top),
+    ))
+    (λ over. inr (rw (test_at_most (pos 0) z0 over) refl, over))
+
+pub side_is_parts : (face : FaceKind) (low high z0 z1 : ℤ) → z0 <ℤ z1
+    → AllByRecursion (IsPart face low high z0 z1) (side_patches face low high z0 z1)
+side_is_parts face low high z0 z1 rising =
+    all_of_side (IsPart face low high z0 z1) face low high z0 z1
+    (λ cut. let signs = cut_tells z0 z1 cut in (
+      record {
+        kind_is = refl;
+        low_is = refl;
+        high_is = refl;
+        from_bottom = omega (arith, ints);
+        to_top = omega (arith, ints);
+        meets = inl (refl, omega (arith, ints));
+      },
+      record {
+        kind_is = refl;
+        low_is = refl;
+        high_is = refl;
+        from_bottom = omega (arith, ints);
+        to_top = omega (arith, ints);
+        meets = inr (refl, omega (arith, ints));
+      },
+    ))
+    (λ not_cut. record {
+      kind_is = refl;
+      low_is = refl;
+      high_is = refl;
+      from_bottom =
+          omega (arith, ints);
+      to_top = omega (arith, ints);
+      meets =
+          meets_whole face low high z0 z1 not_cut;
+    })
+
+-- ---- each inner point of a side off the ground lies in one part
+
+one_of_choice : (test : BoxPatch → Bool) (b : Bool) (p q r : BoxPatch)
+    → (b ≡ true → ((test p ≡ true) × (test q ≡ false)) ⊎ ((test p ≡ false) × (test q ≡ true)))
+    → (b ≡ false → test r ≡ true)
+    → ExactlyOne test (if b then p ∷ q ∷ [] else r ∷ [])
+one_of_choice test true p q r two one =
+    ⊎_elim
+    (λ h. first_alone test p (q ∷ []) h.0 (or_from (test q) false h.1 refl))
+    (λ h. one_behind test p (q ∷ []) h.0 (first_alone test q [] h.1 refl))
+    (two refl)
+one_of_choice test false p q r two one = first_alone test r [] (one refl) refl
+
+pub one_of_side : (face : FaceKind) (low high z0 z1 u v w : ℤ) → is_same_kind face face ≡ true
+    → (low *ℤ w) <ℤ u → u <ℤ (high *ℤ w) → (z0 *ℤ w) <ℤ v → v <ℤ (z1 *ℤ w) → (v ≡ pos 0 → ⊥)
+    → ExactlyOne (patch_test face u v w) (side_patches face low high z0 z1)
+one_of_side face low high z0 z1 u v w same left right lower upper off =
+    one_of_choice (patch_test face u v w) (is_cut z0 z1) _ _ _
+    (λ cut. by_lt_z v (pos 0)
+    (λ under. inl (
+      and_from _ _ same (window_in low high z0 (pos 0) u v w left right lower
+          (omega (arith, ints))),
+      and_right _ _ (window_below low high (pos 0) z1 u v w (omega (arith, ints))),
+    ))
+    (λ over. inr (
+      and_right _ _ (window_above low high z0 (pos 0) u v w (omega (arith, ints))),
+      and_from _ _ same (window_in low high (pos 0) z1 u v w left right
+          (by_lt_z (pos 0 *ℤ w) v (λ h. h) (λ h. absurd (off (omega (arith, ints))))) upper),
+    )))
+    (λ not_cut. and_from _ _ same (window_in low high z0 z1 u v w left right lower upper))
+
+-- and in none of another face
+pub none_of_side : (k face : FaceKind) (low high z0 z1 u v w : ℤ) → is_same_kind face k ≡ false
+    → list_any (patch_test k u v w) (side_patches face low high z0 z1) ≡ false
+none_of_side k face low high z0 z1 u v w other =
+    none_where (patch_test k u v w) (side_patches face low high z0 z1)
+    (all_of_side (λ p. patch_test k u v w p ≡ false) face low high z0 z1
+    (λ cut. (and_left _ _ other, and_left _ _ other)) (λ not_cut. and_left _ _ other))
+
+-- ---- the whole list by blocks
+
+abbrev bottom : Extent → BoxPatch
+bottom e = box_patch kind.Bottom e.x0 e.x1 e.y0 e.y1 (below e.z0)
+
+abbrev top : Extent → BoxPatch
+top e = box_patch kind.Top e.x0 e.x1 e.y0 e.y1 (above e.z1)
+
+abbrev side_0 : Extent → List BoxPatch
+side_0 e = side_patches (kind.Side 0) e.x0 e.x1 e.z0 e.z1
+
+abbrev side_1 : Extent → List BoxPatch
+side_1 e = side_patches (kind.Side 1) e.y0 e.y1 e.z0 e.z1
+
+abbrev side_2 : Extent → List BoxPatch
+side_2 e = side_patches (kind.Side 2) e.x0 e.x1 e.z0 e.z1
+
+abbrev side_3 : Extent → List BoxPatch
+side_3 e = side_patches (kind.Side 3) e.y0 e.y1 e.z0 e.z1
+
+-- what holds of each block holds of the list
+pub all_of_box : (P : BoxPatch → Type 0) (e : Extent) → P (bottom e) → P (top e)
+    → AllByRecursion P (side_0 e)
+    → AllByRecursion P (side_1 e) → AllByRecursion P (side_2 e) → AllByRecursion P (side_3 e)
+    → AllByRecursion P (box_patches e)
+all_of_box P e b t s0 s1 s2 s3 = (
+  b,
+  (
+    t,
+    all-append P (side_0 e) (side_1 e ++ (side_2 e ++ side_3 e)) s0
+        (all-append P (side_1 e) (side_2 e ++ side_3 e) s1
+        (all-append P (side_2 e) (side_3 e) s2 s3)),
+  ),
+)
+
+-- a fact of every kind of face
+pub all_by_kind : (Q : FaceKind → Type 0) (e : Extent) → Q kind.Bottom → Q kind.Top
+    → Q (kind.Side 0)
+    → Q (kind.Side 1) → Q (kind.Side 2) → Q (kind.Side 3)
+    → AllByRecursion (λ p. Q p.kind) (box_patches e)
+all_by_kind Q e b t s0 s1 s2 s3 =
+    all_of_box (λ p. Q p.kind) e b t
+    (all_of_side (λ p. Q p.kind) (kind.Side 0) e.x0 e.x1 e.z0 e.z1 (λ cut. (s0, s0))
+    (λ not_cut. s0))
+    (all_of_side (λ p. Q p.kind) (kind.Side 1) e.y0 e.y1 e.z0 e.z1 (λ cut. (s1, s1))
+    (λ not_cut. s1))
+    (all_of_side (λ p. Q p.kind) (kind.Side 2) e.x0 e.x1 e.z0 e.z1 (λ cut. (s2, s2))
+    (λ not_cut. s2))
+    (all_of_side (λ p. Q p.kind) (kind.Side 3) e.y0 e.y1 e.z0 e.z1 (λ cut. (s3, s3))
+    (λ not_cut. s3))
+
+-- a fact of the patches of this face
+abbrev pub OnFace : FaceKind → (BoxPatch → Type 0) → BoxPatch → Type 0
+OnFace k Q p = is_same_kind p.kind k ≡ true → Q p
+
+other_kind : (k : FaceKind) (Q : BoxPatch → Type 0) (p : BoxPatch) → is_same_kind p.kind k ≡ false
+    → OnFace k Q p
+other_kind k Q p other same = absurd (false≢true (sym other ∙ same))
+
+other_side : (k face : FaceKind) (Q : BoxPatch → Type 0) (low high z0 z1 : ℤ)
+    → is_same_kind face k ≡ false
+    → AllByRecursion (OnFace k Q) (side_patches face low high z0 z1)
+other_side k face Q low high z0 z1 other =
+    all_of_side (OnFace k Q) face low high z0 z1
+    (λ cut. (other_kind k Q _ other, other_kind k Q _ other)) (λ not_cut. other_kind k Q _ other)
+
+own_side : (k : FaceKind) (low high z0 z1 : ℤ) → z0 <ℤ z1
+    → AllByRecursion (OnFace k (IsPart k low high z0 z1)) (side_patches k low high z0 z1)
+own_side k low high z0 z1 rising =
+    all_weaker (IsPart k low high z0 z1) (OnFace k (IsPart k low high z0 z1)) (λ p part same. part)
+    (side_patches k low high z0 z1) (side_is_parts k low high z0 z1 rising)
+
+pub bottom_alone : (e : Extent)
+    → AllByRecursion (OnFace kind.Bottom (λ p. p ≡ bottom e)) (box_patches e)
+bottom_alone e =
+    let k = kind.Bottom in
+    let Q : BoxPatch → Type 0 = λ p. p ≡ bottom e in
+    all_of_box (OnFace k Q) e (λ same. refl) (other_kind k Q (top e) refl)
+    (other_side k (kind.Side 0) Q e.x0 e.x1 e.z0 e.z1 refl)
+    (other_side k (kind.Side 1) Q e.y0 e.y1 e.z0 e.z1 refl)
+    (other_side k (kind.Side 2) Q e.x0 e.x1 e.z0 e.z1 refl)
+    (other_side k (kind.Side 3) Q e.y0 e.y1 e.z0 e.z1 refl)
+
+pub top_alone : (e : Extent) → AllByRecursion (OnFace kind.Top (λ p. p ≡ top e)) (box_patches e)
+top_alone e =
+    let k = kind.Top in
+    let Q : BoxPatch → Type 0 = λ p. p ≡ top e in
+    all_of_box (OnFace k Q) e (other_kind k Q (bottom e) refl) (λ same. refl)
+    (other_side k (kind.Side 0) Q e.x0 e.x1 e.z0 e.z1 refl)
+    (other_side k (kind.Side 1) Q e.y0 e.y1 e.z0 e.z1 refl)
+    (other_side k (kind.Side 2) Q e.x0 e.x1 e.z0 e.z1 refl)
+    (other_side k (kind.Side 3) Q e.y0 e.y1 e.z0 e.z1 refl)
+
+abbrev pub HasParts : Extent → FaceKind → ℤ → ℤ → Type 0
+HasParts e k low high = AllByRecursion (OnFace k (IsPart k low high e.z0 e.z1)) (box_patches e)
+
+pub first_parts : (e : Extent) → e.z0 <ℤ e.z1 → HasParts e (kind.Side 0) e.x0 e.x1
+first_parts e rising =
+    let k = kind.Side 0 in
+    let Q = IsPart k e.x0 e.x1 e.z0 e.z1 in
+    all_of_box (OnFace k Q) e (other_kind k Q (bottom e) refl) (other_kind k Q (top e) refl)
+    (own_side k e.x0 e.x1 e.z0 e.z1 rising) (other_side k (kind.Side 1) Q e.y0 e.y1 e.z0 e.z1 refl)
+    (other_side k (kind.Side 2) Q e.x0 e.x1 e.z0 e.z1 refl)
+    (other_side k (kind.Side 3) Q e.y0 e.y1 e.z0 e.z1 refl)
+
+pub second_parts : (e : Extent) → e.z0 <ℤ e.z1 → HasParts e (kind.Side 1) e.y0 e.y1
+second_parts e rising =
+    let k = kind.Side 1 in
+    let Q = IsPart k e.y0 e.y1 e.z0 e.z1 in
+    all_of_box (OnFace k Q) e (other_kind k Q (bottom e) refl) (other_kind k Q (top e) refl)
+    (other_side k (kind.Side 0) Q e.x0 e.x1 e.z0 e.z1 refl) (own_side k e.y0 e.y1 e.z0 e.z1 rising)
+    (other_side k (kind.Side 2) Q e.x0 e.x1 e.z0 e.z1 refl)
+    (other_side k (kind.Side 3) Q e.y0 e.y1 e.z0 e.z1 refl)
+
+pub third_parts : (e : Extent) → e.z0 <ℤ e.z1 → HasParts e (kind.Side 2) e.x0 e.x1
+third_parts e rising =
+    let k = kind.Side 2 in
+    let Q = IsPart k e.x0 e.x1 e.z0 e.z1 in
+    all_of_box (OnFace k Q) e (other_kind k Q (bottom e) refl) (other_kind k Q (top e) refl)
+    (other_side k (kind.Side 0) Q e.x0 e.x1 e.z0 e.z1 refl)
+    (other_side k (kind.Side 1) Q e.y0 e.y1 e.z0 e.z1 refl)
+    (own_side k e.x0 e.x1 e.z0 e.z1 rising) (other_side k (kind.Side 3) Q e.y0 e.y1 e.z0 e.z1 refl)
+
+pub fourth_parts : (e : Extent) → e.z0 <ℤ e.z1 → HasParts e (kind.Side 3) e.y0 e.y1
+fourth_parts e rising =
+    let k = kind.Side 3 in
+    let Q = IsPart k e.y0 e.y1 e.z0 e.z1 in
+    all_of_box (OnFace k Q) e (other_kind k Q (bottom e) refl) (other_kind k Q (top e) refl)
+    (other_side k (kind.Side 0) Q e.x0 e.x1 e.z0 e.z1 refl)
+    (other_side k (kind.Side 1) Q e.y0 e.y1 e.z0 e.z1 refl)
+    (other_side k (kind.Side 2) Q e.x0 e.x1 e.z0 e.z1 refl) (own_side k e.y0 e.y1 e.z0 e.z1 rising)
+
+-- ---- exactly one
+
+-- no patch of a side stands on another face
+no_side : (e : Extent) (k : FaceKind) (u v w : ℤ) → is_same_kind (kind.Side 0) k ≡ false
+    → is_same_kind (kind.Side 1) k ≡ false
+    → is_same_kind (kind.Side 2) k ≡ false → is_same_kind (kind.Side 3) k ≡ false
+    → list_any (patch_test k u v w) (side_0 e ++ (side_1 e ++ (side_2 e ++ side_3 e))) ≡ false
+no_side e k u v w n0 n1 n2 n3 =
+    let test = patch_test k u v w in
+    none-append test (side_0 e) (side_1 e ++ (side_2 e ++ side_3 e))
+    (none_of_side k (kind.Side 0) e.x0 e.x1 e.z0 e.z1 u v w n0)
+    (none-append test (side_1 e) (side_2 e ++ side_3 e)
+    (none_of_side k (kind.Side 1) e.y0 e.y1 e.z0 e.z1 u v w n1)
+    (none-append test (side_2 e) (side_3 e)
+    (none_of_side k (kind.Side 2) e.x0 e.x1 e.z0 e.z1 u v w n2)
+    (none_of_side k (kind.Side 3) e.y0 e.y1 e.z0 e.z1 u v w n3)))
+
+-- the point lies over the box in plan
+pub record IsOver (e : Extent) (u v w : ℤ) : Type 0 where
+  pub left : (e.x0 *ℤ w) <ℤ u
+  pub right : u <ℤ (e.x1 *ℤ w)
+  pub low : (e.y0 *ℤ w) <ℤ v
+  pub high : v <ℤ (e.y1 *ℤ w)
+
+pub bottom_once : (e : Extent) (u v w : ℤ) → IsOver e u v w
+    → ExactlyOne (patch_test kind.Bottom u v w) (box_patches e)
+bottom_once e u v w over =
+    let k = kind.Bottom in
+    first_alone (patch_test k u v w) (bottom e)
+    (top e ∷ (side_0 e ++ (side_1 e ++ (side_2 e ++ side_3 e))))
+    (window_in e.x0 e.x1 e.y0 e.y1 u v w over.left over.right over.low over.high)
+    (no_side e k u v w refl refl refl refl)
+
+pub top_once : (e : Extent) (u v w : ℤ) → IsOver e u v w
+    → ExactlyOne (patch_test kind.Top u v w) (box_patches e)
+top_once e u v w over =
+    let k = kind.Top in
+    one_behind (patch_test k u v w) (bottom e)
+    (top e ∷ (side_0 e ++ (side_1 e ++ (side_2 e ++ side_3 e)))) refl
+    (first_alone (patch_test k u v w) (top e) (side_0 e ++ (side_1 e ++ (side_2 e ++ side_3 e)))
+    (window_in e.x0 e.x1 e.y0 e.y1 u v w over.left over.right over.low over.high)
+    (no_side e k u v w refl refl refl refl))
+
+-- the point lies on a side between its ends and heights, and not at the ground
+pub record IsBesides (low high z0 z1 u v w : ℤ) : Type 0 where
+  pub left : (low *ℤ w) <ℤ u
+  pub right : u <ℤ (high *ℤ w)
+  pub lower : (z0 *ℤ w) <ℤ v
+  pub upper : v <ℤ (z1 *ℤ w)
+  pub off : v ≡ pos 0 → ⊥
+
+behind_levels : (e : Extent) (k : ℕ) (u v w : ℤ)
+    → ExactlyOne (patch_test (kind.Side k) u v w) (side_0 e ++ (side_1 e ++ (side_2 e ++ side_3 e)))
+    → ExactlyOne (patch_test (kind.Side k) u v w) (box_patches e)
+behind_levels e k u v w one =
+    let rest = side_0 e ++ (side_1 e ++ (side_2 e ++ side_3 e)) in
+    one_behind (patch_test (kind.Side k) u v w) (bottom e) (top e ∷ rest) refl
+    (one_behind (patch_test (kind.Side k) u v w) (top e) rest refl one)
+
+abbrev pub HasOne : Extent → FaceKind → ℤ → ℤ → Type 0
+HasOne e k low high =
+    (u v w : ℤ) → IsBesides low high e.z0 e.z1 u v w
+    → ExactlyOne (patch_test k u v w) (box_patches e)
+
+pub first_once : (e : Extent) → HasOne e (kind.Side 0) e.x0 e.x1
+first_once e u v w at =
+    let k = kind.Side 0 in
+    let test = patch_test k u v w in
+    behind_levels e 0 u v w
+    (one_in_first test (side_0 e) (side_1 e ++ (side_2 e ++ side_3 e))
+    (one_of_side k e.x0 e.x1 e.z0 e.z1 u v w refl at.left at.right at.lower at.upper at.off)
+    (none-append test (side_1 e) (side_2 e ++ side_3 e)
+    (none_of_side k (kind.Side 1) e.y0 e.y1 e.z0 e.z1 u v w refl)
+    (none-append test (side_2 e) (side_3 e)
+    (none_of_side k (kind.Side 2) e.x0 e.x1 e.z0 e.z1 u v w refl)
+    (none_of_side k (kind.Side 3) e.y0 e.y1 e.z0 e.z1 u v w refl))))
+
+pub second_once : (e : Extent) → HasOne e (kind.Side 1) e.y0 e.y1
+second_once e u v w at =
+    let k = kind.Side 1 in
+    let test = patch_test k u v w in
+    behind_levels e 1 u v w
+    (one_in_second test (side_0 e) (side_1 e ++ (side_2 e ++ side_3 e))
+    (none_of_side k (kind.Side 0) e.x0 e.x1 e.z0 e.z1 u v w refl)
+    (one_in_first test (side_1 e) (side_2 e ++ side_3 e)
+    (one_of_side k e.y0 e.y1 e.z0 e.z1 u v w refl at.left at.right at.lower at.upper at.off)
+    (none-append test (side_2 e) (side_3 e)
+    (none_of_side k (kind.Side 2) e.x0 e.x1 e.z0 e.z1 u v w refl)
+    (none_of_side k (kind.Side 3) e.y0 e.y1 e.z0 e.z1 u v w refl))))
+
+pub third_once : (e : Extent) → HasOne e (kind.Side 2) e.x0 e.x1
+third_once e u v w at =
+    let k = kind.Side 2 in
+    let test = patch_test k u v w in
+    behind_levels e 2 u v w
+    (one_in_second test (side_0 e) (side_1 e ++ (side_2 e ++ side_3 e))
+    (none_of_side k (kind.Side 0) e.x0 e.x1 e.z0 e.z1 u v w refl)
+    (one_in_second test (side_1 e) (side_2 e ++ side_3 e)
+    (none_of_side k (kind.Side 1) e.y0 e.y1 e.z0 e.z1 u v w refl)
+    (one_in_first test (side_2 e) (side_3 e)
+    (one_of_side k e.x0 e.x1 e.z0 e.z1 u v w refl at.left at.right at.lower at.upper at.off)
+    (none_of_side k (kind.Side 3) e.y0 e.y1 e.z0 e.z1 u v w refl))))
+
+pub fourth_once : (e : Extent) → HasOne e (kind.Side 3) e.y0 e.y1
+fourth_once e u v w at =
+    let k = kind.Side 3 in
+    let test = patch_test k u v w in
+    behind_levels e 3 u v w
+    (one_in_second test (side_0 e) (side_1 e ++ (side_2 e ++ side_3 e))
+    (none_of_side k (kind.Side 0) e.x0 e.x1 e.z0 e.z1 u v w refl)
+    (one_in_second test (side_1 e) (side_2 e ++ side_3 e)
+    (none_of_side k (kind.Side 1) e.y0 e.y1 e.z0 e.z1 u v w refl)
+    (one_in_second test (side_2 e) (side_3 e)
+    (none_of_side k (kind.Side 2) e.x0 e.x1 e.z0 e.z1 u v w refl)
+    (one_of_side k e.y0 e.y1 e.z0 e.z1 u v w refl at.left at.right at.lower at.upper at.off))))
+
+-- ---- each two: on different faces, or one above the other with another end
+
+pub record IsAbove (p q : BoxPatch) : Type 0 where
+  pub kind_same : p.kind ≡ q.kind
+  pub low_same : p.low ≡ q.low
+  pub touching : p.upper ≡ q.lower
+  pub other_end : p.end ≡ q.end → ⊥
+
+abbrev pub Precedes : BoxPatch → BoxPatch → Type 0
+Precedes p q = (rank_of p.kind < rank_of q.kind) ⊎ IsAbove p q
+
+is_earth : End → Bool
+is_earth end.Earth = true
+is_earth _ = false
+
+two_of_choice : (R : BoxPatch → BoxPatch → Type 0) (b : Bool) (p q r : BoxPatch) → R p q
+    → AllOfTwo R (if b then p ∷ q ∷ [] else r ∷ [])
+two_of_choice R true p q r related = ((related, tt), (tt, tt))
+two_of_choice R false p q r related = (tt, tt)
+
+two_of_side : (face : FaceKind) (low high z0 z1 : ℤ)
+    → AllOfTwo Precedes (side_patches face low high z0 z1)
+unfolding is_earth
+two_of_side face low high z0 z1 =
+    two_of_choice Precedes (is_cut z0 z1) (box_patch face low high z0 (pos 0) end.Earth)
+    (box_patch face low high (pos 0) z1 end.Outside) (box_patch face low high z0 z1 (above z0))
+    (inr (record {
+      kind_same = refl;
+      low_same = refl;
+      touching = refl;
+      other_end = λ same.
+          false≢true (sym (ap is_earth same));
+    }))
+
+-- a side before faces of higher rank
+before_all : (face : FaceKind) (low high z0 z1 : ℤ) (ys : List BoxPatch)
+    → AllByRecursion (λ q. rank_of face < rank_of q.kind) ys
+    → AllByRecursion (λ p. AllByRecursion (Precedes p) ys) (side_patches face low high z0 z1)
+before_all face low high z0 z1 ys higher =
+    all_of_side (λ p. AllByRecursion (Precedes p) ys) face low high z0 z1
+    (λ cut. (
+      ahead (box_patch face low high z0 (pos 0) end.Earth) higher,
+      ahead (box_patch face low high (pos 0) z1 end.Outside) higher,
+    ))
+    (λ not_cut. ahead (box_patch face low high z0 z1 (above z0)) higher)
+  where
+    ahead : (p : BoxPatch) → AllByRecursion (λ q. rank_of p.kind < rank_of q.kind) ys
+        → AllByRecursion (Precedes p) ys
+    ahead p all = all_weaker (λ q. rank_of p.kind < rank_of q.kind) (Precedes p)
+        (λ q h. inl h) ys all
+
+rank_of_side : (n : ℕ) (k : ℕ) (low high z0 z1 : ℤ) → n < 2 + k
+    → AllByRecursion (λ q. n < rank_of q.kind) (side_patches (kind.Side k) low high z0 z1)
+rank_of_side n k low high z0 z1 less =
+    all_of_side (λ q. n < rank_of q.kind) (kind.Side k) low high z0 z1 (λ cut. (less, less))
+    (λ not_cut. less)
+
+pub each_two : (e : Extent) → AllOfTwo Precedes (box_patches e)
+each_two e =
+    let r3 : (n : ℕ) → n < 5 → AllByRecursion (λ q. n < rank_of q.kind) (side_3 e) =
+    λ n less. rank_of_side n 3 e.y0 e.y1 e.z0 e.z1 less in
+    let r2 : (n : ℕ) → n < 4 → AllByRecursion (λ q. n < rank_of q.kind) (side_2 e ++ side_3 e) =
+    λ n less. all-append (λ q. n < rank_of q.kind) (side_2 e) (side_3 e)
+    (rank_of_side n 2 e.x0 e.x1 e.z0 e.z1 less) (r3 n (omega arith)) in
+    let r1 : (n : ℕ) → n < 3 → AllByRecursion (λ q. n < rank_of q.kind)
+    (side_1 e ++ (side_2 e ++ side_3 e)) =
+    λ n less. all-append (λ q. n < rank_of q.kind) (side_1 e) (side_2 e ++ side_3 e)
+    (rank_of_side n 1 e.y0 e.y1 e.z0 e.z1 less) (r2 n (omega arith)) in
+    let r0 : (n : ℕ) → n < 2 → AllByRecursion (λ q. n < rank_of q.kind)
+    (side_0 e ++ (side_1 e ++ (side_2 e ++ side_3 e))) =
+    λ n less. all-append (λ q. n < rank_of q.kind) (side_0 e) (side_1 e ++ (side_2 e ++ side_3 e))
+    (rank_of_side n 0 e.x0 e.x1 e.z0 e.z1 less) (r1 n (omega arith)) in
+    let sides = two-append Precedes (side_0 e) (side_1 e ++ (side_2 e ++ side_3 e))
+    (two_of_side (kind.Side 0) e.x0 e.x1 e.z0 e.z1)
+    (two-append Precedes (side_1 e) (side_2 e ++ side_3 e)
+    (two_of_side (kind.Side 1) e.y0 e.y1 e.z0 e.z1)
+    (two-append Precedes (side_2 e) (side_3 e) (two_of_side (kind.Side 2) e.x0 e.x1 e.z0 e.z1)
+    (two_of_side (kind.Side 3) e.y0 e.y1 e.z0 e.z1)
+    (before_all (kind.Side 2) e.x0 e.x1 e.z0 e.z1 (side_3 e) (r3 4 (omega arith))))
+    (before_all (kind.Side 1) e.y0 e.y1 e.z0 e.z1 (side_2 e ++ side_3 e) (r2 3 (omega arith))))
+    (before_all (kind.Side 0) e.x0 e.x1 e.z0 e.z1 (side_1 e ++ (side_2 e ++ side_3 e))
+    (r1 2 (omega arith))) in
+    let rest = side_0 e ++ (side_1 e ++ (side_2 e ++ side_3 e)) in (
+      (
+        inl (omega arith),
+        all_weaker (λ q. 0 < rank_of q.kind) (Precedes (bottom e))
+            (λ q h. inl h) rest (r0 0 (omega arith)),
+      ),
+      (
+        all_weaker (λ q. 1 < rank_of q.kind) (Precedes (top e)) (λ q h. inl h) rest
+            (r0 1 (omega arith)),
+        sides,
+      ),
+    )
+
+-- ---- each patch looks out at the earth or the open air
+
+abbrev pub IsOpen : End → Type 0
+IsOpen found = (found ≡ end.Earth) ⊎ (found ≡ end.Outside)
+
+open_choice : (b : Bool) (p q : End) → IsOpen p → IsOpen q → IsOpen (if b then p else q)
+open_choice true p q left right = left
+open_choice false p q left right = right
+
+pub all_open : (e : Extent) → AllByRecursion (λ p. IsOpen p.end) (box_patches e)
+all_open e =
+    all_of_box (λ p. IsOpen p.end) e
+    (open_choice (int_le e.z0 (pos 0)) end.Earth end.Outside (inl refl) (inr refl))
+    (open_choice (int_le (pos 0) e.z1) end.Outside end.Earth (inr refl) (inl refl))
+    (side_open (kind.Side 0) e.x0 e.x1) (side_open (kind.Side 1) e.y0 e.y1)
+    (side_open (kind.Side 2) e.x0 e.x1) (side_open (kind.Side 3) e.y0 e.y1)
+  where
+    side_open : (face : FaceKind) (low high : ℤ)
+        → AllByRecursion (λ p. IsOpen p.end) (side_patches face low high e.z0 e.z1)
+    side_open face low high =
+        all_of_side (λ p. IsOpen p.end) face low high e.z0 e.z1
+        (λ cut. (inl refl, inr refl))
+        (λ not_cut. open_choice (int_le (pos 0) e.z0) end.Outside end.Earth (inr refl) (inl refl))
