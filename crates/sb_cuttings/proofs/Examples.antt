@@ -26,11 +26,13 @@ use Rattle.sb_cuttings.specs.Changes.{flip_onto, last_label, label_after, breaks
 use Rattle.sb_cuttings.specs.Changes.{breaks_before}
 use Rattle.sb_cuttings.specs.Passages.{ray_start, ArePassages}
 
+-- the whole number n
 abbrev whole : ℕ → Arrow
 whole n = rational (pos n) (pos 1)
 
 -- ---- a step: label 5 below 1, and 6 from 1 on
 
+-- the step
 abbrev step : Arrow → ℕ
 step u = if is_below u (whole 1) then 5 else 6
 
@@ -74,6 +76,17 @@ step_has_passages = (
   },
 )
 
+-- with a needless candidate at 0 no point is odd, and squash drops it
+step_has_no_odd_point
+    : HasNoOddPoint step 5 (break_at (whole 0) 5 ∷ break_at (whole 1) 6 ∷ [])
+unfolding cross
+step_has_no_odd_point = (λ same. refl, (λ same. absurd (omega arith), tt))
+
+step_is_squashed
+    : squash {L = ℕ} (λ a b. a == b) 5 (break_at (whole 0) 5 ∷ break_at (whole 1) 6 ∷ [])
+    ≡ break_at (whole 1) 6 ∷ []
+step_is_squashed = refl
+
 -- ---- wrong cuttings are refused
 
 not_six_and_five : {n : ℕ} → n ≡ 6 → n ≡ 5 → ⊥
@@ -107,6 +120,7 @@ no_passages passages = passages
 
 -- ---- a function with an odd point: label 6 at 0 alone, and 5 everywhere else
 
+-- the spike
 abbrev spike : Arrow → ℕ
 spike u = if int_eq u.y (pos 0) then 6 else 5
 
@@ -166,9 +180,11 @@ nothing_is_left reduced =
 
 -- ---- changes, computed on labels 1, 1, 2, 4 with breaks at 1, 2, 3
 
+-- behind a first piece of label 1
 abbrev breaks : List (Break ℕ)
 breaks = break_at (whole 1) 1 ∷ break_at (whole 2) 2 ∷ break_at (whole 3) 4 ∷ []
 
+-- the test of equal labels
 abbrev same : ℕ → ℕ → Bool
 same a b = a == b
 

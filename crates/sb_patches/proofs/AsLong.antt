@@ -22,6 +22,7 @@ use Rattle.sb_patches.proofs.OneIfTouching.{HaveOneSides, one_if_overlapping, on
 
 -- ---- the ends of the patches of a list
 
+-- where they start and end
 ends_of : {M : Type 0} → List (MarkedPatch M) → List Arrow
 ends_of [] = []
 ends_of (q ∷ qs) = q.region.low ∷ q.region.high ∷ ends_of qs
@@ -59,7 +60,7 @@ module _ {M : Type 0} (sheet : Sheet) (ps qs : List (MarkedPatch M))
   q_region : IsRegion q.region
   q_region = (patch_there qs two.second.patches q q_is.on.stands).region
 
-  -- the line u between the start of q and the end of p
+  -- q starts before the end of p, and ends after its start: u lies between
   starts_before_end : IsBelow q.region.low p.region.high
   starts_before_end =
       below_trans q.region.low u p.region.high q_region.low_in q_is.rational p_region.high_in

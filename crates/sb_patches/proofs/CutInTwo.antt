@@ -18,19 +18,23 @@ use Rattle.sb_patches.specs.Trimmed.{AreApart, AreTrimmed, IsTrimmedList}
 use Rattle.sb_patches.specs.Laws.{HaveSamePatches}
 use Rattle.sb_patches.proofs.Examples.{block, block_is_patch, sheet}
 
--- the rectangle [0, 2] x [0, 1], and its halves
+-- the rectangle [0, 2] x [0, 1]
 abbrev whole : MarkedPatch ℕ
 whole = block 7 0 2 0 1
 
+-- its first half
 abbrev first : MarkedPatch ℕ
 first = block 7 0 1 0 1
 
+-- its second half
 abbrev second : MarkedPatch ℕ
 second = block 7 1 2 0 1
 
+-- both
 abbrev halves : List (MarkedPatch ℕ)
 halves = first ∷ second ∷ []
 
+-- the whole number n
 abbrev number : ℕ → Arrow
 number n = rational (pos n) (pos 1)
 
@@ -81,6 +85,7 @@ whole_is_trimmed =
       trimmed = (tt, tt);
     }
 
+-- its u is not 1
 abbrev IsBeside : FacePoint → Type 0
 IsBeside point = IsSame (number 1) (abscissa_of point) → ⊥
 
@@ -118,13 +123,15 @@ one_below_two : IsBelow (number 1) (number 2)
 unfolding cross
 one_below_two = omega (arith, ints)
 
--- the tests that make up whether the point lies inside
+-- its u is above n
 abbrev is_beyond : ℕ → FacePoint → Bool
 is_beyond n point = is_below (number n) (abscissa_of point)
 
+-- its u is below n
 abbrev is_short_of : ℕ → FacePoint → Bool
 is_short_of n point = is_below (abscissa_of point) (number n)
 
+-- its v is between 0 and 1
 abbrev is_in_height : FacePoint → Bool
 is_in_height point = is_above_side (level (pos 0)) point && is_under_side (level (pos 1)) point
 

@@ -91,7 +91,8 @@ pub record IsOnLine {M : Type 0} (qs : List (MarkedPatch M)) (mark : M) (u : Arr
   pub same_mark : q.mark ≡ mark
   pub over : IsOver q.region u
 
--- moreover it has the mark of p, and lies around it: its sides are nowhere between those of p
+-- moreover it has the mark of p and lies around p there: its lower side is not above that of p, and
+-- its upper side not below
 pub record IsAround {M : Type 0} (qs : List (MarkedPatch M)) (p : MarkedPatch M) (u : Arrow)
     (q : MarkedPatch M) : Type 0 where
   pub on : IsOnLine qs p.mark u q
@@ -109,11 +110,12 @@ pub record HasValuesOf {M : Type 0} (qs : List (MarkedPatch M)) (p : MarkedPatch
 abbrev OnLine : {M : Type 0} → List (MarkedPatch M) → M → Arrow → Type 0
 OnLine {M} qs mark u = (q : MarkedPatch M) × IsOnLine qs mark u q
 
--- where each ends
+-- where each ends below
 abbrev low_of : {M : Type 0} (qs : List (MarkedPatch M)) (mark : M) (u : Arrow)
     → OnLine qs mark u → Arrow
 low_of qs mark u i = value_on i.0.region.lower u
 
+-- and above
 abbrev high_of : {M : Type 0} (qs : List (MarkedPatch M)) (mark : M) (u : Arrow)
     → OnLine qs mark u → Arrow
 high_of qs mark u i = value_on i.0.region.upper u

@@ -22,6 +22,7 @@ use Rattle.sb_patches.specs.Laws.{CoverAlike}
 
 -- ---- patches: rectangles [from, to] x [bottom, top], marked by a number
 
+-- such a rectangle with its mark
 abbrev pub block : ℕ → ℕ → ℕ → ℕ → ℕ → MarkedPatch ℕ
 block mark from to bottom top =
     record {
@@ -48,16 +49,19 @@ block_is_patch mark from to bottom top answer =
       upper_reduced = whole_is_reduced (pos 0);
     }
 
--- two unit squares side by side with different marks, and one above the first with its mark
+-- a unit square
 abbrev left : MarkedPatch ℕ
 left = block 7 0 1 0 1
 
+-- one beside it, with another mark
 abbrev right : MarkedPatch ℕ
 right = block 8 1 2 0 1
 
+-- one above the first, with its mark
 abbrev above : MarkedPatch ℕ
 above = block 7 0 1 2 3
 
+-- the three
 abbrev squares : List (MarkedPatch ℕ)
 squares = left ∷ right ∷ above ∷ []
 
@@ -70,6 +74,7 @@ sheet =
       cuts = [];
     }
 
+-- it is a sheet
 pub sheet_is : IsSheet sheet
 sheet_is =
     record {
@@ -170,6 +175,7 @@ middle_is_marked = (left, inl refl, refl, refl)
 
 -- ---- two patches of one mark that touch
 
+-- the unit square on top of the first
 abbrev upper : MarkedPatch ℕ
 upper = block 7 0 1 1 2
 

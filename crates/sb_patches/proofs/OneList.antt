@@ -35,10 +35,12 @@ same_fraction r s r_in s_in same =
     let pair = reduced_unique r.y r.x s.y s.x r_in s_in (omega (arith, ints)) in
     same_arrow r s pair.1 pair.0
 
+-- the region with these ends and sides
 abbrev region_of : Arrow → Arrow → LineSide → LineSide → Region
 region_of low high lower upper =
     record { low = low; high = high; lower = lower; upper = upper }
 
+-- the region with this mark
 abbrev marked : {M : Type 0} → Region → M → MarkedPatch M
 marked region mark = record { region = region; mark = mark }
 
@@ -65,6 +67,7 @@ record IsAsLong {M : Type 0} (qs : List (MarkedPatch M)) (p q : MarkedPatch M) :
   pub low : IsAtMost q.region.low p.region.low
   pub high : IsAtMost p.region.high q.region.high
 
+-- such a patch stands in the other list
 as_long : {M : Type 0} (sheet : Sheet) (ps qs : List (MarkedPatch M)) → AreTwoCovers sheet ps qs
     → (p : MarkedPatch M) → Stands p ps → (q : MarkedPatch M) × IsAsLong qs p q
 as_long sheet ps qs two p at_p =
@@ -160,11 +163,12 @@ one_list_of_patches sheet IsPlain ps qs alike =
     permuted_if_same_members ps qs (stands_once sheet alike.sheet_in ps alike.first)
     (stands_once sheet alike.sheet_in qs alike.second) (λ p. (same p).0) (λ p. (same p).1)
 
--- both as the contract has them
+-- the law as the contract has it
 pub has_law_of_patches : (M : Type 0) → HasLawOfPatches M
 has_law_of_patches M sheet is_plain ps qs alike =
     law_of_patches sheet (λ point. IsTrue (is_plain point)) ps qs alike
 
+-- and so its other clause
 pub has_one_list_of_patches : (M : Type 0) → HasOneListOfPatches M
 has_one_list_of_patches M sheet is_plain ps qs alike =
     one_list_of_patches sheet (λ point. IsTrue (is_plain point)) ps qs alike

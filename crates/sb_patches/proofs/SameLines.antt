@@ -26,6 +26,7 @@ use Rattle.sb_patches.proofs.SamePoints.{AreTwoCovers}
 difference_by : Bool → LineSide → LineSide → Arrow
 difference_by same l m = if same then arrow (pos 1) (pos 0) else clearance l m
 
+-- with the test of the two sides put in
 abbrev difference : LineSide → LineSide → Arrow
 difference l m = difference_by (is_same_side l m) l m
 

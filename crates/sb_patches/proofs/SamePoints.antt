@@ -24,8 +24,8 @@ use Rattle.sb_patches.specs.Laws.{CoverAlike}
 abbrev pub IsOnNoCut : Sheet → Arrow → Arrow → Type 0
 IsOnNoCut sheet u v = AllByRecursion (λ cut. IsSame (value_on cut u) v → ⊥) sheet.cuts
 
--- where a patch of the first list contains a point off the cuts, one of the second does that has its
--- mark
+-- where a patch of the first list contains a point off the cuts, so does one of the second with
+-- its mark
 abbrev pub CoversAlso : {M : Type 0} → Sheet → List (MarkedPatch M) → List (MarkedPatch M)
     → Type 0
 CoversAlso {M} sheet ps qs =
