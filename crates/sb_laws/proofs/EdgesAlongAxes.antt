@@ -136,12 +136,8 @@ apart a b w z positive other e =
     scaled : (a b w z : ℤ) → w *ℤ (a -ℤ b) ≡ ((a *ℤ w) -ℤ z) -ℤ ((b *ℤ w) -ℤ z)
     scaled a b w z =
         equal (times (var w) (minus (var a) (var b)))
-<<<<<<< HEAD
-        (minus (minus (times (var a) (var w)) (var z)) (minus (times (var b) (var w)) (var z))) (omega arith)
-=======
         (minus (minus (times (var a) (var w)) (var z)) (minus (times (var b) (var w)) (var z)))
         (omega arith)
->>>>>>> 2988d87f7d05d058bd31182d96e2154bd2dbd35b
 
 drop_square : (n c : ℤ) → c ≡ pos 0 → (n +ℤ (c *ℤ c)) ≤ℤ pos 0 → n ≤ℤ pos 0
 drop_square n c none h = let e : c *ℤ c ≡ pos 0 = ap (λ z. z *ℤ z) none in omega (arith, ints)
@@ -174,18 +170,12 @@ on_level xa xb y p positive other on =
     let a = (xa *ℤ p.w) -ℤ p.x in
     let b = (xb *ℤ p.w) -ℤ p.x in
     let c = (y *ℤ p.w) -ℤ p.y in
-<<<<<<< HEAD
-    let parts = and_parts (int_eq ((a *ℤ c) -ℤ (c *ℤ b)) (pos 0)) (int_le ((a *ℤ b) +ℤ (c *ℤ c)) (pos 0)) on in
-    let turn : (a *ℤ c) -ℤ (c *ℤ b) ≡ pos 0 = (Decides-int_eq ((a *ℤ c) -ℤ (c *ℤ b)) (pos 0)).0 parts.0 in
-    let level : c ≡ pos 0 = zero_factor (a -ℤ b) c (apart xa xb p.w p.x positive other) (sym (level_turn a b c) ∙ turn) in (
-=======
     let parts = and_parts (int_eq ((a *ℤ c) -ℤ (c *ℤ b)) (pos 0))
     (int_le ((a *ℤ b) +ℤ (c *ℤ c)) (pos 0)) on in
     let turn : (a *ℤ c) -ℤ (c *ℤ b) ≡ pos 0 =
     (Decides-int_eq ((a *ℤ c) -ℤ (c *ℤ b)) (pos 0)).0 parts.0 in
     let level : c ≡ pos 0 = zero_factor (a -ℤ b) c (apart xa xb p.w p.x positive other)
     (sym (level_turn a b c) ∙ turn) in (
->>>>>>> 2988d87f7d05d058bd31182d96e2154bd2dbd35b
       from_difference (y *ℤ p.w) p.y level,
       drop_square (a *ℤ b) c level (at_most_from ((a *ℤ b) +ℤ (c *ℤ c)) (pos 0) parts.1),
     )
@@ -217,12 +207,8 @@ on_upright x ya yb p positive other on =
     let turn : (a *ℤ d) -ℤ (c *ℤ a) ≡ pos 0 =
     (Decides-int_eq ((a *ℤ d) -ℤ (c *ℤ a)) (pos 0)).0 parts.0 in
     let upright : a ≡ pos 0 =
-<<<<<<< HEAD
-    zero_factor (d -ℤ c) a (apart yb ya p.w p.y positive (λ e. other (sym e))) (sym (upright_turn a c d) ∙ turn) in (
-=======
     zero_factor (d -ℤ c) a (apart yb ya p.w p.y positive (λ e. other (sym e)))
     (sym (upright_turn a c d) ∙ turn) in (
->>>>>>> 2988d87f7d05d058bd31182d96e2154bd2dbd35b
       from_difference (x *ℤ p.w) p.x upright,
       drop_square_before (c *ℤ d) a upright (at_most_from ((a *ℤ a) +ℤ (c *ℤ d)) (pos 0) parts.1),
     )
@@ -253,12 +239,8 @@ not_same n u w other same =
 pub no_end_along_x : (e : Edge) (u w : ℤ) → ends_over axis_x (rational u w) e ≡ false
     → (u ≡ e.a.x *ℤ w → ⊥) × (u ≡ e.b.x *ℤ w → ⊥)
 no_end_along_x e u w other =
-<<<<<<< HEAD
-    let parts = or_parts (int_eq (cross (rational u w) (rational (abscissa_at e.a axis_x) (pos 1))) (pos 0))
-=======
     let parts = or_parts (int_eq (cross (rational u w) (rational (abscissa_at e.a axis_x) (pos 1)))
     (pos 0))
->>>>>>> 2988d87f7d05d058bd31182d96e2154bd2dbd35b
     (int_eq (cross (rational u w) (rational (abscissa_at e.b axis_x) (pos 1))) (pos 0)) other in (
       (λ same. not_same (abscissa_at e.a axis_x) u w parts.0 (rw (reads_x e.a.x e.a.y) same)),
       (λ same. not_same (abscissa_at e.b axis_x) u w parts.1 (rw (reads_x e.b.x e.b.y) same)),
@@ -270,12 +252,8 @@ no_end_along_x e u w other =
 pub no_end_along_y : (e : Edge) (u w : ℤ) → ends_over axis_y (rational u w) e ≡ false
     → (u ≡ e.a.y *ℤ w → ⊥) × (u ≡ e.b.y *ℤ w → ⊥)
 no_end_along_y e u w other =
-<<<<<<< HEAD
-    let parts = or_parts (int_eq (cross (rational u w) (rational (abscissa_at e.a axis_y) (pos 1))) (pos 0))
-=======
     let parts = or_parts (int_eq (cross (rational u w) (rational (abscissa_at e.a axis_y) (pos 1)))
     (pos 0))
->>>>>>> 2988d87f7d05d058bd31182d96e2154bd2dbd35b
     (int_eq (cross (rational u w) (rational (abscissa_at e.b axis_y) (pos 1))) (pos 0)) other in (
       (λ same. not_same (abscissa_at e.a axis_y) u w parts.0 (rw (reads_y e.a.x e.a.y) same)),
       (λ same. not_same (abscissa_at e.b axis_y) u w parts.1 (rw (reads_y e.b.x e.b.y) same)),

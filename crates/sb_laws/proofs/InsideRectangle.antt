@@ -134,15 +134,6 @@ within a b c d at_a at_b at_c at_d =
     ) refl)
   where
     first : (a b c : ℤ) → (a *ℤ c) -ℤ (c *ℤ b) ≡ c *ℤ (a -ℤ b)
-<<<<<<< HEAD
-    first a b c = equal (minus (times (var a) (var c)) (times (var c) (var b))) (times (var c) (minus (var a) (var b))) (omega arith)
-
-    second : (b c d : ℤ) → (b *ℤ d) -ℤ (c *ℤ b) ≡ b *ℤ (d -ℤ c)
-    second b c d = equal (minus (times (var b) (var d)) (times (var c) (var b))) (times (var b) (minus (var d) (var c))) (omega arith)
-
-    third : (a b d : ℤ) → (b *ℤ d) -ℤ (d *ℤ a) ≡ d *ℤ (b -ℤ a)
-    third a b d = equal (minus (times (var b) (var d)) (times (var d) (var a))) (times (var d) (minus (var b) (var a))) (omega arith)
-=======
     first a b c = equal (minus (times (var a) (var c)) (times (var c) (var b)))
         (times (var c) (minus (var a) (var b))) (omega arith)
 
@@ -153,7 +144,6 @@ within a b c d at_a at_b at_c at_d =
     third : (a b d : ℤ) → (b *ℤ d) -ℤ (d *ℤ a) ≡ d *ℤ (b -ℤ a)
     third a b d = equal (minus (times (var b) (var d)) (times (var d) (var a)))
         (times (var d) (minus (var b) (var a))) (omega arith)
->>>>>>> 2988d87f7d05d058bd31182d96e2154bd2dbd35b
 
     fourth : (a c d : ℤ) → (a *ℤ c) -ℤ (d *ℤ a) ≡ a *ℤ (c -ℤ d)
     fourth a c d = equal (minus (times (var a) (var c)) (times (var d) (var a)))
@@ -277,15 +267,10 @@ enclosed_is_inside a b c d across up =
         → is_inside a b c d ≡ true
     all_inside a b c d at_a at_b at_c at_d =
         and_from (int_lt a (pos 0) && int_lt (pos 0) b) (int_lt c (pos 0) && int_lt (pos 0) d)
-<<<<<<< HEAD
-        (and_from (int_lt a (pos 0)) (int_lt (pos 0) b) (test_less a (pos 0) at_a) (test_less (pos 0) b at_b))
-        (and_from (int_lt c (pos 0)) (int_lt (pos 0) d) (test_less c (pos 0) at_c) (test_less (pos 0) d at_d))
-=======
         (and_from (int_lt a (pos 0)) (int_lt (pos 0) b) (test_less a (pos 0) at_a)
         (test_less (pos 0) b at_b))
         (and_from (int_lt c (pos 0)) (int_lt (pos 0) d) (test_less c (pos 0) at_c)
         (test_less (pos 0) d at_d))
->>>>>>> 2988d87f7d05d058bd31182d96e2154bd2dbd35b
 
 -- ---- the rectangle
 
