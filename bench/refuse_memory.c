@@ -2,8 +2,8 @@
  *
  * REFUSE_CALL is the number of the call, from 1. Counted are the calls of malloc, calloc, realloc,
  * reallocarray, aligned_alloc and posix_memalign that come from the code of the program itself, in
- * their order and from its start on. Those of the loader and of the C library are let through. Where
- * the call is refused, the file that REFUSE_MARK names is created.
+ * their order and from its start on. Those of the loader and of the C library are let through.
+ * Where the call is refused, the file that REFUSE_MARK names is created.
  *
  * A program built by `rt` calls malloc and realloc alone. The names __libc_.. are glibc's.
  */
