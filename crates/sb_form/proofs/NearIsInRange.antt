@@ -1,6 +1,6 @@
 -- A box whose doubled coordinates are near has its coordinates in range.
-use Rattle.std.proofs.Common.{◌≡◌, ◌<◌, ◌≤◌, ◌+ℤ◌, ◌-ℤ◌, ◌<ℤ◌, ℤ, pos, Bool, true, false, ◌&&◌, arith, refl}
-use Rattle.std.specs.Prelude.{int_lt, unsigned_abs}
+use Rattle.std.proofs.Common.{◌≡◌, ◌+ℤ◌, ◌-ℤ◌, ℤ, pos, Bool, true, false, ◌&&◌, arith}
+use Rattle.std.specs.Prelude.{int_lt}
 use Rattle.std.proofs.lemmas.Int.{ints}
 use Rattle.sb_box.specs.Extents.{is_interval}
 use Rattle.sb_form.specs.Meaning.{has_shape, is_near, is_near_about, is_near_up, is_even, half}

@@ -8,3 +8,5 @@ pub mod PassagesOfRays
 -- patches and lists
 pub mod PatchesBetweenLevels
 pub mod ListsInBlocks
+-- a worked walk
+mod LayeredWallBetweenRooms

@@ -28,7 +28,11 @@ fn main(rt: HostRuntime) -> ExitCode {
 
 /// The words behind the program's name.
 fn words(rt: &HostRuntime, alloc: Global) -> io::Result<Vec<String>> {
-    Ok(args(rt)?.skip(1).collect(alloc)?)
+    let mut words = Vec::new(alloc);
+    for word in args(rt)?.skip(1) {
+        words.push(word)?;
+    }
+    Ok(words)
 }
 
 fn status_without_words(error: &io::Error) -> u8 {

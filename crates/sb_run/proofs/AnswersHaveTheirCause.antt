@@ -1,12 +1,11 @@
 -- The answers of a run, each exactly where its cause holds.
-use Rattle.std.proofs.Common.{◌≡◌, ◌⊎◌, ◌<◌, ◌≤◌, ◌++◌, ◌∙◌, ℕ, List, length, take, Option, Some, None, sym, refl, ap, subst, inl, inr, arith, rules}
-use Rattle.std.specs.Option.{ForSome}
+use Rattle.std.proofs.Common.{◌≡◌, ◌<◌, ◌∙◌, ℕ, List, length, take, Option, Some, sym, ap, subst, inl, inr, arith}
 use Rattle.sb_shelf.specs.Outside.{Outside, Rose}
 use Rattle.sb_form.specs.declared.matcher.FirstForm.{FirstForm}
 use Rattle.sb_run.specs.Command.{Command, command}
-use Rattle.sb_run.specs.Answers.{HasReached, step_of}
+use Rattle.sb_run.specs.Answers.{HasReached}
 use Rattle.sb_run.specs.Promises.{longest, IsInput, IsRefused, HasDefect, IsSound, IsListOf, IsDoneOrNoMemory, ReportStands}
-use Rattle.sb_run.specs.Judgements.{IsRefusal, IsRefusedOnly, IsSameOrNoMemory, IsSole, IsReady, IsFinished}
+use Rattle.sb_run.specs.Judgements.{IsRefusal, IsSameOrNoMemory, IsSole, IsReady, IsFinished}
 use Rattle.sb_run.specs.declared.judging.Ready.{Ready}
 use Rattle.sb_run.specs.declared.answer.Answer.{Answer}
 use Rattle.sb_run.specs.declared.answer.Answer.TheVariants.{Done, Usage, ReadFault, TooLong, Refused, WriteFault, NoMemory}

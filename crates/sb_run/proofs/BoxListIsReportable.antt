@@ -1,6 +1,6 @@
 -- The list of a box can be reported: each boundary is on a face of the model and ends in the open.
-use Rattle.std.proofs.Common.{◌≡◌, ◌≤◌, ◌++◌, ◌∙◌, ◌<ℤ◌, ◌+ℤ◌, ◌-ℤ◌, ℕ, ℤ, zero, suc, pos, Bool, true, false, ◌&&◌, List, [], ◌∷◌, length, Some, None, cond, refl, subst, arith}
-use Rattle.std.specs.Prelude.{int_lt, int_le, nat_lt}
+use Rattle.std.proofs.Common.{◌≡◌, ◌++◌, ◌<ℤ◌, ◌+ℤ◌, ◌-ℤ◌, ℕ, ℤ, zero, suc, pos, Bool, true, false, List, [], ◌∷◌, length, cond, refl, subst, arith}
+use Rattle.std.specs.Prelude.{int_le}
 use Rattle.std.specs.Ordering.{int_eq}
 use Rattle.std.proofs.lemmas.Int.{ints}
 use Rattle.std.specs.List.{list_all, AllByRecursion}
@@ -10,7 +10,7 @@ use Rattle.sb_model.specs.declared.face.FaceKind.TheVariants as kind
 use Rattle.sb_model.specs.declared.walk.End.{End}
 use Rattle.sb_model.specs.declared.walk.End.TheVariants as end
 use Rattle.sb_model.specs.Building.{Building}
-use Rattle.sb_model.specs.Faces.{is_face_of, has_face, space_numbered}
+use Rattle.sb_model.specs.Faces.{has_face, space_numbered}
 use Rattle.sb_model.specs.Corners.{is_straight, is_straight_face}
 use Rattle.sb_box.specs.declared.extent.Extent.{Extent}
 use Rattle.sb_box.specs.BoxList.{BoxPatch, IsBoxBoundary, AreBoxBoundaries, IsBoxList, box_patches, side_patches, box_patch, is_cut, above, below}

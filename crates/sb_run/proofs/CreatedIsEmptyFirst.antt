@@ -1,5 +1,5 @@
 -- On an output that was just created stands exactly what was written to it.
-use Rattle.std.proofs.Common.{◌≡◌, ◌+◌, ◌++◌, ◌∙◌, ◌-◌, ℕ, Bool, true, false, List, [], length, take, Option, Some, None, Result, Ok, Err, is_some, OnOk, OnErr, subst, refl, ap}
+use Rattle.std.proofs.Common.{◌≡◌, ◌++◌, ◌∙◌, ℕ, List, [], length, take, Option, Some, None, Result, Ok, Err, is_some, OnOk, OnErr, subst, refl, ap}
 use Rattle.std.proofs.Math.Nat.{sub-zero}
 use Rattle.std.specs.Option.{ForSome}
 use Rattle.sb_shelf.specs.WholeTexts.{AppendsFirstOf}

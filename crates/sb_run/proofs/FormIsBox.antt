@@ -1,6 +1,6 @@
 -- The model that a form means is its box.
-use Rattle.std.proofs.Common.{◌≡◌, refl, sym}
-use Rattle.sb_box.specs.BoxModel.{IsBoxModel, prism_of}
+use Rattle.std.proofs.Common.{refl}
+use Rattle.sb_box.specs.BoxModel.{IsBoxModel}
 use Rattle.sb_box.specs.declared.extent.Extent.{Extent}
 use Rattle.sb_form.specs.Meaning.{IsExtentOf, model_of, space_of, space_number}
 use Rattle.sb_form.specs.declared.matcher.FirstForm.{FirstForm}

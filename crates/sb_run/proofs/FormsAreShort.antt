@@ -1,9 +1,9 @@
 -- The text of a form is far shorter than the longest input.
-use Rattle.std.proofs.Common.{◌≡◌, ◌<◌, ◌≤◌, ◌+◌, ◌++◌, ℕ, ℤ, pos, negsuc, suc, List, [], ◌∷◌, length, ap, arith, length-append, lit≤}
+use Rattle.std.proofs.Common.{◌≡◌, ◌≤◌, ◌+◌, ◌++◌, ℕ, ℤ, pos, negsuc, suc, List, [], ◌∷◌, length, ap, arith, length-append, lit≤}
 use Rattle.std.specs.Prelude.{decimal}
 use Rattle.std.proofs.lemmas.Fmt.{length-decimal-le}
 use Rattle.sb_form.specs.Numbers.{IsShort, number_text}
-use Rattle.sb_form.specs.FirstForm.{IsFormOf, before_place, before_sizes, before_height, behind_height, comma, form_text}
+use Rattle.sb_form.specs.FirstForm.{before_place, before_sizes, before_height, behind_height, comma}
 use Rattle.sb_form.specs.declared.matcher.FirstForm.{FirstForm}
 use Rattle.sb_run.specs.Promises.{longest, IsSound}
 

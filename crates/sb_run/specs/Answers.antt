@@ -1,5 +1,5 @@
 -- The answers: their order, their statuses and the line that is said for each.
-use Rattle.std.specs.Prelude.{ℕ, ◌+◌, ◌/◌, ◌≤◌, ◌++◌, ◌==◌, Bool, true, not, ◌&&◌, nat_le, List, [], ◌∷◌, length, codes, decimal, is_some, is_none, if◌then◌else◌}
+use Rattle.std.specs.Prelude.{ℕ, ◌+◌, ◌/◌, ◌≤◌, ◌++◌, ◌==◌, Bool, true, ◌&&◌, nat_le, List, [], ◌∷◌, codes, decimal, is_some, is_none, if◌then◌else◌}
 use Rattle.std.specs.List.{count_by, list_any}
 use Rattle.sb_model.specs.declared.boundary.Boundary.{Boundary}
 use Rattle.sb_run.specs.declared.answer.Answer.{Answer}

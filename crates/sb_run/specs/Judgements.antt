@@ -11,7 +11,7 @@ use Rattle.sb_form.specs.declared.meaning.Defect.TheVariants as defect
 use Rattle.sb_report.specs.Report.{report_of}
 use Rattle.sb_run.specs.Promises.{longest, IsSound, IsListOf, IsRefused}
 use Rattle.sb_run.specs.declared.answer.Answer.{Answer}
-use Rattle.sb_run.specs.declared.answer.Answer.TheVariants.{Done, Usage, ReadFault, TooLong, Refused, WriteFault, NoMemory}
+use Rattle.sb_run.specs.declared.answer.Answer.TheVariants.{Done, ReadFault, TooLong, Refused, WriteFault, NoMemory}
 use Rattle.sb_run.specs.declared.answer.Code.{Code}
 use Rattle.sb_run.specs.declared.answer.Code.TheVariants as code
 use Rattle.sb_run.specs.declared.judging.Ready.{Ready}

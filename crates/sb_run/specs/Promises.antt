@@ -1,5 +1,5 @@
 -- What a run promises. `old` and `new` are the outside before the run and after it.
-use Rattle.std.specs.Prelude.{◌≡◌, ◌<◌, ◌≤◌, ◌++◌, ℕ, false, true, List, length, take, Some, None}
+use Rattle.std.specs.Prelude.{◌≡◌, ◌≤◌, ◌++◌, ℕ, false, true, List, length, take, Some, None}
 use Rattle.std.specs.Option.{ForSome}
 use Rattle.sb_shelf.specs.Outside.{Outside, Rose}
 use Rattle.sb_shelf.specs.WholeTexts.{AppendsFirstOf}
@@ -16,7 +16,6 @@ use Rattle.sb_form.specs.declared.meaning.Defect.{Defect}
 use Rattle.sb_form.specs.declared.meaning.Defect.TheVariants as defect
 use Rattle.sb_report.specs.Report.{report_of}
 use Rattle.sb_run.specs.Command.{Command, command}
-use Rattle.sb_run.specs.Answers.{line}
 use Rattle.sb_run.specs.declared.answer.Answer.{Answer}
 use Rattle.sb_run.specs.declared.answer.Answer.TheVariants.{Done, WriteFault, NoMemory}
 use Rattle.sb_run.specs.declared.answer.Code.{Code}

@@ -1,5 +1,5 @@
 -- What the private steps of a run say.
-use Rattle.std.specs.Prelude.{ℕ, ◌+◌, ◌==◌, Bool, true, not, List, [], ◌∷◌, drop, string_bytes}
+use Rattle.std.specs.Prelude.{ℕ, ◌==◌, Bool, true, not, List, [], ◌∷◌, string_bytes}
 use Rattle.sb_model.specs.declared.boundary.Boundary.{Boundary}
 use Rattle.sb_run.specs.declared.telling.Line.{Line}
 use Rattle.sb_run.specs.declared.telling.Line.TheVariants.{Fixed, Made}

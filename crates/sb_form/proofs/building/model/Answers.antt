@@ -1,5 +1,5 @@
 -- The one number is 20, which is not bad.
-use Rattle.std.proofs.Common.{◌≡◌, ◌∷◌, [], ap, Err, Some, None}
+use Rattle.std.proofs.Common.{ap, Err}
 use Rattle.sb_form.proofs.building.model.Goals as goal
 
 pub unreachable-requires : goal.unreachable-requires

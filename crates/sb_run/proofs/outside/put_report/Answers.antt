@@ -1,4 +1,3 @@
-use Rattle.std.proofs.Common.{OnErr}
 use Rattle.sb_run.proofs.CreatedIsEmptyFirst.{empty_first, whole_written, part_written, under_premise}
 use Rattle.sb_run.proofs.outside.put_report.Goals as goal
 

@@ -1,5 +1,5 @@
 use Rattle.std.proofs.Common.{◌∙◌, sym}
-use Rattle.sb_run.proofs.SpacesEndWhereTheyChange.{IsCounted, ends_here, goes_on}
+use Rattle.sb_run.proofs.SpacesEndWhereTheyChange.{ends_here}
 use Rattle.sb_run.proofs.telling.spaces_in.Goals as goal
 
 pub turns-preserved-then-ends_space : goal.turns-preserved-then-ends_space
