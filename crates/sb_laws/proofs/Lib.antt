@@ -8,5 +8,3 @@ pub mod PassagesOfRays
 -- patches and lists
 pub mod PatchesBetweenLevels
 pub mod ListsInBlocks
--- a worked walk
-mod LayeredWallBetweenRooms
