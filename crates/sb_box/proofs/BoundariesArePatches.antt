@@ -19,6 +19,7 @@ use Rattle.sb_box.proofs.FacesOfBoxes.{lies_in}
 
 -- ---- lists
 
+-- a fact of each patch is one of each boundary
 pub all_lift : (n : ℕ) (P : BoxPatch → Type 0) (Q : Boundary → Type 0)
     → ((q : BoxPatch) → (b : Boundary) → IsBoxBoundary n q b → P q → Q b)
     → (qs : List BoxPatch) (list : List Boundary) → AreBoxBoundaries n qs list
@@ -44,6 +45,7 @@ match_same : (b c : Bool) (P Q R S : Type 0) → c ≡ b → (P → R) → (Q �
 match_same true c P Q R S e to over h = rw e (to h)
 match_same false c P Q R S e to over h = rw e (over h)
 
+-- exactly one patch passes a test: so does exactly one boundary
 pub one_lift : (n : ℕ) (s : BoxPatch → Bool) (t : Boundary → Bool)
     → ((q : BoxPatch) → (b : Boundary) → IsBoxBoundary n q b → t b ≡ s q)
     → (qs : List BoxPatch) (list : List Boundary) → AreBoxBoundaries n qs list → ExactlyOne s qs
@@ -57,6 +59,7 @@ one_lift n s t same (q ∷ qs) (b ∷ bs) are one =
 one_lift n s t same [] (b ∷ bs) are one = absurd are
 one_lift n s t same (q ∷ qs) [] are one = absurd are
 
+-- a relation of each two patches is one of each two boundaries
 pub two_lift : (n : ℕ) (R : BoxPatch → BoxPatch → Type 0) (S : Boundary → Boundary → Type 0)
     → ((p q : BoxPatch) → (b c : Boundary) → IsBoxBoundary n p b → IsBoxBoundary n q c → R p q
     → S b c)
@@ -76,6 +79,7 @@ pub record HasPatch (n : ℕ) (qs : List BoxPatch) (b : Boundary) : Type 0 where
   pub there : Stands patch qs
   pub is : IsBoxBoundary n patch b
 
+-- each boundary of the list has one
 pub has_patch : (n : ℕ) (qs : List BoxPatch) (list : List Boundary) (b : Boundary)
     → AreBoxBoundaries n qs list
     → Stands b list → HasPatch n qs b
@@ -109,6 +113,7 @@ tests : (a b c d k l : Bool) → a ≡ true → b ≡ true → c ≡ k → d ≡
     → (a && ((b && c) && d)) ≡ (k && l)
 tests a b c d k l ea eb ec ed = rw (ea, eb, ec, ed) refl
 
+-- the boundary is a top-level one at the point where the patch contains it
 pub top_is : (s : Besides) (n : ℕ) (e : Extent) (k : FaceKind) (f : Surface) (p : Spot)
     (q : BoxPatch) (b : Boundary)
     → IsBoxBoundary n q b → is_top_at (box_space s n e) k f p b ≡ lies_in k f p q

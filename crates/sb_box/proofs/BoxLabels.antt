@@ -42,6 +42,7 @@ box_model k n e = building k.unit (pos 0) k.reach (box_space k n e ∷ []) [] []
 abbrev pub besides_of : Building → Space → Besides
 besides_of m s = record { unit = m.unit; reach = m.reach; global_id = s.global_id; frame = s.frame }
 
+-- what a model of a box is, written out
 pub is_box_model : (n : ℕ) (e : Extent) (m : Building) (is : IsBoxModel n e m)
     → m ≡ box_model (besides_of m is.space) n e
 is_box_model n e m is =

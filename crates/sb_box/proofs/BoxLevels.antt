@@ -68,6 +68,7 @@ over_is_inside e rising p positive over =
 
 -- ---- Bottom
 
+-- a point of Bottom lies over the box, at its lower height
 pub on_bottom : (e : Extent) → IsRising e → (p : Spot) → IsSpot p
     → is_of_face (prism_of e) kind.Bottom p ≡ true
     → IsOver e (times_w p axis_x) (times_w p axis_y) p.w × (p.z ≡ e.z0 *ℤ p.w)
@@ -84,6 +85,7 @@ in_bottom x y z w c e = let f = turned c w in omega (arith, ints)
     turned c w = equal (minus (num 0) (times (negated (var c)) (var w))) (times (var c) (var w))
         (omega arith)
 
+-- a point of its plane over the box is one of Bottom
 pub of_bottom : (e : Extent) → IsRising e → (p : Spot) → IsSpot p
     → is_in_plane (bottom_of (prism_of e)) p ≡ true
     → IsOver e (times_w p axis_x) (times_w p axis_y) p.w
@@ -226,6 +228,7 @@ bottom_looks_out k n e p positive at =
 
 -- ---- Top, and the ray up from it
 
+-- a point of Top lies over the box, at its upper height
 pub on_top : (e : Extent) → IsRising e → (p : Spot) → IsSpot p
     → is_of_face (prism_of e) kind.Top p ≡ true
     → IsOver e (times_w p axis_x) (times_w p axis_y) p.w × (p.z ≡ e.z1 *ℤ p.w)
@@ -234,6 +237,7 @@ on_top e rising p positive on =
     (int_eq p.z (e.z1 *ℤ p.w)) on in
     (inside_is_over e rising p positive parts.0, (Decides-int_eq p.z (e.z1 *ℤ p.w)).0 parts.1)
 
+-- a point of its plane over the box is one of Top
 pub of_top : (e : Extent) → IsRising e → (p : Spot) → IsSpot p
     → is_in_plane (top_of (prism_of e)) p ≡ true
     → IsOver e (times_w p axis_x) (times_w p axis_y) p.w → is_of_face (prism_of e) kind.Top p ≡ true

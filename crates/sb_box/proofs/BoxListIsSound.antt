@@ -49,6 +49,7 @@ use Rattle.sb_box.proofs.FacesOfBoxes.{FaceFacts, lies_in, bottom_facts, top_fac
 use Rattle.sb_box.proofs.BoundariesArePatches.{all_lift, one_lift, two_lift, HasPatch, has_patch}
 use Rattle.sb_box.proofs.BoundariesArePatches.{in_patch_is, top_is}
 
+-- the coordinates of every box rise
 pub rising_box : (e : Extent) → IsRising e
 rising_box e = record {
   x = less_from e.x0 e.x1 (interval_less e.x0 e.x1 (x_is_interval e));

@@ -96,10 +96,12 @@ levels_are_region v w low high lower upper lower_is upper_is up along =
 pub interval_less : (low high : ℤ) → IsTrue (is_interval low high) → int_lt low high ≡ true
 interval_less low high h = (and_parts _ _ (and_parts _ _ h).0).0
 
+-- its lower end is in range
 pub interval_low : (low high : ℤ) → IsTrue (is_interval low high)
     → nat_le (unsigned_abs low) farthest ≡ true
 interval_low low high h = (and_parts _ _ (and_parts _ _ h).0).1
 
+-- its upper end is in range
 pub interval_high : (low high : ℤ) → IsTrue (is_interval low high)
     → nat_le (unsigned_abs high) farthest ≡ true
 interval_high low high h = (and_parts _ _ h).1
@@ -135,9 +137,11 @@ is_patch_between_heights k x y v w below above low high across along low_is high
 pub x_is_interval : (e : Extent) → IsTrue (is_interval e.x0 e.x1)
 x_is_interval e = (and_parts _ _ (and_parts _ _ e.is_extent).0).0
 
+-- along y
 pub y_is_interval : (e : Extent) → IsTrue (is_interval e.y0 e.y1)
 y_is_interval e = (and_parts _ _ (and_parts _ _ e.is_extent).0).1
 
+-- along z
 pub z_is_interval : (e : Extent) → IsTrue (is_interval e.z0 e.z1)
 z_is_interval e = (and_parts _ _ e.is_extent).1
 
@@ -148,6 +152,7 @@ pub lower_part_is_interval : (low high : ℤ) → IsTrue (is_interval low high)
 lower_part_is_interval low high h cut =
     and_from _ _ (and_from _ _ (and_parts _ _ cut).0 (interval_low low high h)) refl
 
+-- the part above the ground
 pub upper_part_is_interval : (low high : ℤ) → IsTrue (is_interval low high)
     → IsTrue (is_cut low high)
     → IsTrue (is_interval (pos 0) high)

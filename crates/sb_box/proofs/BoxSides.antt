@@ -66,18 +66,21 @@ surface_is e d n h = rw (h.direction_is, h.normal_is) refl
 
 -- ---- readings
 
+-- u of a side along x is x
 pub reads_x : (p : Spot) → times_w p axis_x ≡ p.x
 reads_x p = three p.x p.y p.z
   where
     three : (x y z : ℤ) → ((x *ℤ pos 1) +ℤ (y *ℤ pos 0)) +ℤ (z *ℤ pos 0) ≡ x
     three x y z = omega (arith, ints)
 
+-- u of a side along y is y
 pub reads_y : (p : Spot) → times_w p axis_y ≡ p.y
 reads_y p = three p.x p.y p.z
   where
     three : (x y z : ℤ) → ((x *ℤ pos 0) +ℤ (y *ℤ pos 1)) +ℤ (z *ℤ pos 0) ≡ y
     three x y z = omega (arith, ints)
 
+-- v of a side is z
 pub reads_z : (p : Spot) → times_w p axis_z ≡ p.z
 reads_z p = three p.x p.y p.z
   where
@@ -235,6 +238,7 @@ level_ray z d n w =
     equal (plus (times (var z) (times (var d) (num 1))) (times (num 0) (times (var n) (var w))))
     (times (var z) (var d)) (omega arith)
 
+-- the points of a ray have a positive denominator
 pub ray_ahead : (w d : ℤ) → pos 0 <ℤ w → pos 0 <ℤ d → pos 0 <ℤ (w *ℤ (d *ℤ pos 1))
 ray_ahead w d positive deep = positive_product w (d *ℤ pos 1) positive (omega (arith, ints))
 
@@ -279,6 +283,7 @@ not_equal_back a b less same = omega (arith, ints)
 
 -- ---- the four sides
 
+-- along x at the least y
 pub first_side : (k : Besides) (n : ℕ) (e : Extent) → IsRising e
     → IsBoxSide k n e (edge (corner e.x0 e.y0) (corner e.x1 e.y0))
     (surface_with (edge (corner e.x0 e.y0) (corner e.x1 e.y0)) axis_x
@@ -303,6 +308,7 @@ first_side k n e rising = record {
   same_height = λ p u. level_ray p.z u.x u.y p.w;
 }
 
+-- along y at the greatest x
 pub second_side : (k : Besides) (n : ℕ) (e : Extent) → IsRising e
     → IsBoxSide k n e (edge (corner e.x1 e.y0) (corner e.x1 e.y1))
     (surface_with (edge (corner e.x1 e.y0) (corner e.x1 e.y1)) axis_y
@@ -327,6 +333,7 @@ second_side k n e rising = record {
   same_height = λ p u. level_ray p.z u.x u.y p.w;
 }
 
+-- along x at the greatest y
 pub third_side : (k : Besides) (n : ℕ) (e : Extent) → IsRising e
     → IsBoxSide k n e (edge (corner e.x1 e.y1) (corner e.x0 e.y1))
     (surface_with (edge (corner e.x1 e.y1) (corner e.x0 e.y1)) axis_x
@@ -353,6 +360,7 @@ third_side k n e rising = record {
   same_height = λ p u. level_ray p.z u.x u.y p.w;
 }
 
+-- along y at the least x
 pub fourth_side : (k : Besides) (n : ℕ) (e : Extent) → IsRising e
     → IsBoxSide k n e (edge (corner e.x0 e.y1) (corner e.x0 e.y0))
     (surface_with (edge (corner e.x0 e.y1) (corner e.x0 e.y0)) axis_y

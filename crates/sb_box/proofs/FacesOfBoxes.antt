@@ -47,6 +47,8 @@ use Rattle.sb_box.proofs.PatchesOfBoxFaces.{bottom_alone, top_alone}
 abbrev pub lies_in : FaceKind → Surface → Spot → BoxPatch → Bool
 lies_in k f p = patch_test k (times_w p f.across) (times_w p f.up) p.w
 
+-- what is shown of each face: a plain point lies in one patch, a point of the plane in a patch is of
+-- the face, and a plain point of a patch looks out at its end
 pub record FaceFacts (s : Besides) (n : ℕ) (e : Extent) (k : FaceKind) (f : Surface) : Type 0 where
   pub once : (p : Spot) → IsSpot p → is_plain (box_model s n e) (prism_of e) k p ≡ true
       → ExactlyOne (lies_in k f p) (box_patches e)
@@ -119,6 +121,7 @@ level_facts s n e k f found one alone on of out = record {
       (box_patches e) alone;
 }
 
+-- they hold of Bottom
 pub bottom_facts : (s : Besides) (n : ℕ) (e : Extent) → IsRising e
     → FaceFacts s n e kind.Bottom (bottom_of (prism_of e))
 bottom_facts s n e rising =
@@ -127,6 +130,7 @@ bottom_facts s n e rising =
     (λ p positive on. (on_bottom e rising p positive on).0) (of_bottom e rising)
     (λ p positive on. bottom_looks_out s n e p positive (on_bottom e rising p positive on).1)
 
+-- of Top
 pub top_facts : (s : Besides) (n : ℕ) (e : Extent) → IsRising e
     → FaceFacts s n e kind.Top (top_of (prism_of e))
 top_facts s n e rising =
@@ -261,6 +265,7 @@ part_looks_out s n e side f low high is p positive on q meets over under =
     (let h = scaled_at_most (pos 0) q.lower p.w air.1 positive in omega (arith, ints))))
     meets
 
+-- and of each side
 pub side_facts : (s : Besides) (n : ℕ) (e : Extent) (j : ℕ) (side : Edge) (f : Surface)
     (low high : ℤ)
     → IsBoxSide s n e side f low high → edge_numbered (prism_of e) j ≡ Some side

@@ -120,6 +120,7 @@ meets_whole face low high z0 z1 not_cut =
     ))
     (λ over. inr (rw (test_at_most (pos 0) z0 over) refl, over))
 
+-- the patches of a side are its parts
 pub side_is_parts : (face : FaceKind) (low high z0 z1 : ℤ) → z0 <ℤ z1
     → AllByRecursion (IsPart face low high z0 z1) (side_patches face low high z0 z1)
 side_is_parts face low high z0 z1 rising =
@@ -166,6 +167,7 @@ one_of_choice test true p q r two one =
     (two refl)
 one_of_choice test false p q r two one = first_alone test r [] (one refl) refl
 
+-- a point of a side that is not at the ground lies in exactly one of its patches
 pub one_of_side : (face : FaceKind) (low high z0 z1 u v w : ℤ) → is_same_kind face face ≡ true
     → (low *ℤ w) <ℤ u → u <ℤ (high *ℤ w) → (z0 *ℤ w) <ℤ v → v <ℤ (z1 *ℤ w) → (v ≡ pos 0 → ⊥)
     → ExactlyOne (patch_test face u v w) (side_patches face low high z0 z1)
@@ -264,6 +266,7 @@ own_side k low high z0 z1 rising =
     all_weaker (IsPart k low high z0 z1) (OnFace k (IsPart k low high z0 z1)) (λ p part same. part)
     (side_patches k low high z0 z1) (side_is_parts k low high z0 z1 rising)
 
+-- the one patch of Bottom
 pub bottom_alone : (e : Extent)
     → AllByRecursion (OnFace kind.Bottom (λ p. p ≡ bottom e)) (box_patches e)
 bottom_alone e =
@@ -275,6 +278,7 @@ bottom_alone e =
     (other_side k (kind.Side 2) Q e.x0 e.x1 e.z0 e.z1 refl)
     (other_side k (kind.Side 3) Q e.y0 e.y1 e.z0 e.z1 refl)
 
+-- the one patch of Top
 pub top_alone : (e : Extent) → AllByRecursion (OnFace kind.Top (λ p. p ≡ top e)) (box_patches e)
 top_alone e =
     let k = kind.Top in
@@ -285,9 +289,11 @@ top_alone e =
     (other_side k (kind.Side 2) Q e.x0 e.x1 e.z0 e.z1 refl)
     (other_side k (kind.Side 3) Q e.y0 e.y1 e.z0 e.z1 refl)
 
+-- all patches of this side are its parts
 abbrev pub HasParts : Extent → FaceKind → ℤ → ℤ → Type 0
 HasParts e k low high = AllByRecursion (OnFace k (IsPart k low high e.z0 e.z1)) (box_patches e)
 
+-- along x at the least y
 pub first_parts : (e : Extent) → e.z0 <ℤ e.z1 → HasParts e (kind.Side 0) e.x0 e.x1
 first_parts e rising =
     let k = kind.Side 0 in
@@ -297,6 +303,7 @@ first_parts e rising =
     (other_side k (kind.Side 2) Q e.x0 e.x1 e.z0 e.z1 refl)
     (other_side k (kind.Side 3) Q e.y0 e.y1 e.z0 e.z1 refl)
 
+-- along y at the greatest x
 pub second_parts : (e : Extent) → e.z0 <ℤ e.z1 → HasParts e (kind.Side 1) e.y0 e.y1
 second_parts e rising =
     let k = kind.Side 1 in
@@ -306,6 +313,7 @@ second_parts e rising =
     (other_side k (kind.Side 2) Q e.x0 e.x1 e.z0 e.z1 refl)
     (other_side k (kind.Side 3) Q e.y0 e.y1 e.z0 e.z1 refl)
 
+-- along x at the greatest y
 pub third_parts : (e : Extent) → e.z0 <ℤ e.z1 → HasParts e (kind.Side 2) e.x0 e.x1
 third_parts e rising =
     let k = kind.Side 2 in
@@ -315,6 +323,7 @@ third_parts e rising =
     (other_side k (kind.Side 1) Q e.y0 e.y1 e.z0 e.z1 refl)
     (own_side k e.x0 e.x1 e.z0 e.z1 rising) (other_side k (kind.Side 3) Q e.y0 e.y1 e.z0 e.z1 refl)
 
+-- along y at the least x
 pub fourth_parts : (e : Extent) → e.z0 <ℤ e.z1 → HasParts e (kind.Side 3) e.y0 e.y1
 fourth_parts e rising =
     let k = kind.Side 3 in
@@ -348,6 +357,7 @@ pub record IsOver (e : Extent) (u v w : ℤ) : Type 0 where
   pub low : (e.y0 *ℤ w) <ℤ v
   pub high : v <ℤ (e.y1 *ℤ w)
 
+-- a point over the box lies in one patch of Bottom
 pub bottom_once : (e : Extent) (u v w : ℤ) → IsOver e u v w
     → ExactlyOne (patch_test kind.Bottom u v w) (box_patches e)
 bottom_once e u v w over =
@@ -357,6 +367,7 @@ bottom_once e u v w over =
     (window_in e.x0 e.x1 e.y0 e.y1 u v w over.left over.right over.low over.high)
     (no_side e k u v w refl refl refl refl)
 
+-- and in one of Top
 pub top_once : (e : Extent) (u v w : ℤ) → IsOver e u v w
     → ExactlyOne (patch_test kind.Top u v w) (box_patches e)
 top_once e u v w over =
@@ -383,11 +394,13 @@ behind_levels e k u v w one =
     one_behind (patch_test (kind.Side k) u v w) (bottom e) (top e ∷ rest) refl
     (one_behind (patch_test (kind.Side k) u v w) (top e) rest refl one)
 
+-- each point of this side that is not at the ground lies in exactly one of its patches
 abbrev pub HasOne : Extent → FaceKind → ℤ → ℤ → Type 0
 HasOne e k low high =
     (u v w : ℤ) → IsBesides low high e.z0 e.z1 u v w
     → ExactlyOne (patch_test k u v w) (box_patches e)
 
+-- along x at the least y
 pub first_once : (e : Extent) → HasOne e (kind.Side 0) e.x0 e.x1
 first_once e u v w at =
     let k = kind.Side 0 in
@@ -401,6 +414,7 @@ first_once e u v w at =
     (none_of_side k (kind.Side 2) e.x0 e.x1 e.z0 e.z1 u v w refl)
     (none_of_side k (kind.Side 3) e.y0 e.y1 e.z0 e.z1 u v w refl))))
 
+-- along y at the greatest x
 pub second_once : (e : Extent) → HasOne e (kind.Side 1) e.y0 e.y1
 second_once e u v w at =
     let k = kind.Side 1 in
@@ -414,6 +428,7 @@ second_once e u v w at =
     (none_of_side k (kind.Side 2) e.x0 e.x1 e.z0 e.z1 u v w refl)
     (none_of_side k (kind.Side 3) e.y0 e.y1 e.z0 e.z1 u v w refl))))
 
+-- along x at the greatest y
 pub third_once : (e : Extent) → HasOne e (kind.Side 2) e.x0 e.x1
 third_once e u v w at =
     let k = kind.Side 2 in
@@ -427,6 +442,7 @@ third_once e u v w at =
     (one_of_side k e.x0 e.x1 e.z0 e.z1 u v w refl at.left at.right at.lower at.upper at.off)
     (none_of_side k (kind.Side 3) e.y0 e.y1 e.z0 e.z1 u v w refl))))
 
+-- along y at the least x
 pub fourth_once : (e : Extent) → HasOne e (kind.Side 3) e.y0 e.y1
 fourth_once e u v w at =
     let k = kind.Side 3 in
@@ -442,12 +458,14 @@ fourth_once e u v w at =
 
 -- ---- each two: on different faces, or one above the other with another end
 
+-- q lies on p, on the same face, and has another end
 pub record IsAbove (p q : BoxPatch) : Type 0 where
   pub kind_same : p.kind ≡ q.kind
   pub low_same : p.low ≡ q.low
   pub touching : p.upper ≡ q.lower
   pub other_end : p.end ≡ q.end → ⊥
 
+-- p comes before q: on an earlier face, or just below it
 abbrev pub Precedes : BoxPatch → BoxPatch → Type 0
 Precedes p q = (rank_of p.kind < rank_of q.kind) ⊎ IsAbove p q
 
@@ -497,6 +515,7 @@ rank_of_side n k low high z0 z1 less =
     all_of_side (λ q. n < rank_of q.kind) (kind.Side k) low high z0 z1 (λ cut. (less, less))
     (λ not_cut. less)
 
+-- of each two patches of a box the earlier precedes the later
 pub each_two : (e : Extent) → AllOfTwo Precedes (box_patches e)
 each_two e =
     let r3 : (n : ℕ) → n < 5 → AllByRecursion (λ q. n < rank_of q.kind) (side_3 e) =
@@ -537,6 +556,7 @@ each_two e =
 
 -- ---- each patch looks out at the earth or the open air
 
+-- the earth or the open air
 abbrev pub IsOpen : End → Type 0
 IsOpen found = (found ≡ end.Earth) ⊎ (found ≡ end.Outside)
 
@@ -544,6 +564,7 @@ open_choice : (b : Bool) (p q : End) → IsOpen p → IsOpen q → IsOpen (if b 
 open_choice true p q left right = left
 open_choice false p q left right = right
 
+-- each patch of a box has such an end
 pub all_open : (e : Extent) → AllByRecursion (λ p. IsOpen p.end) (box_patches e)
 all_open e =
     all_of_box (λ p. IsOpen p.end) e

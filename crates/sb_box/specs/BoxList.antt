@@ -20,6 +20,7 @@ pub record BoxPatch : Type 0 where
   pub upper : ℤ
   pub end : End
 
+-- the patch with these numbers
 abbrev pub box_patch : FaceKind → ℤ → ℤ → ℤ → ℤ → End → BoxPatch
 box_patch face low high lower upper met =
     record { kind = face; low = low; high = high; lower = lower; upper = upper; end = met }

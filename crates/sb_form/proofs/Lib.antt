@@ -4,3 +4,4 @@ mod FormHasOneReading
 mod Examples
 mod Passing
 mod NearIsInRange
+pub mod FormMeansABox

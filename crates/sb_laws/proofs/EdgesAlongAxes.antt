@@ -112,9 +112,11 @@ about_rising a b z less about = (
       (omega (arith, ints)) in omega (arith, ints))) (λ left. left),
 )
 
+-- the two may be exchanged
 pub about_turned : (a b z : ℤ) → AreAbout a b z → AreAbout b a z
 about_turned a b z about = rw (mul_comm (b -ℤ z) (a -ℤ z)) about
 
+-- a number strictly between two lies between them
 pub about_between : (a b z : ℤ) → a <ℤ z → z <ℤ b → AreAbout a b z
 about_between a b z left right =
     rw (mul_comm (a -ℤ z) (b -ℤ z))
@@ -180,6 +182,7 @@ on_level xa xb y p positive other on =
       drop_square (a *ℤ b) c level (at_most_from ((a *ℤ b) +ℤ (c *ℤ c)) (pos 0) parts.1),
     )
 
+-- and such a point lies on it
 pub level_on : (xa xb y : ℤ) (p : Spot) → p.y ≡ y *ℤ p.w → AreAbout (xa *ℤ p.w) (xb *ℤ p.w) p.x
     → is_on p (edge (corner xa y) (corner xb y)) ≡ true
 unfolding cross dot
@@ -213,6 +216,7 @@ on_upright x ya yb p positive other on =
       drop_square_before (c *ℤ d) a upright (at_most_from ((a *ℤ a) +ℤ (c *ℤ d)) (pos 0) parts.1),
     )
 
+-- and such a point lies on it
 pub upright_on : (x ya yb : ℤ) (p : Spot) → p.x ≡ x *ℤ p.w → AreAbout (ya *ℤ p.w) (yb *ℤ p.w) p.y
     → is_on p (edge (corner x ya) (corner x yb)) ≡ true
 unfolding cross dot
@@ -249,6 +253,7 @@ no_end_along_x e u w other =
     reads_x : (x y : ℤ) → (x *ℤ pos 1) +ℤ (y *ℤ pos 0) ≡ x
     reads_x x y = omega (arith, ints)
 
+-- the same along y
 pub no_end_along_y : (e : Edge) (u w : ℤ) → ends_over axis_y (rational u w) e ≡ false
     → (u ≡ e.a.y *ℤ w → ⊥) × (u ≡ e.b.y *ℤ w → ⊥)
 no_end_along_y e u w other =

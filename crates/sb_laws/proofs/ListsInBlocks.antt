@@ -9,6 +9,7 @@ use Rattle.sb_model.specs.Places.{Stands, ExactlyOne, AllOfTwo, boundary_at}
 
 -- ---- any
 
+-- none in either block
 pub none-append : {X : Type 0} (test : X → Bool) (xs ys : List X)
     → list_any test xs ≡ false → list_any test ys ≡ false → list_any test (xs ++ ys) ≡ false
 none-append test [] ys left right = right
@@ -16,6 +17,7 @@ none-append test (x ∷ xs) ys left right =
     let parts = or_parts (test x) (list_any test xs) left in
     or_from (test x) (list_any test (xs ++ ys)) parts.0 (none-append test xs ys parts.1 right)
 
+-- none where each item fails the test
 pub none_where : {X : Type 0} (test : X → Bool) (xs : List X)
     → AllByRecursion (λ x. test x ≡ false) xs
     → list_any test xs ≡ false
@@ -65,11 +67,13 @@ one_in_second test (x ∷ xs) ys none one =
 
 -- ---- each one
 
+-- each item of both blocks
 pub all-append : {X : Type 0} (P : X → Type 0) (xs ys : List X) → AllByRecursion P xs
     → AllByRecursion P ys → AllByRecursion P (xs ++ ys)
 all-append P [] ys left right = right
 all-append P (x ∷ xs) ys left right = (left.0, all-append P xs ys left.1 right)
 
+-- what follows for each item
 pub all_weaker : {X : Type 0} (P Q : X → Type 0) → ((x : X) → P x → Q x) → (xs : List X)
     → AllByRecursion P xs → AllByRecursion Q xs
 all_weaker P Q to [] all = tt
@@ -84,6 +88,7 @@ all_stands P (y ∷ ys) x all at =
 
 -- ---- each two
 
+-- each two of a block, and each one of the first with each one of the second
 pub two-append : {X : Type 0} (R : X → X → Type 0) (xs ys : List X) → AllOfTwo R xs → AllOfTwo R ys
     → AllByRecursion (λ x. AllByRecursion (R x) ys) xs → AllOfTwo R (xs ++ ys)
 two-append R [] ys left right across = right
@@ -96,12 +101,15 @@ abbrev or_this : {X : Type 0} → X → Option X → X
 or_this other None = other
 or_this other (Some x) = x
 
+-- what is in Some is one thing
 pub some_is : {X : Type 0} (x y : X) → Some x ≡ Some y → x ≡ y
 some_is x y same = ap (or_this x) same
 
+-- None is not Some
 pub none_is_not_some : {X : Type 0} (x : X) → None ≡ Some x → ⊥
 none_is_not_some x same = false≢true (ap is_some same)
 
+-- what a list has at a place stands in it
 pub stands_at : {X : Type 0} (xs : List X) (i : ℕ) (x : X) → slice_get xs i ≡ Some x → Stands x xs
 stands_at [] zero x at = absurd (none_is_not_some x at)
 stands_at [] (suc i) x at = absurd (none_is_not_some x at)

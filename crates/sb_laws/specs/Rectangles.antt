@@ -3,6 +3,7 @@ use Rattle.std.specs.Prelude.{ℤ, ◌*ℤ◌, Bool, ◌&&◌, int_lt, List, [],
 use Rattle.sb_fraction.specs.declared.point.Point.{Point}
 use Rattle.sb_model.specs.Spots.{Spot}
 
+-- a plan point
 abbrev pub corner : ℤ → ℤ → Point
 corner x y = record { x = x; y = y }
 
