@@ -4,3 +4,4 @@ mod BoxListRises
 mod FormsAreShort
 mod AnswersHaveTheirCause
 mod BoxListIsReportable
+mod FormIsBox

@@ -5,6 +5,8 @@ use Rattle.sb_shelf.specs.Outside.{Outside, Rose}
 use Rattle.sb_shelf.specs.WholeTexts.{AppendsFirstOf}
 use Rattle.sb_shelf.specs.declared.shelf.Out.TheVariants.{Ifc, Idf, Report, Said}
 use Rattle.sb_model.specs.declared.boundary.Boundary.{Boundary}
+use Rattle.sb_model.specs.Order.{IsInOrder}
+use Rattle.sb_model.specs.Sound as model
 use Rattle.sb_box.specs.BoxList.{IsBoxList}
 use Rattle.sb_box.specs.declared.extent.Extent.{Extent}
 use Rattle.sb_form.specs.FirstForm.{IsFormOf}
@@ -51,8 +53,11 @@ IsRefused input n code.Range = (n ≡ space_number) × HasDefect input defect.Ra
 IsRefused input n code.OffGrid = (n ≡ space_number) × HasDefect input defect.OffGrid
 IsRefused input n code.Unbuilt = (n ≡ 0) × ((form : FirstForm) → IsFormOf form input → ⊥)
 
--- the boundaries of the box that the form means
+-- the list of the model that the form means: it is sound for this model and in order, and has the
+-- boundaries of the form's box
 pub record IsListOf (form : FirstForm) (list : List Boundary) : Type 0 where
+  pub sound : model.IsSound (model_of form) list
+  pub in_order : IsInOrder list
   pub extent : Extent
   pub is_extent : IsExtentOf form extent
   pub is_list : IsBoxList space_number extent list
