@@ -4,4 +4,3 @@ mod FormHasOneReading
 mod Examples
 mod Passing
 mod NearIsInRange
-pub mod FormMeansABox
