@@ -1,0 +1,3 @@
+-- Worked rows of walks.
+
+pub mod LayeredWallBetweenRooms
