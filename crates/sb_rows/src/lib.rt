@@ -1,5 +1,8 @@
 //! Tests that cross crates: the worked rows of one box, from the words to the bytes of the report.
 #![tactic(auto)]
 
+mod steady;
 #[cfg(test)]
 mod tests;
+
+pub use steady::run_without_faults;
