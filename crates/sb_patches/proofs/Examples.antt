@@ -1,6 +1,6 @@
 -- Worked lists of patches: the premises of the law hold for two equal lists, and patches of one
 -- mark that touch are refused.
-use Rattle.std.proofs.Common.{◌≡◌, refl, inl, ℕ, pos, true, List, [], ◌∷◌}
+use Rattle.std.proofs.Common.{◌≡◌, refl, ap, inl, inr, ℕ, ℤ, pos, true, List, [], ◌∷◌}
 use Rattle.std.proofs.Common.{◌-ℤ◌, arith, IsTrue}
 use Rattle.std.proofs.lemmas.Int.{ints}
 use Rattle.sb_whole.specs.Arrows.{Arrow, cross, dot}
@@ -15,10 +15,11 @@ use Rattle.sb_plane.specs.Regions.{is_region}
 use Rattle.sb_plane.specs.Regions.{closures_meet, is_reached, reaches_under}
 use Rattle.sb_plane.proofs.Regions.{region_from}
 use Rattle.sb_plane.proofs.Closures.{test_from_common, common_from_test}
+use Rattle.sb_patches.specs.Lists.{Stands}
 use Rattle.sb_patches.specs.Marked.{MarkedPatch, IsPatch}
 use Rattle.sb_patches.specs.Sheets.{Sheet, IsSheet, IsNoAbscissa, IsMarkedAt}
 use Rattle.sb_patches.specs.Trimmed.{AreApart, HaveNoSeam, IsTrimmedList}
-use Rattle.sb_patches.specs.Laws.{CoverAlike}
+use Rattle.sb_patches.specs.Laws.{CoverAlike, HaveSamePatches}
 
 -- ---- patches: rectangles [from, to] x [bottom, top], marked by a number
 
@@ -203,3 +204,40 @@ stacked_are_not_apart apart =
     (region_from upper.region upper_is_region) half_in stacked_meet
     in
     apart half common.0 half_in half_is_no_abscissa common.1
+
+-- ---- a patch and the same patch cut in two: what the law concludes is false of them
+
+-- the two squares in one
+abbrev tall : MarkedPatch ℕ
+tall = block 7 0 1 0 2
+
+-- where the upper side lies, and where the lower one
+abbrev top_of : MarkedPatch ℕ → ℤ
+top_of p = p.region.upper.off
+
+abbrev bottom_of : MarkedPatch ℕ → ℤ
+bottom_of p = p.region.lower.off
+
+two_is_not_one : pos 2 ≡ pos 1 → ⊥
+two_is_not_one same = omega (arith, ints, same)
+
+zero_is_not_one : pos 0 ≡ pos 1 → ⊥
+zero_is_not_one same = omega (arith, ints, same)
+
+tall_is_neither : Stands tall (left ∷ upper ∷ []) → ⊥
+tall_is_neither (inl same) = two_is_not_one (ap top_of same)
+tall_is_neither (inr (inl same)) = zero_is_not_one (ap bottom_of same)
+tall_is_neither (inr (inr none)) = none
+
+-- both put the point (1/2, 1/2) under the mark 7
+middle_is_marked_whole : IsMarkedAt (tall ∷ []) (face_point (pos 1) (pos 1) (pos 2)) 7
+unfolding cross
+middle_is_marked_whole = (tall, inl refl, refl, refl)
+
+middle_is_marked_in_two : IsMarkedAt (left ∷ upper ∷ []) (face_point (pos 1) (pos 1) (pos 2)) 7
+unfolding cross
+middle_is_marked_in_two = (left, inl refl, refl, refl)
+
+-- but they do not hold the same patches
+cut_in_two : HaveSamePatches (tall ∷ []) (left ∷ upper ∷ []) → ⊥
+cut_in_two same = tall_is_neither ((same tall).0 (inl refl))
