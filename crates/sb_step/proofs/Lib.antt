@@ -1,0 +1,3 @@
+pub mod KindsSay
+pub mod Continuations
+pub mod ListsByLexeme

@@ -1,0 +1,6 @@
+-- In reading order.
+pub mod Lexemes
+pub mod Rules
+pub mod Grammar
+pub mod Faults
+pub mod Steps
