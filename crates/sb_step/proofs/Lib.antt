@@ -1,3 +1,4 @@
 pub mod KindsSay
 pub mod Continuations
 pub mod ListsByLexeme
+pub mod SectionsByLexeme
