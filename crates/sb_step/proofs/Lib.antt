@@ -1,4 +1,6 @@
 pub mod KindsSay
+pub mod TurnsByTest
 pub mod Continuations
 pub mod ListsByLexeme
 pub mod SectionsByLexeme
+pub mod DepthIsCounted

@@ -25,6 +25,7 @@ use Rattle.sb_step.specs.Grammar.{File, ParameterList, BeginsSimple, BeginsCompl
 use Rattle.sb_step.specs.Steps.{is_semicolon, is_equals, is_first, is_last, is_keyword, number_of, is_the, moves, enters, finds, only, span_of, entity_of, record_of, simple_part, complex_part, names, outside_step, Turn, plain, begun, turn_outside}
 use Rattle.sb_step.proofs.KindsSay.{open_says, close_says, semicolon_says, equals_says, first_says, last_says, keyword_says, number_says, the_says, said_the}
 use Rattle.sb_step.proofs.Continuations.{Rest, Then, After, Wanted, no_more, AtRecordEnd, AtNextRecord, AtEquals, AtBody, AtFirstRecord, AtInstances, AtData, AtEndOfHeader, AtEntities, AtFirstEntity, AtSimpleList, AtInnerList, IsOfSpan, IsOfPart, EntityFrom, NamedFrom, PartFrom, Past, Follows, Goes, prepend}
+use Rattle.sb_step.proofs.TurnsByTest.{turn_of, only_gives, either_gives, named_gives}
 use Rattle.sb_step.proofs.ListsByLexeme.{list_goes, list_came}
 
 -- the grammar goes on, and so does the machine
@@ -36,13 +37,6 @@ pub record Turned (found : Option Turn) (f : File) (xs : List Lexeme) : Type 0 w
   pub later : File
   pub goes : Goes turn.state later xs
   pub whole : f ≡ prepend turn.found later
-
--- the turn that a move is
-abbrev pub turn_of : Move → Turn
-turn_of m = record {
-  state = record { outside = m.outside; nest = cond m.opens begun plain };
-  found = m.found;
-}
 
 moved : (o : Outside) (b : Bool) (f : File) (xs : List Lexeme) → b ≡ true → Follows o f xs
     → Turned (turn_outside (only b (moves o))) f xs
@@ -378,25 +372,19 @@ Came o x xs later t = Goes t.state later xs → Follows o (prepend t.found later
 module _ (o : Outside) (x : Lexeme) (xs : List Lexeme) (later : File) (turn : Turn) where
   came_only : (b : Bool) (m : Move) → (b ≡ true → Came o x xs later (turn_of m))
       → turn_outside (only b m) ≡ Some turn → Came o x xs later turn
-  came_only true m came is = subst (Came o x xs later) (same_Some (turn_of m) turn is)
-      (came refl)
-  came_only false m came is = absurd (none-some turn is)
+  came_only b m came is = only_gives (Came o x xs later) turn b m came is
 
   came_either : (b : Bool) (m : Move) (other : Option Move)
       → (b ≡ true → Came o x xs later (turn_of m))
       → (turn_outside other ≡ Some turn → Came o x xs later turn)
       → turn_outside (cond b (Some m) other) ≡ Some turn → Came o x xs later turn
-  came_either true m other came others is =
-      subst (Came o x xs later) (same_Some (turn_of m) turn is) (came refl)
-  came_either false m other came others is = others is
+  came_either b m other came others is =
+      either_gives (Came o x xs later) turn b m other came others is
 
   came_named : (found : Option ℕ)
       → ((n : ℕ) → found ≡ Some n → Came o x xs later (turn_of (moves (outside.Equals n))))
       → turn_outside (names found) ≡ Some turn → Came o x xs later turn
-  came_named None came is = absurd (none-some turn is)
-  came_named (Some n) came is =
-      subst (Came o x xs later) (same_Some (turn_of (moves (outside.Equals n))) turn is)
-      (came n refl)
+  came_named found came is = named_gives (Came o x xs later) turn found came is
 
 -- the keyword of the entity in progress
 keyword_of_entity : (x : Lexeme) (r : Record) → IsKeyword x → IsOfSpan (span_of x) r
