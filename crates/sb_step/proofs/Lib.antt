@@ -4,3 +4,4 @@ pub mod Continuations
 pub mod ListsByLexeme
 pub mod SectionsByLexeme
 pub mod DepthIsCounted
+pub mod SectionsAreFollowed
