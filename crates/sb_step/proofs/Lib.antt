@@ -5,3 +5,5 @@ pub mod ListsByLexeme
 pub mod SectionsByLexeme
 pub mod DepthIsCounted
 pub mod SectionsAreFollowed
+pub mod TextsAreRead
+pub mod SomeTextGoesOn
