@@ -7,3 +7,5 @@ pub mod DepthIsCounted
 pub mod SectionsAreFollowed
 pub mod TextsAreRead
 pub mod SomeTextGoesOn
+pub mod TextsEnd
+pub mod OneFileOrOneFault

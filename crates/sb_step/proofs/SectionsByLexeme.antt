@@ -246,7 +246,7 @@ many_more : (xs ys rest : List Lexeme) → InnerRecord xs ys → Many InnerRecor
 many_more [] ys rest j m = absurd j.first
 many_more (x ∷ xs) ys rest j m = inr (inner_on rest ys x xs j m)
 
-many_on : {xs rest : List Lexeme} → Many InnerRecord xs rest → ManyOn rest xs
+pub many_on : {xs rest : List Lexeme} → Many InnerRecord xs rest → ManyOn rest xs
 many_on (none {xs = xs}) = many_none xs
 many_on (more {xs = xs} {ys = ys} {zs = zs} j m) = many_more xs ys zs j m
 

@@ -20,6 +20,7 @@ use Rattle.sb_step.specs.declared.steps.Found.{Found}
 use Rattle.sb_step.specs.declared.steps.Found.TheVariants as found
 use Rattle.sb_step.specs.declared.steps.Move.{Move}
 use Rattle.sb_step.specs.Lexemes.{Lexeme, is_value, is_open, is_close}
+use Rattle.sb_step.specs.Grammar.{File}
 
 -- tests of kinds
 
@@ -239,3 +240,30 @@ step s x = step_at s.outside s.nest.frames s.nest.want x
 -- before the first lexeme
 abbrev pub start : State
 start = record { outside = outside.Begin; nest = plain }
+
+-- the end of the data, behind the last semicolon of a text
+abbrev pub end_at : Outside → List Frame → Option ℕ
+end_at (outside.End k) [] = Some k
+end_at _ _ = None
+
+abbrev pub end_of : State → Option ℕ
+end_of s = end_at s.outside s.nest.frames
+
+-- the records of entities among what was found
+abbrev pub entities_of : List Found → List Record
+entities_of [] = []
+entities_of (found.Nothing ∷ founds) = entities_of founds
+entities_of (found.Entity r ∷ founds) = r ∷ entities_of founds
+entities_of (found.Instance n r ∷ founds) = entities_of founds
+
+-- the instances among it
+abbrev pub instances_of : List Found → List (ℕ × Record)
+instances_of [] = []
+instances_of (found.Nothing ∷ founds) = instances_of founds
+instances_of (found.Entity r ∷ founds) = instances_of founds
+instances_of (found.Instance n r ∷ founds) = (n, r) ∷ instances_of founds
+
+-- the file of what was found in a text
+abbrev pub file_of : List Found → ℕ → File
+file_of founds k =
+    record { header = entities_of founds; instances = instances_of founds; data_end = k }
