@@ -178,19 +178,19 @@ body_goes : (n : ℕ) (h : List Record) (i : ℕ × Record) (later : List (ℕ �
     → Turned (turn_outside (outside_step (outside.Body n) x))
     (record { header = h; instances = i ∷ later; data_end = k }) xs
 body_goes n h i later k x xs past number (inl s) =
-    let part : IsOfPart (simple_part n x) i = record {
+    let part : IsOfPart (simple_part n x.token) i = record {
       number = number;
       whole = λ j. record { start = sym s.0.start j; end = i.1.end; form = s.0.form j };
     } in
-    moved_first (outside.SimpleOpen (simple_part n x)) (is_keyword x.token.kind) _ _ xs
+    moved_first (outside.SimpleOpen (simple_part n x.token)) (is_keyword x.token.kind) _ _ xs
     (ap is_keyword s.0.keyword) (past, (part, s.1))
 body_goes n h i later k x xs past number (inr c) =
-    let part : IsOfPart (complex_part n x) i = record {
+    let part : IsOfPart (complex_part n x.token) i = record {
       number = number;
       whole = λ j. record { start = sym c.0.start j; end = i.1.end; form = c.0.form j };
     } in
     moved_second (is_keyword x.token.kind) _ _ _ xs (ap is_keyword c.0.open_mark)
-    (moved (outside.FirstRecord (complex_part n x)) (is_open x.token.kind) _ xs
+    (moved (outside.FirstRecord (complex_part n x.token)) (is_open x.token.kind) _ xs
     (ap is_open c.0.open_mark) (past, (part, c.1)))
 
 named_body_goes : (n : ℕ) (h : List Record) (instances : List (ℕ × Record)) (k : ℕ)
@@ -439,7 +439,7 @@ equals_came n [] k x xs equals goes = absurd goes
 equals_came n (i ∷ later) k x xs equals goes = (goes.0, (equals, goes.1))
 
 simple_came : (n : ℕ) (instances : List (ℕ × Record)) (k : ℕ) (x : Lexeme) (xs : List Lexeme)
-    → IsKeyword x → PartFrom (simple_part n x) AtSimpleList instances k xs
+    → IsKeyword x → PartFrom (simple_part n x.token) AtSimpleList instances k xs
     → NamedFrom n AtBody instances k (x ∷ xs)
 simple_came n [] k x xs keyword goes = absurd goes
 simple_came n (i ∷ later) k x xs keyword goes = (goes.0.number, inl (record {
@@ -449,7 +449,7 @@ simple_came n (i ∷ later) k x xs keyword goes = (goes.0.number, inl (record {
 }, goes.1))
 
 complex_came : (n : ℕ) (instances : List (ℕ × Record)) (k : ℕ) (x : Lexeme) (xs : List Lexeme)
-    → IsMark mark.Open x → PartFrom (complex_part n x) AtFirstRecord instances k xs
+    → IsMark mark.Open x → PartFrom (complex_part n x.token) AtFirstRecord instances k xs
     → NamedFrom n AtBody instances k (x ∷ xs)
 complex_came n [] k x xs opens goes = absurd goes
 complex_came n (i ∷ later) k x xs opens goes = (goes.0.number, inr (record {

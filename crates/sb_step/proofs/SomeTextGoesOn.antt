@@ -117,7 +117,7 @@ at_simple_open : (p : Part) → Hopes (at (outside.SimpleOpen p))
 at_simple_open p = by_list _ (outside.InstanceEnd p) refl (omega arith) (at_instance_end p)
 
 at_body : (n : ℕ) → Hopes (at (outside.Body n))
-at_body n = via _ (outside.SimpleOpen (simple_part n (keyword_of []))) (keyword_of []) refl
+at_body n = via _ (outside.SimpleOpen (simple_part n (keyword_of []).token)) (keyword_of []) refl
     (at_simple_open _)
 
 at_equals : (n : ℕ) → Hopes (at (outside.Equals n))

@@ -6,6 +6,7 @@ use Rattle.sb_lex.specs.declared.kinds.Kind.{Kind}
 use Rattle.sb_lex.specs.declared.kinds.Kind.TheVariants as kind
 use Rattle.sb_lex.specs.declared.kinds.Mark.TheVariants as mark
 use Rattle.sb_lex.specs.declared.kinds.Word.TheVariants as word
+use Rattle.sb_lex.specs.declared.kinds.Token.{Token}
 use Rattle.sb_step.specs.declared.file.Form.TheVariants as form
 use Rattle.sb_step.specs.declared.file.Record.{Record}
 use Rattle.sb_step.specs.declared.steps.Span.{Span}
@@ -87,19 +88,37 @@ abbrev pub record_of : Part → ℕ → Record
 record_of p end = record { start = p.start; end = end; form = p.form }
 
 -- an instance whose record is simple
-abbrev pub simple_part : ℕ → Lexeme → Part
-simple_part n x =
-    record { number = n; start = x.token.start; form = form.Simple x.token.end }
+abbrev pub simple_part : ℕ → Token → Part
+simple_part n t = record { number = n; start = t.start; form = form.Simple t.end }
 
 -- an instance whose record is complex
-abbrev pub complex_part : ℕ → Lexeme → Part
-complex_part n x = record { number = n; start = x.token.start; form = form.Complex }
+abbrev pub complex_part : ℕ → Token → Part
+complex_part n t = record { number = n; start = t.start; form = form.Complex }
 
 -- a name of an instance, where one is wanted
 abbrev pub names : Option ℕ → Option Move
 names None = None
 names (Some n) = Some (moves (outside.Equals n))
 
+-- an entity's list or the semicolon of the header's end
+abbrev pub list_or_end : Span → Kind → Option Move
+list_or_end s k =
+    if is_open k then Some (enters (outside.EntityEnd s))
+    else only (is_semicolon k) (moves outside.Data)
+
+-- a further record of a complex one, or its end
+abbrev pub record_or_end : Part → Kind → Option Move
+record_or_end p k =
+    if is_keyword k then Some (moves (outside.RecordOpen p))
+    else only (is_close k) (moves (outside.InstanceEnd p))
+
+-- a simple record or a complex one
+abbrev pub body : ℕ → Token → Option Move
+body n t =
+    if is_keyword t.kind then Some (moves (outside.SimpleOpen (simple_part n t)))
+    else only (is_open t.kind) (moves (outside.FirstRecord (complex_part n t)))
+
+-- what may stand next outside of parameter lists
 abbrev pub outside_step : Outside → Lexeme → Option Move
 outside_step outside.Begin x = only (is_first x.token.kind) (moves outside.BeginSemicolon)
 outside_step outside.BeginSemicolon x = only (is_semicolon x.token.kind) (moves outside.Header)
@@ -111,9 +130,7 @@ outside_step outside.FirstEntity x = only (is_keyword x.token.kind)
 outside_step outside.Entities x =
     if is_the (codes "ENDSEC") x then Some (moves (outside.EntityOrEnd (span_of x)))
     else only (is_keyword x.token.kind) (moves (outside.EntityOpen (span_of x)))
-outside_step (outside.EntityOrEnd k) x =
-    if is_open x.token.kind then Some (enters (outside.EntityEnd k))
-    else only (is_semicolon x.token.kind) (moves outside.Data)
+outside_step (outside.EntityOrEnd s) x = list_or_end s x.token.kind
 outside_step (outside.EntityOpen k) x = only (is_open x.token.kind) (enters (outside.EntityEnd k))
 outside_step (outside.EntityEnd k) x = only (is_semicolon x.token.kind)
     (finds outside.Entities (found.Entity (entity_of k x.token.start)))
@@ -123,17 +140,13 @@ outside_step outside.Instances x =
     if is_the (codes "ENDSEC") x then Some (moves (outside.EndSemicolon x.token.start))
     else names (number_of x.token.kind)
 outside_step (outside.Equals n) x = only (is_equals x.token.kind) (moves (outside.Body n))
-outside_step (outside.Body n) x =
-    if is_keyword x.token.kind then Some (moves (outside.SimpleOpen (simple_part n x)))
-    else only (is_open x.token.kind) (moves (outside.FirstRecord (complex_part n x)))
+outside_step (outside.Body n) x = body n x.token
 outside_step (outside.SimpleOpen p) x = only (is_open x.token.kind)
     (enters (outside.InstanceEnd p))
 outside_step (outside.FirstRecord p) x = only (is_keyword x.token.kind)
     (moves (outside.RecordOpen p))
 outside_step (outside.RecordOpen p) x = only (is_open x.token.kind) (enters (outside.NextRecord p))
-outside_step (outside.NextRecord p) x =
-    if is_keyword x.token.kind then Some (moves (outside.RecordOpen p))
-    else only (is_close x.token.kind) (moves (outside.InstanceEnd p))
+outside_step (outside.NextRecord p) x = record_or_end p x.token.kind
 outside_step (outside.InstanceEnd p) x = only (is_semicolon x.token.kind)
     (finds outside.Instances (found.Instance p.number (record_of p x.token.start)))
 outside_step (outside.EndSemicolon k) x = only (is_semicolon x.token.kind)

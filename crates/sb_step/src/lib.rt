@@ -3,6 +3,10 @@
 #![tactic(auto)]
 
 mod file;
+mod kinds;
+mod laws;
+mod sections;
 mod steps;
 
 pub use crate::file::{Form, Record};
+pub use crate::laws::one_file_or_one_fault;

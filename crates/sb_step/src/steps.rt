@@ -1,9 +1,5 @@
-// The grammar of exchange texts as a machine: what may stand next, and what was found.
-ghost use Rattle.std.specs.Prelude.{◌≡◌, length};
-ghost use Rattle.sb_step.specs.Steps as spec;
-
+// What the machine that reads a text keeps, and what it finds.
 use crate::file::{Form, Record};
-use sb_lex::{Kind, Mark, Token, Word};
 
 /// Where a keyword stands.
 #[derive(Clone, Copy)]
@@ -83,10 +79,4 @@ pub(crate) struct Move {
     /// The token opens a parameter list, behind which `outside` is wanted.
     pub opens: bool,
     pub found: Found,
-}
-
-fn is_semicolon(kind: Kind) -> bool
-    ensures { result ≡ spec.is_semicolon kind }
-{
-    matches!(kind, Kind::Mark(Mark::Semicolon))
 }
