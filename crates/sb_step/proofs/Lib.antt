@@ -9,3 +9,4 @@ pub mod TextsAreRead
 pub mod SomeTextGoesOn
 pub mod TextsEnd
 pub mod OneFileOrOneFault
+pub mod FramesAreBits

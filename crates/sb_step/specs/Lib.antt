@@ -4,3 +4,4 @@ pub mod Rules
 pub mod Grammar
 pub mod Faults
 pub mod Steps
+pub mod Machines

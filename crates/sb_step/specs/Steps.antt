@@ -1,6 +1,6 @@
 -- What the private functions promise: the grammar as a machine that reads one lexeme after another.
 -- The proofs join this to the grammar: the machine goes on exactly where some text does.
-use Rattle.std.specs.Prelude.{ℕ, zero, suc, ◌+◌, ◌-◌, ◌/◌, ◌%◌, Bool, true, false, ◌&&◌, ◌==◌, nat_eq, nat_lt, if◌then◌else◌, List, [], ◌∷◌, length, codes, Option, Some, None, option_map}
+use Rattle.std.specs.Prelude.{◌≡◌, ℕ, zero, suc, ◌+◌, ◌-◌, ◌/◌, ◌%◌, ◌^◌, ◌<◌, ◌≤◌, Bool, true, false, ◌&&◌, ◌==◌, nat_eq, nat_lt, if◌then◌else◌, List, [], ◌∷◌, length, codes, Option, Some, None, option_map}
 use Rattle.std.specs.Str.{bytes_eq}
 use Rattle.sb_lex.specs.declared.kinds.Kind.{Kind}
 use Rattle.sb_lex.specs.declared.kinds.Kind.TheVariants as kind
@@ -177,17 +177,39 @@ parameter room fs k =
     else if is_keyword k then deeper room frame.Typed fs want.Open
     else None
 
+-- the innermost parenthesis is that of a list
+abbrev pub is_list : List Frame → Bool
+is_list [] = false
+is_list (frame.List ∷ fs) = true
+is_list (frame.Typed ∷ fs) = false
+
 -- a comma goes on with a list, and with nothing else
 abbrev pub comma : List Frame → Kind → Option Nest
-comma [] k = None
-comma (frame.List ∷ fs) k =
-    if is_comma k then Some (record { frames = frame.List ∷ fs; want = want.Parameter }) else None
-comma (frame.Typed ∷ fs) k = None
+comma fs k =
+    if is_list fs && is_comma k then Some (record { frames = fs; want = want.Parameter }) else None
 
 -- without the innermost
 abbrev pub shut : List Frame → Nest
 shut [] = record { frames = []; want = want.Next }
 shut (f ∷ fs) = record { frames = fs; want = want.Next }
+
+-- the parentheses that so many bits tell of, the lowest first: 1 for a list, 0 for a typed parameter
+abbrev pub frame_of : ℕ → Frame
+frame_of zero = frame.Typed
+frame_of (suc n) = frame.List
+
+abbrev pub frames_of : ℕ → ℕ → List Frame
+frames_of zero bits = []
+frames_of (suc n) bits = frame_of (bits % 2) ∷ frames_of n (bits / 2)
+
+-- as many bits as there are parentheses, 64 at most
+pub record IsKept (len bits : ℕ) : Type 0 where
+  pub few : len ≤ 64
+  pub fits : bits < 2 ^ len
+
+abbrev pub bit_of : Frame → ℕ
+bit_of frame.List = 1
+bit_of frame.Typed = 0
 
 -- what the kind does to the frames, by what is wanted
 abbrev pub by_want : Want → ℕ → List Frame → Kind → Option Nest
@@ -196,6 +218,11 @@ by_want want.Parameter room fs k = parameter room fs k
 by_want want.Next room fs k = if is_close k then Some (shut fs) else comma fs k
 by_want want.Open room fs k =
     if is_open k then Some (record { frames = fs; want = want.Parameter }) else None
+
+-- what a function that changes the frames answers: what is wanted then, if the kind may stand there
+abbrev pub Leads : Option Nest → List Frame → Option Want → Type 0
+Leads found fs None = found ≡ None
+Leads found fs (Some w) = found ≡ Some (record { frames = fs; want = w })
 
 -- the whole
 
@@ -249,6 +276,19 @@ step_at o (f ∷ fs) w x = turn_inside o (by_want w (room_of o) (f ∷ fs) x.tok
 
 abbrev pub step : State → Lexeme → Option Turn
 step s x = step_at s.outside s.nest.frames s.nest.want x
+
+-- what a machine answers: what was found, if the lexeme may stand there
+abbrev pub Advances : State → Lexeme → Option Found → State → Type 0
+Advances s x None t = step s x ≡ None
+Advances s x (Some g) t = step s x ≡ Some (record { state = t; found = g })
+
+-- the same where a parameter list is open, for which the kind is enough
+abbrev pub AdvancesInside : State → Kind → Option Found → State → Type 0
+AdvancesInside s k None t = turn_inside s.outside
+    (by_want s.nest.want (room_of s.outside) s.nest.frames k) ≡ None
+AdvancesInside s k (Some g) t = turn_inside s.outside
+    (by_want s.nest.want (room_of s.outside) s.nest.frames k)
+    ≡ Some (record { state = t; found = g })
 
 -- before the first lexeme
 abbrev pub start : State

@@ -5,6 +5,8 @@
 mod file;
 mod kinds;
 mod laws;
+mod lists;
+mod machine;
 mod sections;
 mod steps;
 
