@@ -10,3 +10,5 @@ pub mod SomeTextGoesOn
 pub mod TextsEnd
 pub mod OneFileOrOneFault
 pub mod FramesAreBits
+pub mod InstancesAreKept
+pub mod FoundsAreCollected

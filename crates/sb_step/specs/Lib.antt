@@ -3,5 +3,10 @@ pub mod Lexemes
 pub mod Rules
 pub mod Grammar
 pub mod Faults
+pub mod Numbers
+pub mod Indexed
+pub mod Answers
 pub mod Steps
 pub mod Machines
+pub mod Kept
+pub mod Collects

@@ -320,3 +320,8 @@ instances_of (found.Instance n r ∷ founds) = (n, r) ∷ instances_of founds
 abbrev pub file_of : List Found → ℕ → File
 file_of founds k =
     record { header = entities_of founds; instances = instances_of founds; data_end = k }
+
+-- the lesser of two numbers, if there are two
+abbrev pub least_of : Option ℕ → ℕ → ℕ
+least_of None n = n
+least_of (Some m) n = if nat_lt m n then m else n

@@ -2,13 +2,19 @@
 //! its fault.
 #![tactic(auto)]
 
+mod collected;
+mod error;
 mod file;
+mod instances;
 mod kinds;
 mod laws;
 mod lists;
 mod machine;
 mod sections;
+mod step_file;
 mod steps;
 
+pub use crate::error::StepError;
 pub use crate::file::{Form, Record};
 pub use crate::laws::one_file_or_one_fault;
+pub use crate::step_file::StepFile;
