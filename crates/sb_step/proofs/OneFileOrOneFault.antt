@@ -10,8 +10,7 @@ use Rattle.sb_lex.proofs.OneListOfTokens.{each_input_has_tokens, tokens_are_uniq
 use Rattle.sb_step.specs.Lexemes.{Lexeme, lexeme_at, lexemes}
 use Rattle.sb_step.specs.Grammar.{File, IsText}
 use Rattle.sb_step.specs.Faults.{IsFile, BeginsText, place_of, GoesOn, IsFaultAt, EachIsFileOrFault, FilesAreUnique, FaultsAreUnique, NoFileHasAFault}
-use Rattle.sb_step.specs.Steps.{State, Turn, step, start, end_of, file_of}
-use Rattle.sb_step.proofs.TextsAreRead.{Ran, and_ran, run}
+use Rattle.sb_step.specs.Steps.{State, Turn, step, start, end_of, file_of, Ran, and_ran, run}
 use Rattle.sb_step.proofs.TextsEnd.{text_ends, ends_text, begun_runs, runs_begin}
 
 -- runs, one lexeme further

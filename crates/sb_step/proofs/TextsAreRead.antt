@@ -16,7 +16,7 @@ use Rattle.sb_step.specs.declared.steps.Found.{Found}
 use Rattle.sb_step.specs.declared.steps.Found.TheVariants as found
 use Rattle.sb_step.specs.Lexemes.{Lexeme, IsKeyword, IsMark, is_open, is_close, opened, closed}
 use Rattle.sb_step.specs.Grammar.{File, IsShallow, IsText}
-use Rattle.sb_step.specs.Steps.{Nest, outside_step, by_want, is_complex, room_of, State, Turn, plain, turn_outside, turn_inside, step, step_at, start}
+use Rattle.sb_step.specs.Steps.{Nest, outside_step, by_want, is_complex, room_of, State, Turn, plain, turn_outside, turn_inside, step, step_at, start, Ran, and_ran, run}
 use Rattle.sb_step.proofs.Continuations.{Follows, Wanted, Goes, prepend}
 use Rattle.sb_step.proofs.ListsByLexeme.{OpensNext, HasRoom, RoomFor, Inner, inside_goes, inside_came}
 use Rattle.sb_step.proofs.SectionsByLexeme.{Turned, outside_goes, outside_came}
@@ -221,20 +221,6 @@ text_read xs f reads = record {
 }
 
 -- runs
-
--- where a run ends, and what was found on it
-pub record Ran : Type 0 where
-  pub state : State
-  pub founds : List Found
-
-abbrev pub and_ran : Found → Option Ran → Option Ran
-and_ran x None = None
-and_ran x (Some r) = Some (record { state = r.state; founds = x ∷ r.founds })
-
--- a run over the lexemes
-abbrev pub run : List Lexeme → State → Option Ran
-run [] s = Some (record { state = s; founds = [] })
-run (x ∷ xs) s = option_and_then (λ t. and_ran t.found (run xs t.state)) (step s x)
 
 -- all that was found, before what is still to come
 abbrev pub prepend_all : List Found → File → File

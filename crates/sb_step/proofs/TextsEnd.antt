@@ -18,11 +18,11 @@ use Rattle.sb_step.specs.Lexemes.{Lexeme, IsMark}
 use Rattle.sb_step.specs.Rules.{Many}
 use Rattle.sb_step.specs.Grammar.{File, IsText, ParameterList, InnerRecord}
 use Rattle.sb_step.specs.Faults.{BeginsText}
-use Rattle.sb_step.specs.Steps.{State, Turn, step, start, end_at, end_of, entities_of, instances_of, file_of}
+use Rattle.sb_step.specs.Steps.{State, Turn, step, start, end_at, end_of, entities_of, instances_of, file_of, Ran, run}
 use Rattle.sb_step.proofs.Continuations.{Rest, Then, After, Closing, Wanted, no_more, AtEntities, AtFirstEntity, AtInstances, AtEndOfHeader, AtRecordEnd, AtNextRecord, AtBody, AtEquals, AtFirstRecord, AtSimpleList, AtInnerList, EntityFrom, NamedFrom, PartFrom, Follows, prepend}
 use Rattle.sb_step.proofs.ListsByLexeme.{list_on, parameter_on, more_on}
 use Rattle.sb_step.proofs.SectionsByLexeme.{many_on}
-use Rattle.sb_step.proofs.TextsAreRead.{Shallow, Reads, read_text, text_read, start_fits, Ran, run, prepend_all, runs_on, runs_before, run_fits}
+use Rattle.sb_step.proofs.TextsAreRead.{Shallow, Reads, read_text, text_read, start_fits, prepend_all, runs_on, runs_before, run_fits}
 use Rattle.sb_step.proofs.SomeTextGoesOn.{some_text_goes_on}
 
 -- where nothing follows

@@ -10,3 +10,4 @@ pub mod Steps
 pub mod Machines
 pub mod Kept
 pub mod Collects
+pub mod Progress

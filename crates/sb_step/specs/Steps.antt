@@ -1,6 +1,6 @@
 -- What the private functions promise: the grammar as a machine that reads one lexeme after another.
 -- The proofs join this to the grammar: the machine goes on exactly where some text does.
-use Rattle.std.specs.Prelude.{◌≡◌, ℕ, zero, suc, ◌+◌, ◌-◌, ◌/◌, ◌%◌, ◌^◌, ◌<◌, ◌≤◌, Bool, true, false, ◌&&◌, ◌==◌, nat_eq, nat_lt, if◌then◌else◌, List, [], ◌∷◌, length, codes, Option, Some, None, option_map}
+use Rattle.std.specs.Prelude.{◌≡◌, ℕ, zero, suc, ◌+◌, ◌-◌, ◌/◌, ◌%◌, ◌^◌, ◌<◌, ◌≤◌, Bool, true, false, ◌&&◌, ◌==◌, nat_eq, nat_lt, if◌then◌else◌, List, [], ◌∷◌, length, codes, Option, Some, None, option_and_then}
 use Rattle.std.specs.Str.{bytes_eq}
 use Rattle.sb_lex.specs.declared.kinds.Kind.{Kind}
 use Rattle.sb_lex.specs.declared.kinds.Kind.TheVariants as kind
@@ -325,3 +325,17 @@ file_of founds k =
 abbrev pub least_of : Option ℕ → ℕ → ℕ
 least_of None n = n
 least_of (Some m) n = if nat_lt m n then m else n
+
+-- where a run ends, and what was found on it
+pub record Ran : Type 0 where
+  pub state : State
+  pub founds : List Found
+
+abbrev pub and_ran : Found → Option Ran → Option Ran
+and_ran x None = None
+and_ran x (Some r) = Some (record { state = r.state; founds = x ∷ r.founds })
+
+-- a run over the lexemes
+abbrev pub run : List Lexeme → State → Option Ran
+run [] s = Some (record { state = s; founds = [] })
+run (x ∷ xs) s = option_and_then (λ t. and_ran t.found (run xs t.state)) (step s x)

@@ -5,6 +5,7 @@
 mod collected;
 mod error;
 mod file;
+mod indexing;
 mod instances;
 mod kinds;
 mod laws;
@@ -16,5 +17,6 @@ mod steps;
 
 pub use crate::error::StepError;
 pub use crate::file::{Form, Record};
+pub use crate::indexing::index;
 pub use crate::laws::one_file_or_one_fault;
 pub use crate::step_file::StepFile;
