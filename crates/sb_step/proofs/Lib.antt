@@ -12,3 +12,5 @@ pub mod OneFileOrOneFault
 pub mod FramesAreBits
 pub mod InstancesAreKept
 pub mod FoundsAreCollected
+pub mod ReadingGoesOn
+pub mod OneAnswerToAnInput
