@@ -1,0 +1,203 @@
+-- What a reading of the tokens so far says of the input.
+use Rattle.std.proofs.Common.{◌≡◌, ℕ, List, [], ◌∷◌, ◌++◌, length, Option, Some, None, Result, Ok, Err, refl, sym, ap, ◌∙◌, subst, append-nil, append_assoc}
+use Rattle.std.proofs.lemmas.Option.{same_Some, none-some}
+use Rattle.sb_lex.specs.declared.kinds.Token.{Token}
+use Rattle.sb_lex.specs.declared.kinds.BadToken.{BadToken}
+use Rattle.sb_lex.specs.Tokens.{IsNext, IsEnd, IsBadFrom, AreTokensFrom, AreTokens, Answers}
+use Rattle.sb_lex.proofs.OneAnswer.{answers_agree}
+use Rattle.sb_lex.proofs.OneListOfTokens.{each_input_has_tokens}
+use Rattle.sb_step.specs.declared.error.StepError.{StepError}
+use Rattle.sb_step.specs.declared.error.StepError.TheVariants as step_error
+use Rattle.sb_step.specs.declared.steps.Found.{Found}
+use Rattle.sb_step.specs.declared.collected.Collected.{Collected}
+use Rattle.sb_step.specs.Lexemes.{Lexeme, lexeme_at, lexemes}
+use Rattle.sb_step.specs.Grammar.{File}
+use Rattle.sb_step.specs.Faults.{IsFile, IsFaultAt}
+use Rattle.sb_step.specs.Numbers.{AreApart}
+use Rattle.sb_step.specs.Indexed.{Indexed}
+use Rattle.sb_step.specs.Answers.{IsAnswer}
+use Rattle.sb_step.specs.Steps.{State, step, start, end_of, file_of, entities_of, instances_of, Ran, run}
+use Rattle.sb_step.specs.Kept.{IsDoubled, AreKept}
+use Rattle.sb_step.specs.Collects.{AreCollected}
+use Rattle.sb_step.specs.Progress.{TokensTo, Progress, Accepted, Accepts, by_doubled, finished}
+use Rattle.sb_step.proofs.TextsEnd.{ends_text, runs_begin}
+use Rattle.sb_step.proofs.OneFileOrOneFault.{goes_on, stops, no_end, lexemes-more}
+
+-- the tokens up to a place, and those from there on, are the tokens
+to_all : (input : List ℕ) (from to : ℕ) (before after : List Token) (bad : Option BadToken)
+    → TokensTo input from before to → AreTokensFrom input to after bad
+    → AreTokensFrom input from (before ++ after) bad
+to_all input from to [] after bad so_far are =
+    subst (λ k. AreTokensFrom input k after bad) (sym so_far) are
+to_all input from to (t ∷ before) after bad so_far are =
+    (so_far.0, to_all input t.end to before after bad so_far.1 are)
+
+-- one token more
+to_more : (input : List ℕ) (from to : ℕ) (before : List Token) (t : Token)
+    → TokensTo input from before to → IsNext input to t
+    → TokensTo input from (before ++ t ∷ []) t.end
+to_more input from to [] t so_far next =
+    (subst (λ k. IsNext input k t) (sym so_far) next, refl)
+to_more input from to (u ∷ before) t so_far next =
+    (so_far.0, to_more input u.end to before t so_far.1 next)
+
+-- there are tokens from the place on
+pub record Later (input : List ℕ) (to : ℕ) : Type 0 where
+  pub after : List Token
+  pub bad : Option BadToken
+  pub are : AreTokensFrom input to after bad
+
+behind_next : (input : List ℕ) (from : ℕ) (t : Token) (tokens : List Token)
+    (bad : Option BadToken) → IsNext input from t → AreTokensFrom input from tokens bad
+    → Later input t.end
+behind_next input from t [] None next are =
+    let same = answers_agree (record { input = input; place = from }) (Ok (Some t)) (Ok None) next
+        are in absurd (cc)
+behind_next input from t [] (Some b) next are =
+    let same = answers_agree (record { input = input; place = from }) (Ok (Some t)) (Err b) next
+        are in absurd (cc)
+behind_next input from t (u ∷ tokens) bad next are =
+    let same = answers_agree (record { input = input; place = from }) (Ok (Some t)) (Ok (Some u))
+        next are.0 in
+    let first : u ≡ t = cc in
+    record {
+      after = tokens;
+      bad = bad;
+      are = subst (λ v. AreTokensFrom input v.end tokens bad) first are.1;
+    }
+
+later_from : (input : List ℕ) (from to : ℕ) (before : List Token) → TokensTo input from before to
+    → Later input from → Later input to
+later_from input from to [] so_far later = subst (Later input) so_far later
+later_from input from to (t ∷ before) so_far later =
+    later_from input t.end to before so_far.1
+    (behind_next input from t later.after later.bad so_far.0 later.are)
+
+tokens_later : (input : List ℕ) (to : ℕ) (before : List Token) → TokensTo input 0 before to
+    → Later input to
+tokens_later input to before so_far =
+    let h = each_input_has_tokens input in
+    later_from input 0 to before so_far (record { after = h.0; bad = h.1; are = h.2 })
+
+-- before the first token
+pub nothing_read : (input : List ℕ) (c : Collected) → AreCollected [] c → Progress input 0 start c
+nothing_read input c empty = record {
+  before = [];
+  founds = [];
+  tokens = refl;
+  reads = refl;
+  collected = empty;
+}
+
+-- a token was accepted
+pub one_more : (input : List ℕ) (place : ℕ) (t : Token) (s u : State) (c d : Collected)
+    → Progress input place s c → IsNext input place t
+    → Accepted s u (lexeme_at input t) c d → Progress input t.end u d
+one_more input place t s u c d p next a = record {
+  before = p.before ++ t ∷ [];
+  founds = p.founds ++ a.found ∷ [];
+  tokens = to_more input 0 place p.before t p.tokens next;
+  reads = ap (λ l. run l start) (lexemes-more input p.before t)
+      ∙ goes_on (lexemes input p.before) (record { state = s; founds = p.founds })
+      (lexeme_at input t) (record { state = u; found = a.found }) p.reads a.steps;
+  collected = a.collects p.founds p.collected;
+}
+
+-- a token was not
+pub fault_at_token : (input : List ℕ) (place : ℕ) (t : Token) (s : State) (c : Collected)
+    → Progress input place s c → IsNext input place t → step s (lexeme_at input t) ≡ None
+    → IsFaultAt input t.start
+fault_at_token input place t s c p next none =
+    let l = tokens_later input t.end (p.before ++ t ∷ [])
+        (to_more input 0 place p.before t p.tokens next) in
+    let ran : Ran = record { state = s; founds = p.founds } in
+    record {
+      before = p.before;
+      after = t ∷ l.after;
+      bad = l.bad;
+      are = to_all input 0 place p.before (t ∷ l.after) l.bad p.tokens (next, l.are);
+      at = refl;
+      begins = runs_begin (lexemes input p.before) ran p.reads;
+      refused = stops (lexemes input p.before) ran (lexeme_at input t) p.reads none;
+    }
+
+-- no token begins
+pub fault_at_bad : (input : List ℕ) (place bad : ℕ) (s : State) (c : Collected)
+    → Progress input place s c → IsBadFrom input place bad → IsFaultAt input bad
+fault_at_bad input place bad s c p is = record {
+  before = p.before;
+  after = [];
+  bad = Some (record { 0 = bad });
+  are = to_all input 0 place p.before [] (Some (record { 0 = bad })) p.tokens is;
+  at = refl;
+  begins = runs_begin (lexemes input p.before) (record { state = s; founds = p.founds }) p.reads;
+  refused = λ goes. goes;
+}
+
+-- the end of the input
+
+-- the file of what was found, whose instances are in the map only if their numbers are apart
+kept_answers : (input : List ℕ) (c : Collected) (founds : List Found) (k : ℕ) (doubled : Option ℕ)
+    → c.instances.doubled ≡ doubled → AreCollected founds c → IsFile input (file_of founds k)
+    → IsAnswer input (by_doubled doubled (record {
+      input = input;
+      file = record {
+        header = c.header.items;
+        instances = c.instances.records.entries;
+        data_end = k;
+      };
+    }))
+kept_answers input c founds k (Some n) was are is = record {
+  file = file_of founds k;
+  is = is;
+  least = subst (λ d. IsDoubled d (instances_of founds)) was are.instances.doubled;
+}
+kept_answers input c founds k None was are is =
+    let apart = subst (λ d. IsDoubled d (instances_of founds)) was are.instances.doubled in
+    let entries = are.instances.entries was in
+    record {
+      input_is = refl;
+      file = subst (IsFile input)
+          (λ i. record {
+            header = sym are.header i;
+            instances = sym entries i;
+            data_end = k;
+          }) is;
+      apart = subst AreApart (sym entries) apart;
+    }
+
+end_answers : (input : List ℕ) (place : ℕ) (s : State) (c : Collected) (end : Option ℕ)
+    → end_of s ≡ end → Progress input place s c → IsEnd input place
+    → IsAnswer input (finished input end c)
+end_answers input place s c None none p ends = record {
+  before = p.before;
+  after = [];
+  bad = None;
+  are = to_all input 0 place p.before [] None p.tokens ends;
+  at = refl;
+  begins = runs_begin (lexemes input p.before) (record { state = s; founds = p.founds }) p.reads;
+  refused = no_end (lexemes input p.before) (record { state = s; founds = p.founds }) p.reads none;
+}
+end_answers input place s c (Some k) ended p ends =
+    kept_answers input c p.founds k c.instances.doubled refl p.collected (record {
+      tokens = p.before;
+      are = subst (λ ts. AreTokens input ts None) (append-nil p.before)
+          (to_all input 0 place p.before [] None p.tokens ends);
+      text = ends_text (lexemes input p.before) (record { state = s; founds = p.founds }) k
+          p.reads ended;
+    })
+
+-- what is answered there is so
+pub answer_at_end : (input : List ℕ) (place : ℕ) (s : State) (c : Collected)
+    → Progress input place s c → IsEnd input place
+    → IsAnswer input (finished input (end_of s) c)
+answer_at_end input place s c p ends = end_answers input place s c (end_of s) refl p ends
+
+-- what is answered where a token was not accepted
+pub error_answers : (input : List ℕ) (place : ℕ) (t : Token) (s u : State) (c d : Collected)
+    (error : StepError) → Progress input place s c → IsNext input place t
+    → Accepts s u (lexeme_at input t) c d (Err error) → IsAnswer input (Err error)
+error_answers input place t s u c d (step_error.Syntax k) p next says =
+    subst (IsFaultAt input) (sym says.0) (fault_at_token input place t s c p next says.1)
+error_answers input place t s u c d (step_error.Duplicate n) p next says = absurd says
+error_answers input place t s u c d step_error.NoMemory p next says = tt

@@ -1,0 +1,79 @@
+use Rattle.std.proofs.Common.{◌≡◌, ℕ, Ok, Err, Some, None, sym, ap, ◌∙◌, subst}
+use Rattle.sb_lex.specs.declared.kinds.Token.{Token}
+use Rattle.sb_lex.specs.Tokens.{Reading, Answers, IsNext, moved}
+use Rattle.sb_step.specs.Answers.{IsAnswer}
+use Rattle.sb_step.specs.Steps.{start}
+use Rattle.sb_step.specs.Machines.{state_of}
+use Rattle.sb_step.specs.Progress.{Progress, finished}
+use Rattle.sb_step.proofs.ReadingGoesOn.{nothing_read, one_more, fault_at_bad, answer_at_end, error_answers}
+use Rattle.sb_step.proofs.indexing.read.Goals as goal
+
+pub tokens-init : goal.tokens-init
+tokens-init c = record {
+  input_is = ap (λ r. r.input) c.new-lexer.ensures;
+  progress = subst
+      (λ s. Progress c.args.bytes.now c.new-lexer.result.place s c.new-collected.result)
+      (sym c.new-machine.ensures)
+      (subst (λ k. Progress c.args.bytes.now k start c.new-collected.result)
+      (sym (ap (λ r. r.place) c.new-lexer.ensures))
+      (nothing_read c.args.bytes.now c.new-collected.result c.new-collected.ensures));
+}
+
+pub tokens-preserved : goal.tokens-preserved
+tokens-preserved c =
+    let input = c.args.bytes.now in
+    let place = c.tokens.lexer.place in
+    let invariant = c.tokens.invariant in
+    let next : IsNext input place c.in-Ok-Some.token =
+    subst (λ i. IsNext i place c.in-Ok-Some.token) invariant.input_is
+    (subst (λ o. Answers c.tokens.lexer (Ok o)) c.in-Ok-Some.field-0-is
+    c.in-Ok-Some.ensures.answer) in
+    let behind : c.next.new.self ≡ moved c.tokens.lexer (Ok (Some c.in-Ok-Some.token)) =
+    subst (λ o. c.next.new.self ≡ moved c.tokens.lexer (Ok o)) c.in-Ok-Some.field-0-is
+    c.in-Ok-Some.ensures.moved in
+    record {
+      input_is = ap (λ r. r.input) behind ∙ invariant.input_is;
+      progress = subst
+          (λ k. Progress input k (state_of c.accept.new.machine) c.accept.new.collected)
+          (sym (ap (λ r. r.place) behind))
+          (one_more input place c.in-Ok-Some.token (state_of c.tokens.machine)
+          (state_of c.accept.new.machine) c.tokens.collected c.accept.new.collected
+          invariant.progress next c.in-Ok.ensures);
+    }
+
+pub returns-in-Err-accept : goal.returns-in-Err-accept
+returns-in-Err-accept c =
+    let input = c.args.bytes.now in
+    let place = c.tokens.lexer.place in
+    let invariant = c.tokens.invariant in
+    let next : IsNext input place c.in-Ok-Some.token =
+    subst (λ i. IsNext i place c.in-Ok-Some.token) invariant.input_is
+    (subst (λ o. Answers c.tokens.lexer (Ok o)) c.in-Ok-Some.field-0-is
+    c.in-Ok-Some.ensures.answer) in
+    error_answers input place c.in-Ok-Some.token (state_of c.tokens.machine)
+    (state_of c.accept.new.machine) c.tokens.collected c.accept.new.collected
+    c.in-Err-accept.error invariant.progress next c.in-Err-accept.ensures
+
+pub returns-in-Ok-None : goal.returns-in-Ok-None
+returns-in-Ok-None c =
+    let input = c.args.bytes.now in
+    let place = c.tokens.lexer.place in
+    let invariant = c.tokens.invariant in
+    let ends = subst (λ i. Answers (record { input = i; place = place }) (Ok None))
+        invariant.input_is
+        (subst (λ o. Answers c.tokens.lexer (Ok o)) c.in-Ok-None.field-0-is
+        c.in-Ok-None.ensures.answer) in
+    subst (IsAnswer input) (sym c.finish.ensures)
+    (subst (λ e. IsAnswer input (finished input e c.tokens.collected)) (sym c.end.ensures)
+    (answer_at_end input place (state_of c.tokens.machine) c.tokens.collected
+    invariant.progress ends))
+
+pub returns-in-Err : goal.returns-in-Err
+returns-in-Err c =
+    let input = c.args.bytes.now in
+    let place = c.tokens.lexer.place in
+    let invariant = c.tokens.invariant in
+    fault_at_bad input place c.in-Err.field-0.0 (state_of c.tokens.machine) c.tokens.collected
+    invariant.progress
+    (subst (λ i. Answers (record { input = i; place = place }) (Err c.in-Err.field-0))
+    invariant.input_is c.in-Err.ensures.answer)

@@ -1,0 +1,17 @@
+-- What is kept of the instances that were read.
+use Rattle.std.specs.Prelude.{◌≡◌, ◌↔◌, ℕ, ◌<◌, nat_lt, nat_eq, Bool, is_some, List, Option, Some, None}
+use Rattle.indexmap.specs.IndexMap.{get}
+use Rattle.sb_step.specs.declared.file.Record.{Record}
+use Rattle.sb_step.specs.declared.instances.Instances.{Instances}
+use Rattle.sb_step.specs.Numbers.{uses, AreApart, IsLeastTwice}
+
+-- which number was used twice
+abbrev pub IsDoubled : Option ℕ → List (ℕ × Record) → Type 0
+IsDoubled None instances = AreApart instances
+IsDoubled (Some n) instances = IsLeastTwice n instances
+
+-- the map has each number, and the instances themselves as long as their numbers are apart
+pub record AreKept (instances : List (ℕ × Record)) (kept : Instances) : Type 0 where
+  pub numbers : (n : ℕ) → is_some (get nat_eq kept.records n) ≡ nat_lt 0 (uses n instances)
+  pub doubled : IsDoubled kept.doubled instances
+  pub entries : kept.doubled ≡ None → kept.records.entries ≡ instances

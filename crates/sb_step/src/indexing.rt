@@ -1,0 +1,100 @@
+// A whole text, token by token.
+ghost use Rattle.std.specs.Prelude.{◌≡◌, ◌↔◌, ℕ, Ok, Err, List};
+ghost use Rattle.sb_step.specs.Answers.{IsAnswer, IsInTime, IsIndexed, HasDoubled};
+ghost use Rattle.sb_step.specs.Faults.{IsFaultAt};
+ghost use Rattle.sb_step.specs.Indexed.{Indexed};
+ghost use Rattle.sb_step.specs.Machines.{state_of};
+ghost use Rattle.sb_step.specs.Progress as spec;
+
+use crate::collected::Collected;
+use crate::error::StepError;
+use crate::instances::Instances;
+use crate::machine::Machine;
+use crate::step_file::StepFile;
+use sb_lex::{BadToken, Lexer, Token};
+use std::alloc::Global;
+
+/// The exchange text that the input is, with its instances by number.
+///
+/// - `Ok(file)`: exactly where the input is a text of the grammar and no two of its instances have
+///   one number. Then `file` is the one that the text describes.
+/// - `Err(Syntax(place))`: exactly where the input has its fault at this byte. Each input that is no
+///   text has one fault. Tried first.
+/// - `Err(Duplicate(number))`: exactly where the input is a text and `number` is the least that two
+///   of its instances have.
+/// - `Err(NoMemory)`: at any time.
+///
+/// Source: ISO 10303-21, with the leniencies that `specs/Grammar.antt` states.
+pub fn index<'a>(alloc: Global, bytes: &'a [u8]) -> Result<StepFile<'a>, StepError>
+    ensures answer { IsAnswer bytes.now result }
+    ensures file { (indexed : Indexed) → IsInTime result → (result ≡ Ok indexed)
+        ↔ IsIndexed bytes.now indexed }
+    ensures syntax { (place : ℕ) → IsInTime result → (result ≡ Err (StepError.Syntax place))
+        ↔ IsFaultAt bytes.now place }
+    ensures duplicate { (number : ℕ) → IsInTime result
+        → (result ≡ Err (StepError.Duplicate number)) ↔ HasDoubled bytes.now number }
+{
+    read(alloc, bytes)
+}
+
+fn read<'a>(alloc: Global, bytes: &'a [u8]) -> Result<StepFile<'a>, StepError>
+    ensures { IsAnswer bytes.now result }
+{
+    let mut lexer = Lexer::new(bytes);
+    let mut machine = Machine::new();
+    let mut collected = Collected::new(alloc);
+    'tokens: loop {
+        match lexer.next() {
+            Ok(Some(token)) => {
+                let text = &bytes[token.start..token.end];
+                match accept(&mut machine, &mut collected, token, text) {
+                    Ok(()) => {}
+                    Err(error) => return Err(error),
+                }
+            }
+            Ok(None) => return finish(bytes, machine.end(), collected),
+            Err(BadToken(place)) => return Err(StepError::Syntax(place)),
+        }
+    }
+}
+
+fn accept(
+    machine: &mut Machine,
+    collected: &mut Collected,
+    token: Token,
+    text: &[u8],
+) -> Result<(), StepError>
+    ensures { spec.Accepts (state_of machine.old) (state_of machine.new)
+        (record { token = token; text = text.now }) collected.old collected.new result }
+{
+    match machine.advance(token, text) {
+        Some(found) => match collected.add(found) {
+            Ok(()) => Ok(()),
+            Err(_) => Err(StepError::NoMemory),
+        },
+        None => Err(StepError::Syntax(token.start)),
+    }
+}
+
+fn finish<'a>(
+    bytes: &'a [u8],
+    end: Option<usize>,
+    collected: Collected,
+) -> Result<StepFile<'a>, StepError>
+    ensures { result ≡ spec.finished bytes.now end collected }
+{
+    let Collected { header, instances } = collected;
+    let Instances { records, doubled } = instances;
+    match end {
+        Some(data_end) => match doubled {
+            Some(number) => Err(StepError::Duplicate(number)),
+            None => Ok(StepFile {
+                bytes,
+                header,
+                instances: records,
+                data_end,
+            }),
+        },
+        None => Err(StepError::Syntax(bytes.len())),
+    }
+}

@@ -1,0 +1,51 @@
+// The instances that were read, by their numbers.
+ghost use Rattle.std.specs.Prelude.{◌≡◌};
+ghost use Rattle.sb_step.specs.Steps as spec;
+
+use crate::file::Record;
+use indexmap::IndexMap;
+use std::alloc::{AllocError, Global};
+
+/// The records of instances, in order of the first use of their numbers.
+#[derive(Drop)]
+pub(crate) struct Instances {
+    pub records: IndexMap<u32, Record>,
+    /// The least number that was used twice.
+    pub doubled: Option<u32>,
+}
+
+impl Instances {
+    ghost use Rattle.std.specs.Prelude.{◌≡◌, ℕ, List, [], ◌∷◌, ◌++◌, OnOk};
+    ghost use Rattle.sb_step.specs.declared.file.Record.{Record as Found};
+    ghost use Rattle.sb_step.specs.Kept.{AreKept};
+
+    pub(crate) fn new(alloc: Global) -> Instances
+        ensures { AreKept [] result }
+    {
+        Instances {
+            records: IndexMap::new(alloc),
+            doubled: None,
+        }
+    }
+
+    /// Keeps one instance more.
+    pub(crate) fn insert(&mut self, number: u32, body: Record) -> Result<(), AllocError>
+        ensures { (instances : List (ℕ × Found)) → OnOk result (AreKept instances self.old
+            → AreKept (instances ++ (number, body) ∷ []) self.new) }
+    {
+        let known = self.records.insert(number, body)?;
+        if known.is_some() {
+            self.doubled = Some(least(self.doubled, number));
+        }
+        Ok(())
+    }
+}
+
+fn least(doubled: Option<u32>, number: u32) -> u32
+    ensures { result ≡ spec.least_of doubled number }
+{
+    match doubled {
+        Some(other) if other < number => other,
+        _ => number,
+    }
+}
