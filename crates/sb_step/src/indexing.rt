@@ -81,7 +81,8 @@ fn finish<'a>(
     end: Option<usize>,
     collected: Collected,
 ) -> Result<StepFile<'a>, StepError>
-    ensures { result ≡ spec.finished bytes.now end collected }
+    requires { IsAnswer bytes.now (spec.finished bytes.now end collected) }
+    ensures { IsAnswer bytes.now result }
 {
     let Collected { header, instances } = collected;
     let Instances { records, doubled } = instances;

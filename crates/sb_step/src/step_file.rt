@@ -13,6 +13,7 @@ pub struct StepFile<'a> {
 
 impl<'a> Model for StepFile<'a> {
     ghost use Rattle.sb_step.specs.Indexed.{Indexed};
+    ghost use Rattle.sb_step.specs.Answers.{IsIndexed};
 
     ghost Value = { Indexed };
 
@@ -24,4 +25,13 @@ impl<'a> Model for StepFile<'a> {
             data_end = s.data_end;
         };
     } };
+
+    ghost invariant = { λ s. IsIndexed s.bytes.now (record {
+        input = s.bytes.now;
+        file = record {
+            header = s.header.items;
+            instances = s.instances.entries;
+            data_end = s.data_end;
+        };
+    }) };
 }

@@ -54,8 +54,8 @@ returns-in-Err-accept c =
     (state_of c.accept.new.machine) c.tokens.collected c.accept.new.collected
     c.in-Err-accept.error invariant.progress next c.in-Err-accept.ensures
 
-pub returns-in-Ok-None : goal.returns-in-Ok-None
-returns-in-Ok-None c =
+pub finish-requires : goal.finish-requires
+finish-requires c =
     let input = c.args.bytes.now in
     let place = c.tokens.lexer.place in
     let invariant = c.tokens.invariant in
@@ -63,10 +63,9 @@ returns-in-Ok-None c =
         invariant.input_is
         (subst (λ o. Answers c.tokens.lexer (Ok o)) c.in-Ok-None.field-0-is
         c.in-Ok-None.ensures.answer) in
-    subst (IsAnswer input) (sym c.finish.ensures)
-    (subst (λ e. IsAnswer input (finished input e c.tokens.collected)) (sym c.end.ensures)
+    subst (λ e. IsAnswer input (finished input e c.tokens.collected)) (sym c.end.ensures)
     (answer_at_end input place (state_of c.tokens.machine) c.tokens.collected
-    invariant.progress ends))
+    invariant.progress ends)
 
 pub returns-in-Err : goal.returns-in-Err
 returns-in-Err c =
