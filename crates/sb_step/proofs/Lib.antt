@@ -14,3 +14,4 @@ pub mod InstancesAreKept
 pub mod FoundsAreCollected
 pub mod ReadingGoesOn
 pub mod OneAnswerToAnInput
+mod Examples

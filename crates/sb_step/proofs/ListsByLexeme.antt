@@ -61,8 +61,11 @@ from_list_on (x ∷ xs) rest on = inr (inl on)
 pub parameter_on : {xs rest : List Lexeme} → Parameter xs rest → ParameterOn rest xs
 parameter_on (value v) = inl (v, refl)
 parameter_on (list {xs = xs} {rest = rest} l) = from_list_on xs rest (list_on l)
-parameter_on (typed {close_mark = c} k o p e) = inr (inr (k, record
-    { opens = o; close_mark = c; inner = p; closes = e }))
+parameter_on (typed {close_mark = c} k o p e) = inr (inr (
+  k,
+  record
+      { opens = o; close_mark = c; inner = p; closes = e },
+))
 
 pub more_on : {xs rest : List Lexeme} → MoreParameters xs rest → MoreOn rest xs
 more_on (last c) = inl (c, refl)
@@ -185,11 +188,14 @@ module _ (room : ℕ) (f : Frame) (fs : List Frame) (K : Rest) (x : Lexeme) wher
     nest = record { frames = frame.Typed ∷ f ∷ fs; want = want.Open };
     is = ap (parameter room (f ∷ fs)) k
         ∙ deeper_is room frame.Typed (f ∷ fs) want.Open (fits.next k t.opens);
-    goes = (t.opens, record {
-      middle = t.close_mark ∷ rest;
-      first = t.inner;
-      second = (t.closes, on);
-    });
+    goes = (
+      t.opens,
+      record {
+        middle = t.close_mark ∷ rest;
+        first = t.inner;
+        second = (t.closes, on);
+      },
+    );
   }
 
   parameter_goes_on : (xs rest : List Lexeme) → HasRoom room (length (f ∷ fs)) x xs

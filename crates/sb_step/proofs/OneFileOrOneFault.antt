@@ -87,32 +87,41 @@ decide : (input : List ℕ) (before after : List Token) (bad : Option BadToken) 
     → AreTokens input (before ++ after) bad → run (lexemes input before) start ≡ Some ran
     → FileOrFault input
 decide input before [] (Some bad) ran are is =
-    inr (bad.0, record {
-      before = before;
-      after = [];
-      bad = Some bad;
-      are = are;
-      at = refl;
-      begins = runs_begin (lexemes input before) ran is;
-      refused = λ goes. goes;
-    })
+    inr (
+      bad.0,
+      record {
+        before = before;
+        after = [];
+        bad = Some bad;
+        are = are;
+        at = refl;
+        begins = runs_begin (lexemes input before) ran is;
+        refused = λ goes. goes;
+      },
+    )
 decide input before [] None ran are is = at_end (end_of ran.state) refl
   where
     at_end : (ends : Option ℕ) → end_of ran.state ≡ ends → FileOrFault input
-    at_end None none = inr (_, record {
-      before = before;
-      after = [];
-      bad = None;
-      are = are;
-      at = refl;
-      begins = runs_begin (lexemes input before) ran is;
-      refused = no_end (lexemes input before) ran is none;
-    })
-    at_end (Some k) ends = inl (file_of ran.founds k, record {
-      tokens = before;
-      are = subst (λ ts. AreTokens input ts None) (append-nil before) are;
-      text = ends_text (lexemes input before) ran k is ends;
-    })
+    at_end None none = inr (
+      _,
+      record {
+        before = before;
+        after = [];
+        bad = None;
+        are = are;
+        at = refl;
+        begins = runs_begin (lexemes input before) ran is;
+        refused = no_end (lexemes input before) ran is none;
+      },
+    )
+    at_end (Some k) ends = inl (
+      file_of ran.founds k,
+      record {
+        tokens = before;
+        are = subst (λ ts. AreTokens input ts None) (append-nil before) are;
+        text = ends_text (lexemes input before) ran k is ends;
+      },
+    )
 decide input before (t ∷ after) bad ran are is =
     at_token (λ r reads. decide input (before ++ t ∷ []) after bad r
     (subst (λ ts. AreTokens input ts bad) (sym (append_assoc before (t ∷ []) after)) are) reads)
@@ -121,15 +130,18 @@ decide input before (t ∷ after) bad ran are is =
     at_token : ((r : Ran) → run (lexemes input (before ++ t ∷ [])) start ≡ Some r
         → FileOrFault input) → (found : Option Turn) → step ran.state (lexeme_at input t) ≡ found
         → FileOrFault input
-    at_token further None none = inr (t.start, record {
-      before = before;
-      after = t ∷ after;
-      bad = bad;
-      are = are;
-      at = refl;
-      begins = runs_begin (lexemes input before) ran is;
-      refused = stops (lexemes input before) ran (lexeme_at input t) is none;
-    })
+    at_token further None none = inr (
+      t.start,
+      record {
+        before = before;
+        after = t ∷ after;
+        bad = bad;
+        are = are;
+        at = refl;
+        begins = runs_begin (lexemes input before) ran is;
+        refused = stops (lexemes input before) ran (lexeme_at input t) is none;
+      },
+    )
     at_token further (Some turn) on =
         further (record { state = turn.state; founds = ran.founds ++ turn.found ∷ [] })
         (ap (λ l. run l start) (lexemes-more input before t)
@@ -149,7 +161,7 @@ files_are_unique input file other is also =
     let same = tokens_are_unique input is.tokens also.tokens None None is.are also.are in
     let e = text_ends (lexemes input is.tokens) file is.text in
     let o = text_ends (lexemes input is.tokens) other
-        (subst (λ ts. IsText (lexemes input ts) other) (sym same.0) also.text) in
+    (subst (λ ts. IsText (lexemes input ts) other) (sym same.0) also.text) in
     let ran : e.ran ≡ o.ran = same_Some e.ran o.ran (sym e.is ∙ o.is) in
     let place : e.place ≡ o.place =
     same_Some e.place o.place (sym e.ends ∙ ap (λ r. end_of r.state) ran ∙ o.ends) in
@@ -227,7 +239,7 @@ no_earlier input before after longer bad refused begins g =
 pub faults_are_unique : FaultsAreUnique
 faults_are_unique input place other one two =
     let tokens = tokens_are_unique input (one.before ++ one.after) (two.before ++ two.after)
-        one.bad two.bad one.are two.are in
+    one.bad two.bad one.are two.are in
     by (cuts one.before one.after two.before two.after tokens.0) tokens.1
   where
     by : TwoCuts one.before one.after two.before two.after → one.bad ≡ two.bad → place ≡ other
@@ -256,6 +268,6 @@ goes_to_end input before (t ∷ after) bad tokens file joined none text =
 pub no_file_has_a_fault : NoFileHasAFault
 no_file_has_a_fault input file place is fault =
     let same = tokens_are_unique input (fault.before ++ fault.after) is.tokens fault.bad None
-        fault.are is.are in
+    fault.are is.are in
     fault.refused (goes_to_end input fault.before fault.after fault.bad is.tokens file same.0
     same.1 is.text)

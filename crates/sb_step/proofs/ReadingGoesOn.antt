@@ -52,13 +52,13 @@ behind_next : (input : List ℕ) (from : ℕ) (t : Token) (tokens : List Token)
     → Later input t.end
 behind_next input from t [] None next are =
     let same = answers_agree (record { input = input; place = from }) (Ok (Some t)) (Ok None) next
-        are in absurd (cc)
+    are in absurd (cc)
 behind_next input from t [] (Some b) next are =
     let same = answers_agree (record { input = input; place = from }) (Ok (Some t)) (Err b) next
-        are in absurd (cc)
+    are in absurd (cc)
 behind_next input from t (u ∷ tokens) bad next are =
     let same = answers_agree (record { input = input; place = from }) (Ok (Some t)) (Ok (Some u))
-        next are.0 in
+    next are.0 in
     let first : u ≡ t = cc in
     record {
       after = tokens;
@@ -109,7 +109,7 @@ pub fault_at_token : (input : List ℕ) (place : ℕ) (t : Token) (s : State) (c
     → IsFaultAt input t.start
 fault_at_token input place t s c p next none =
     let l = tokens_later input t.end (p.before ++ t ∷ [])
-        (to_more input 0 place p.before t p.tokens next) in
+    (to_more input 0 place p.before t p.tokens next) in
     let ran : Ran = record { state = s; founds = p.founds } in
     record {
       before = p.before;

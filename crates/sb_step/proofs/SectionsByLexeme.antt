@@ -226,11 +226,14 @@ InnerOn rest x xs = IsKeyword x × After ParameterList (λ ys. Many InnerRecord 
 
 inner_on : (rest ys : List Lexeme) (x : Lexeme) (xs : List Lexeme) → InnerRecord (x ∷ xs) ys
     → Many InnerRecord ys rest → InnerOn rest x xs
-inner_on rest ys x xs j m = (j.first.0, record {
-  middle = ys;
-  first = subst (λ l. ParameterList l ys) j.first.1 j.second;
-  second = m;
-})
+inner_on rest ys x xs j m = (
+  j.first.0,
+  record {
+    middle = ys;
+    first = subst (λ l. ParameterList l ys) j.first.1 j.second;
+    second = m;
+  },
+)
 
 -- there is none further, or one begins
 abbrev pub ManyOn : List Lexeme → List Lexeme → Type 0
@@ -261,12 +264,17 @@ next_record_goes p h i later k x xs rest past part (inl e) on =
     (moved (outside.InstanceEnd p) (is_close x.token.kind) _ xs (ap is_close here.0)
     (past, (part, here.1)))
 next_record_goes p h i later k x xs rest past part (inr n) on =
-    moved_first (outside.RecordOpen p) (is_keyword x.token.kind) _ _ xs (ap is_keyword n.0)
-    (past, (part, record {
-      middle = n.1.middle;
-      first = n.1.first;
-      second = record { middle = rest; first = n.1.second; second = on };
-    }))
+    moved_first (outside.RecordOpen p) (is_keyword x.token.kind) _ _ xs (ap is_keyword n.0) (
+      past,
+      (
+        part,
+        record {
+          middle = n.1.middle;
+          first = n.1.first;
+          second = record { middle = rest; first = n.1.second; second = on };
+        },
+      ),
+    )
 
 part_next_goes : (p : Part) (h : List Record) (instances : List (ℕ × Record)) (k : ℕ)
     (x : Lexeme) (xs : List Lexeme) → h ≡ [] → PartFrom p AtNextRecord instances k (x ∷ xs)
@@ -421,9 +429,14 @@ part_list_came : (p : Part) (At : Record → Rest → Rest) (instances : List (�
 part_list_came p At [] k f x xs opens goes =
     let a = list_came (Past (PartFrom p At [] k) f) x xs opens goes in absurd a.second.1
 part_list_came p At (i ∷ later) k f x xs opens goes =
-    let a = list_came (Past (PartFrom p At (i ∷ later) k) f) x xs opens goes in
-    (a.second.0, (a.second.1.0, record
-    { middle = a.middle; first = a.first; second = a.second.1.1 }))
+    let a = list_came (Past (PartFrom p At (i ∷ later) k) f) x xs opens goes in (
+      a.second.0,
+      (
+        a.second.1.0,
+        record
+            { middle = a.middle; first = a.first; second = a.second.1.1 },
+      ),
+    )
 
 named_came : (n : ℕ) (instances : List (ℕ × Record)) (k : ℕ) (x : Lexeme) (xs : List Lexeme)
     → x.token.kind ≡ kind.Name n → NamedFrom n AtEquals instances k xs
@@ -442,21 +455,33 @@ simple_came : (n : ℕ) (instances : List (ℕ × Record)) (k : ℕ) (x : Lexeme
     → IsKeyword x → PartFrom (simple_part n x.token) AtSimpleList instances k xs
     → NamedFrom n AtBody instances k (x ∷ xs)
 simple_came n [] k x xs keyword goes = absurd goes
-simple_came n (i ∷ later) k x xs keyword goes = (goes.0.number, inl (record {
-  keyword = keyword;
-  start = sym (ap (λ s. s.start) goes.0.whole);
-  form = ap (λ s. s.form) goes.0.whole;
-}, goes.1))
+simple_came n (i ∷ later) k x xs keyword goes = (
+  goes.0.number,
+  inl (
+    record {
+      keyword = keyword;
+      start = sym (ap (λ s. s.start) goes.0.whole);
+      form = ap (λ s. s.form) goes.0.whole;
+    },
+    goes.1,
+  ),
+)
 
 complex_came : (n : ℕ) (instances : List (ℕ × Record)) (k : ℕ) (x : Lexeme) (xs : List Lexeme)
     → IsMark mark.Open x → PartFrom (complex_part n x.token) AtFirstRecord instances k xs
     → NamedFrom n AtBody instances k (x ∷ xs)
 complex_came n [] k x xs opens goes = absurd goes
-complex_came n (i ∷ later) k x xs opens goes = (goes.0.number, inr (record {
-  open_mark = opens;
-  start = sym (ap (λ s. s.start) goes.0.whole);
-  form = ap (λ s. s.form) goes.0.whole;
-}, goes.1))
+complex_came n (i ∷ later) k x xs opens goes = (
+  goes.0.number,
+  inr (
+    record {
+      open_mark = opens;
+      start = sym (ap (λ s. s.start) goes.0.whole);
+      form = ap (λ s. s.form) goes.0.whole;
+    },
+    goes.1,
+  ),
+)
 
 first_record_came : (p : Part) (instances : List (ℕ × Record)) (k : ℕ) (x : Lexeme)
     (xs : List Lexeme) → IsKeyword x → PartFrom p AtInnerList instances k xs
@@ -468,22 +493,28 @@ next_record_came : (p : Part) (instances : List (ℕ × Record)) (k : ℕ) (x : 
     (xs : List Lexeme) → IsKeyword x → PartFrom p AtInnerList instances k xs
     → PartFrom p AtNextRecord instances k (x ∷ xs)
 next_record_came p [] k x xs keyword goes = absurd goes
-next_record_came p (i ∷ later) k x xs keyword goes = (goes.0, record {
-  middle = goes.1.second.middle;
-  first = more (record { middle = xs; first = (keyword, refl); second = goes.1.first })
-      goes.1.second.first;
-  second = goes.1.second.second;
-})
+next_record_came p (i ∷ later) k x xs keyword goes = (
+  goes.0,
+  record {
+    middle = goes.1.second.middle;
+    first = more (record { middle = xs; first = (keyword, refl); second = goes.1.first })
+        goes.1.second.first;
+    second = goes.1.second.second;
+  },
+)
 
 records_closed : (p : Part) (instances : List (ℕ × Record)) (k : ℕ) (x : Lexeme)
     (xs : List Lexeme) → IsMark mark.Close x → PartFrom p AtRecordEnd instances k xs
     → PartFrom p AtNextRecord instances k (x ∷ xs)
 records_closed p [] k x xs closes goes = absurd goes
-records_closed p (i ∷ later) k x xs closes goes = (goes.0, record {
-  middle = x ∷ xs;
-  first = none;
-  second = (closes, goes.1);
-})
+records_closed p (i ∷ later) k x xs closes goes = (
+  goes.0,
+  record {
+    middle = x ∷ xs;
+    first = none;
+    second = (closes, goes.1);
+  },
+)
 
 -- where no parameter list is open, the machine goes on, and so does the grammar
 pub outside_came : (o : Outside) (x : Lexeme) (xs : List Lexeme) (later : File) (turn : Turn)
@@ -538,42 +569,68 @@ outside_came outside.Instances x xs later turn is =
     (λ holds goes. subst (λ f. Past (AtInstances f.instances f.data_end) f (x ∷ xs)) (sym goes.0)
     (refl, ((the_says (codes "ENDSEC") x holds, refl), goes.1)))
     (came_named outside.Instances x xs later turn (number_of x.token.kind)
-    (λ n found goes. (goes.0, named_came n later.instances later.data_end x xs
-    (number_says x.token.kind n found) goes.1))) is
+    (λ n found goes. (
+      goes.0,
+      named_came n later.instances later.data_end x xs
+          (number_says x.token.kind n found) goes.1,
+    ))) is
 outside_came (outside.Equals n) x xs later turn is =
     came_only (outside.Equals n) x xs later turn (is_equals x.token.kind) _
-    (λ holds goes. (goes.0, equals_came n later.instances later.data_end x xs
-    (equals_says x.token.kind holds) goes.1)) is
+    (λ holds goes. (
+      goes.0,
+      equals_came n later.instances later.data_end x xs
+          (equals_says x.token.kind holds) goes.1,
+    )) is
 outside_came (outside.Body n) x xs later turn is =
     came_either (outside.Body n) x xs later turn (is_keyword x.token.kind) _ _
-    (λ holds goes. (goes.0, simple_came n later.instances later.data_end x xs
-    (keyword_says x.token.kind holds) goes.1))
+    (λ holds goes. (
+      goes.0,
+      simple_came n later.instances later.data_end x xs
+          (keyword_says x.token.kind holds) goes.1,
+    ))
     (came_only (outside.Body n) x xs later turn (is_open x.token.kind) _
-    (λ holds goes. (goes.0, complex_came n later.instances later.data_end x xs
-    (open_says x.token.kind holds) goes.1))) is
+    (λ holds goes. (
+      goes.0,
+      complex_came n later.instances later.data_end x xs
+          (open_says x.token.kind holds) goes.1,
+    ))) is
 outside_came (outside.SimpleOpen p) x xs later turn is =
     came_only (outside.SimpleOpen p) x xs later turn (is_open x.token.kind) _
     (λ holds goes. part_list_came p AtRecordEnd later.instances later.data_end later x xs
     (open_says x.token.kind holds) goes) is
 outside_came (outside.FirstRecord p) x xs later turn is =
     came_only (outside.FirstRecord p) x xs later turn (is_keyword x.token.kind) _
-    (λ holds goes. (goes.0, first_record_came p later.instances later.data_end x xs
-    (keyword_says x.token.kind holds) goes.1)) is
+    (λ holds goes. (
+      goes.0,
+      first_record_came p later.instances later.data_end x xs
+          (keyword_says x.token.kind holds) goes.1,
+    )) is
 outside_came (outside.RecordOpen p) x xs later turn is =
     came_only (outside.RecordOpen p) x xs later turn (is_open x.token.kind) _
     (λ holds goes. part_list_came p AtNextRecord later.instances later.data_end later x xs
     (open_says x.token.kind holds) goes) is
 outside_came (outside.NextRecord p) x xs later turn is =
     came_either (outside.NextRecord p) x xs later turn (is_keyword x.token.kind) _ _
-    (λ holds goes. (goes.0, next_record_came p later.instances later.data_end x xs
-    (keyword_says x.token.kind holds) goes.1))
+    (λ holds goes. (
+      goes.0,
+      next_record_came p later.instances later.data_end x xs
+          (keyword_says x.token.kind holds) goes.1,
+    ))
     (came_only (outside.NextRecord p) x xs later turn (is_close x.token.kind) _
-    (λ holds goes. (goes.0, records_closed p later.instances later.data_end x xs
-    (close_says x.token.kind holds) goes.1))) is
+    (λ holds goes. (
+      goes.0,
+      records_closed p later.instances later.data_end x xs
+          (close_says x.token.kind holds) goes.1,
+    ))) is
 outside_came (outside.InstanceEnd p) x xs later turn is =
     came_only (outside.InstanceEnd p) x xs later turn (is_semicolon x.token.kind) _
-    (λ holds goes. (goes.0, (record { number = refl; whole = refl },
-    ((semicolon_says x.token.kind holds, refl), goes.1)))) is
+    (λ holds goes. (
+      goes.0,
+      (
+        record { number = refl; whole = refl },
+        ((semicolon_says x.token.kind holds, refl), goes.1),
+      ),
+    )) is
 outside_came (outside.EndSemicolon k) x xs later turn is =
     came_only (outside.EndSemicolon k) x xs later turn (is_semicolon x.token.kind) _
     (λ holds goes. (goes.0, (semicolon_says x.token.kind holds, goes.1))) is

@@ -50,8 +50,15 @@ shallow_before d e x xs low counts shallow (y ∷ front) back same =
     let first : x ≡ y = cc in
     let others : xs ≡ front ++ back = cc in
     let there = shallow front back others in
-    omega (arith, there, counts, opened-more y front, closed-more y front,
-    ap (λ z. opens z.token.kind) first, ap (λ z. closes z.token.kind) first)
+    omega (
+      arith,
+      there,
+      counts,
+      opened-more y front,
+      closed-more y front,
+      ap (λ z. opens z.token.kind) first,
+      ap (λ z. closes z.token.kind) first,
+    )
 
 -- a text goes on so from the state, and is shallow
 pub record Reads (s : State) (f : File) (xs : List Lexeme) : Type 0 where
@@ -77,10 +84,22 @@ room_now o d x xs shallow opening =
     let one : opens x.token.kind ≡ 1 = ap opens opening in
     let none : closes x.token.kind ≡ 0 = ap closes opening in
     ⊎_elim
-    (λ complex. omega (arith, here, one, none, ap {B = ℕ} (λ b. cond b 63 64) complex,
-    ap {B = ℕ} (λ b. cond b 1 0) complex))
-    (λ simple. omega (arith, here, one, none, ap {B = ℕ} (λ b. cond b 63 64) simple,
-    ap {B = ℕ} (λ b. cond b 1 0) simple))
+    (λ complex. omega (
+      arith,
+      here,
+      one,
+      none,
+      ap {B = ℕ} (λ b. cond b 63 64) complex,
+      ap {B = ℕ} (λ b. cond b 1 0) complex,
+    ))
+    (λ simple. omega (
+      arith,
+      here,
+      one,
+      none,
+      ap {B = ℕ} (λ b. cond b 63 64) simple,
+      ap {B = ℕ} (λ b. cond b 1 0) simple,
+    ))
     (cases_Bool (is_complex o))
 
 room_next : (o : Outside) (d : ℕ) (x : Lexeme) (xs : List Lexeme)
@@ -93,10 +112,26 @@ room_next o d x (y ∷ ys) shallow keyword opening =
     let one : opens y.token.kind ≡ 1 = ap opens opening in
     let none : closes y.token.kind ≡ 0 = ap closes opening in
     ⊎_elim
-    (λ complex. omega (arith, here, none_opens, none_closes, one, none,
-    ap {B = ℕ} (λ b. cond b 63 64) complex, ap {B = ℕ} (λ b. cond b 1 0) complex))
-    (λ simple. omega (arith, here, none_opens, none_closes, one, none,
-    ap {B = ℕ} (λ b. cond b 63 64) simple, ap {B = ℕ} (λ b. cond b 1 0) simple))
+    (λ complex. omega (
+      arith,
+      here,
+      none_opens,
+      none_closes,
+      one,
+      none,
+      ap {B = ℕ} (λ b. cond b 63 64) complex,
+      ap {B = ℕ} (λ b. cond b 1 0) complex,
+    ))
+    (λ simple. omega (
+      arith,
+      here,
+      none_opens,
+      none_closes,
+      one,
+      none,
+      ap {B = ℕ} (λ b. cond b 63 64) simple,
+      ap {B = ℕ} (λ b. cond b 1 0) simple,
+    ))
     (cases_Bool (is_complex o))
 
 room_for : (o : Outside) (f : Frame) (fs : List Frame) (w : Want) (x : Lexeme) (xs : List Lexeme)
@@ -120,7 +155,7 @@ step_goes o [] w f x xs reads =
     record { turn = t.turn; is = t.is; later = t.later; goes = t.goes; whole = t.whole }
 step_goes o (g ∷ fs) w f x xs reads =
     let i = inside_goes (room_of o) g fs w (Follows o f) x xs
-        (room_for o g fs w x xs reads.shallow) reads.goes in
+    (room_for o g fs w x xs reads.shallow) reads.goes in
     record {
       turn = record {
         state = record { outside = o; nest = i.nest };

@@ -167,9 +167,9 @@ pub record EndsText (xs : List Lexeme) (f : File) : Type 0 where
 pub text_ends : (xs : List Lexeme) (f : File) → IsText xs f → EndsText xs f
 text_ends xs f text =
     let r = runs_on xs start f [] start_fits
-        (subst (Reads start f) (sym (append-nil xs)) (read_text xs f text)) in
+    (subst (Reads start f) (sym (append-nil xs)) (read_text xs f text)) in
     let e = frames_ended r.ran.state.outside r.ran.state.nest.frames r.ran.state.nest.want
-        r.later r.reads.goes in
+    r.later r.reads.goes in
     record {
       ran = r.ran;
       place = e.place;
@@ -184,7 +184,7 @@ pub ends_text : (xs : List Lexeme) (ran : Ran) (k : ℕ) → run xs start ≡ So
     → end_of ran.state ≡ Some k → IsText xs (file_of ran.founds k)
 ends_text xs ran k is ends =
     let reads = runs_before xs start [] ran (no_more k) start_fits is
-        (ended_reads ran.state.outside ran.state.nest.frames ran.state.nest.want k ends) in
+    (ended_reads ran.state.outside ran.state.nest.frames ran.state.nest.want k ends) in
     subst (IsText xs) (prepend_all-no_more ran.founds k)
     (text_read xs (prepend_all ran.founds (no_more k))
     (subst (Reads start (prepend_all ran.founds (no_more k))) (append-nil xs) reads))
@@ -193,7 +193,7 @@ ends_text xs ran k is ends =
 pub begun_runs : (xs : List Lexeme) → BeginsText xs → (ran : Ran) × (run xs start ≡ Some ran)
 begun_runs xs begins =
     let r = runs_on xs start begins.file begins.others start_fits
-        (read_text (xs ++ begins.others) begins.file begins.text) in
+    (read_text (xs ++ begins.others) begins.file begins.text) in
     (r.ran, r.is)
 
 -- what is read begins a text

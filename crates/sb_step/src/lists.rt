@@ -75,12 +75,7 @@ impl Frames {
 }
 
 /// What is wanted behind the kind where a parameter list is open, if it may stand there.
-pub(crate) fn inside_step(
-    frames: &mut Frames,
-    want: Want,
-    room: usize,
-    kind: Kind,
-) -> Option<Want>
+pub(crate) fn inside_step(frames: &mut Frames, want: Want, room: usize, kind: Kind) -> Option<Want>
     requires open { 0 < length frames.old }
     requires room { room ≤ 64 }
     ensures { spec.Leads (spec.by_want want room frames.old kind) frames.new result }

@@ -18,20 +18,20 @@ impl<'a> Model for StepFile<'a> {
     ghost Value = { Indexed };
 
     ghost view = { λ s. record {
-        input = s.bytes.now;
-        file = record {
-            header = s.header.items;
-            instances = s.instances.entries;
-            data_end = s.data_end;
-        };
+      input = s.bytes.now;
+      file = record {
+        header = s.header.items;
+        instances = s.instances.entries;
+        data_end = s.data_end;
+      };
     } };
 
     ghost invariant = { λ s. IsIndexed s.bytes.now (record {
-        input = s.bytes.now;
-        file = record {
-            header = s.header.items;
-            instances = s.instances.entries;
-            data_end = s.data_end;
-        };
+      input = s.bytes.now;
+      file = record {
+        header = s.header.items;
+        instances = s.instances.entries;
+        data_end = s.data_end;
+      };
     }) };
 }

@@ -60,9 +60,9 @@ finish-requires c =
     let place = c.tokens.lexer.place in
     let invariant = c.tokens.invariant in
     let ends = subst (λ i. Answers (record { input = i; place = place }) (Ok None))
-        invariant.input_is
-        (subst (λ o. Answers c.tokens.lexer (Ok o)) c.in-Ok-None.field-0-is
-        c.in-Ok-None.ensures.answer) in
+    invariant.input_is
+    (subst (λ o. Answers c.tokens.lexer (Ok o)) c.in-Ok-None.field-0-is
+    c.in-Ok-None.ensures.answer) in
     subst (λ e. IsAnswer input (finished input e c.tokens.collected)) (sym c.end.ensures)
     (answer_at_end input place (state_of c.tokens.machine) c.tokens.collected
     invariant.progress ends)
