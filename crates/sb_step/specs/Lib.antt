@@ -3,6 +3,7 @@ pub mod Lexemes
 pub mod Rules
 pub mod Grammar
 pub mod Faults
+pub mod Spans
 pub mod Numbers
 pub mod Indexed
 pub mod Answers
