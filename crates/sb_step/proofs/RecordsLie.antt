@@ -1,6 +1,8 @@
 -- The records of a text lie in its input.
-use Rattle.std.proofs.Common.{◌≡◌, ℕ, ◌+◌, ◌<◌, ◌≤◌, ◌⊎◌, List, [], ◌∷◌, ◌++◌, length, Option, Some, None, refl, sym, ap, ◌∙◌, subst, inl, inr, arith}
+use Rattle.std.proofs.Common.{◌≡◌, ℕ, ◌+◌, ◌<◌, ◌≤◌, ◌⊎◌, Bool, List, [], ◌∷◌, ◌++◌, length, Option, Some, None, refl, sym, ap, ◌∙◌, subst, inl, inr, ⊎_elim, arith}
 use Rattle.std.specs.List.{AllByRecursion}
+use Rattle.std.specs.Map.{lookup}
+use Rattle.std.proofs.lemmas.Option.{same_Some, none-some}
 use Rattle.sb_lex.specs.declared.kinds.Token.{Token}
 use Rattle.sb_lex.specs.declared.kinds.BadToken.{BadToken}
 use Rattle.sb_lex.specs.Tokens.{IsNext, AreTokensFrom, AreTokens}
@@ -17,6 +19,7 @@ use Rattle.sb_step.specs.Grammar.ParameterList.{empty, some}
 use Rattle.sb_step.specs.Grammar.MoreParameters.{last, more as further}
 use Rattle.sb_step.specs.Faults.{IsFile}
 use Rattle.sb_step.specs.Spans.{KeywordLies, RecordLies}
+use Rattle.sb_step.proofs.KindsSay.{choice}
 
 -- the lexeme's token lies in an input so long
 pub record LexemeLies (size : ℕ) (x : Lexeme) : Type 0 where
@@ -178,3 +181,14 @@ pub records_lie : (input : List ℕ) (f : File) → IsFile input f
 records_lie input f is =
     sections_lie (length input) f (lexemes input is.tokens) is.text.sections
     (tokens_lie input 0 is.tokens None is.are)
+
+-- so does that of the instance that is found
+pub found_lies : (size : ℕ) (test : ℕ → Bool) (instances : List (ℕ × Record)) (r : Record)
+    → AllByRecursion (λ i. RecordLies size i.1) instances → lookup test instances ≡ Some r
+    → RecordLies size r
+found_lies size test [] r lie found = absurd (none-some r found)
+found_lies size test (i ∷ later) r lie found =
+    ⊎_elim
+    (λ here. subst (RecordLies size) (same_Some i.1 r here.1) lie.0)
+    (λ there. found_lies size test later r lie.1 there.1)
+    (choice (test i.0) (Some i.1) (lookup test later) r found)

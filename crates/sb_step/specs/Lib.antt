@@ -3,9 +3,9 @@ pub mod Lexemes
 pub mod Rules
 pub mod Grammar
 pub mod Faults
-pub mod Spans
 pub mod Numbers
 pub mod Indexed
+pub mod Spans
 pub mod Answers
 pub mod Steps
 pub mod Machines
