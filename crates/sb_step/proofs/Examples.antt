@@ -66,8 +66,11 @@ ending =
 
 -- a text without instances
 empty_text : IsText (header ++ data_begins ++ ending)
-    (record
-    { header = record { start = 0; end = 0; form = form.Simple 0 } ∷ []; instances = []; data_end = 0 })
+    (record {
+      header = record { start = 0; end = 0; form = form.Simple 0 } ∷ [];
+      instances = [];
+      data_end = 0;
+    })
 empty_text = ends_text (header ++ data_begins ++ ending) _ 0 refl refl
 
 -- a complex instance

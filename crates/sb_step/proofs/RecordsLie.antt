@@ -134,8 +134,7 @@ module _ (size : ℕ) where
   instances_lie (i ∷ later) xs rest each lie =
       let one = each.first in
       let behind_name = one_leaves _ xs one.middle one.first lie in
-      let behind_equals = one_leaves _ one.middle one.second.middle one.second.first behind_name in
-      (
+      let behind_equals = one_leaves _ one.middle one.second.middle one.second.first behind_name in (
         record_lies i.1 one.second.middle each.middle one.second.second behind_equals,
         instances_lie later each.middle rest each.second
             (instance_leaves i xs each.middle one lie),
@@ -169,8 +168,7 @@ tokens_lie : (input : List ℕ) (from : ℕ) (tokens : List Token) (bad : Option
     → AreTokensFrom input from tokens bad → AllLie (length input) (lexemes input tokens)
 tokens_lie input from [] bad are = tt
 tokens_lie input from (t ∷ tokens) bad are =
-    let lies = next_lies (record { input = input; place = from }) t are.0 in
-    (
+    let lies = next_lies (record { input = input; place = from }) t are.0 in (
       record { ordered = omega (arith, lies.some); within = lies.within },
       tokens_lie input t.end tokens bad are.1,
     )

@@ -83,7 +83,11 @@ entered o b f xs holds on = record {
 
 after_map : (P : Rule) (K L : Rest) (xs : List Lexeme) → ((ys : List Lexeme) → K ys → L ys)
     → After P K xs → After P L xs
-after_map P K L xs on a = record { middle = a.middle; first = a.first; second = on a.middle a.second }
+after_map P K L xs on a = record {
+  middle = a.middle;
+  first = a.first;
+  second = on a.middle a.second;
+}
 
 -- an entity begins
 entity_begun : (x : Lexeme) (h : List Record) (r : Record) → BeginsSimple r x

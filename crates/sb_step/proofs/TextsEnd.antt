@@ -78,7 +78,8 @@ outside_ended outside.Begin f g = absurd g
 outside_ended outside.BeginSemicolon f g = absurd g
 outside_ended outside.Header f g = absurd g
 outside_ended outside.HeaderSemicolon f g = absurd g
-outside_ended outside.FirstEntity f g = absurd (first_entity_none f.header (AtEndOfHeader f.instances f.data_end) g)
+outside_ended outside.FirstEntity f g =
+    absurd (first_entity_none f.header (AtEndOfHeader f.instances f.data_end) g)
 outside_ended outside.Entities f g = absurd (entities_none f.header f.instances f.data_end g)
 outside_ended (outside.EntityOrEnd s) f (inl g) =
     absurd (entity_none s AtSimpleList f.header (AtEndOfHeader f.instances f.data_end)
@@ -88,7 +89,8 @@ outside_ended (outside.EntityOpen s) f g =
     absurd (entity_none s AtSimpleList f.header (AtEndOfHeader f.instances f.data_end)
     (λ r L a. list_none (AtRecordEnd r L) a) g)
 outside_ended (outside.EntityEnd s) f g =
-    absurd (entity_none s AtRecordEnd f.header (AtEndOfHeader f.instances f.data_end) (λ r L a. a) g)
+    absurd (entity_none s AtRecordEnd f.header (AtEndOfHeader f.instances f.data_end)
+    (λ r L a. a) g)
 outside_ended outside.Data f g = absurd g.1
 outside_ended outside.DataSemicolon f g = absurd g.1
 outside_ended outside.Instances f g = absurd (instances_none f.instances f.data_end g.1)
@@ -145,7 +147,8 @@ ended_reads (outside.End j) [] w k is =
 ended_reads _ _ w k is = absurd (cc)
 
 -- what was found is what the text describes
-prepend_all-no_more : (founds : List Found) (k : ℕ) → prepend_all founds (no_more k) ≡ file_of founds k
+prepend_all-no_more : (founds : List Found) (k : ℕ) → prepend_all founds (no_more k)
+    ≡ file_of founds k
 prepend_all-no_more [] k = refl
 prepend_all-no_more (found.Nothing ∷ founds) k = prepend_all-no_more founds k
 prepend_all-no_more (found.Entity r ∷ founds) k =

@@ -193,7 +193,8 @@ abbrev pub shut : List Frame → Nest
 shut [] = record { frames = []; want = want.Next }
 shut (f ∷ fs) = record { frames = fs; want = want.Next }
 
--- the parentheses that so many bits tell of, the lowest first: 1 for a list, 0 for a typed parameter
+-- the parentheses that so many bits tell of, the lowest first: 1 for a list, 0 for a typed
+-- parameter
 abbrev pub frame_of : ℕ → Frame
 frame_of zero = frame.Typed
 frame_of (suc n) = frame.List

@@ -20,7 +20,10 @@ const INPUTS: [(&[u8], &str); 24] = [
         "syntax 66",
     ),
     (
-        b"ISO-10303-21;HEADER;FILE_SCHEMA(('IFC4'));ENDSEC;DATA;#1=IFCSIUNIT(*,.LENGTHUNIT.,.MILLI.,.METRE.);#2=IFCUNITASSIGNMENT((#1));#2=IFCBUILDING('0000000000000000000003',$,$,$,$,$,$,$,$,$,$,$);ENDSEC;END-ISO-10303-21;",
+        b"ISO-10303-21;HEADER;FILE_SCHEMA(('IFC4'));ENDSEC;DATA;\
+          #1=IFCSIUNIT(*,.LENGTHUNIT.,.MILLI.,.METRE.);#2=IFCUNITASSIGNMENT((#1));\
+          #2=IFCBUILDING('0000000000000000000003',$,$,$,$,$,$,$,$,$,$,$);\
+          ENDSEC;END-ISO-10303-21;",
         "twice 2",
     ),
     (
@@ -131,7 +134,7 @@ fn file_shown(alloc: Global, file: &StepFile<'_>) -> Result<String, AllocError> 
             }
         }
     }
-    let end = file.data_end;
+    let end = file.data_end();
     text.push_str(&format!(in alloc; "end {end}")?)?;
     Ok(text)
 }
@@ -221,5 +224,22 @@ fn no_front_of_a_text_is_one(rt: HostRuntime) -> Result<(), Fail> {
         };
         assert!(rt; fault, "the first {len} bytes");
     }
+    Ok(())
+}
+
+#[test]
+fn keywords_by_number(rt: HostRuntime) -> Result<(), Fail> {
+    let text = joined(rt.alloc(), &[HEAD, b"#7=WALL(); #2=(A()B());", TAIL])?;
+    let found = match index(rt.alloc(), &text) {
+        Ok(file) => {
+            let wall = match file.keyword(7) {
+                Some(keyword) => keyword == b"WALL".as_slice(),
+                None => false,
+            };
+            wall && file.keyword(2).is_none() && file.keyword(1).is_none()
+        }
+        Err(_) => false,
+    };
+    assert!(rt; found, "#7 is a WALL, #2 is complex and #1 is absent");
     Ok(())
 }

@@ -6,17 +6,17 @@ use Rattle.sb_step.specs.Steps.{start}
 use Rattle.sb_step.specs.Machines.{state_of}
 use Rattle.sb_step.specs.Progress.{Progress, finished}
 use Rattle.sb_step.proofs.ReadingGoesOn.{nothing_read, one_more, fault_at_bad, answer_at_end, error_answers}
-use Rattle.sb_step.proofs.indexing.read.Goals as goal
+use Rattle.sb_step.proofs.indexing.read_into.Goals as goal
 
 pub tokens-init : goal.tokens-init
 tokens-init c = record {
   input_is = ap (λ r. r.input) c.new-lexer.ensures;
   progress = subst
-      (λ s. Progress c.args.bytes.now c.new-lexer.result.place s c.new-collected.result)
+      (λ s. Progress c.args.bytes.now c.new-lexer.result.place s c.args.empty)
       (sym c.new-machine.ensures)
-      (subst (λ k. Progress c.args.bytes.now k start c.new-collected.result)
+      (subst (λ k. Progress c.args.bytes.now k start c.args.empty)
       (sym (ap (λ r. r.place) c.new-lexer.ensures))
-      (nothing_read c.args.bytes.now c.new-collected.result c.new-collected.ensures));
+      (nothing_read c.args.bytes.now c.args.empty c.requires));
 }
 
 pub tokens-preserved : goal.tokens-preserved
