@@ -1,16 +1,15 @@
 -- Single lists of lexemes: texts that the grammar has, and places where it goes on no further. Each
 -- is found by computing.
-use Rattle.std.proofs.Common.{◌≡◌, ℕ, List, [], ◌∷◌, ◌++◌, Some, None, refl}
-use Rattle.std.specs.Prelude.{codes, replicate, Option, option_and_then, option_map}
-use Rattle.sb_lex.specs.declared.kinds.Kind.{Kind}
+use Rattle.std.proofs.Common.{◌≡◌, List, [], ◌∷◌, ◌++◌, Some, None, refl}
+use Rattle.std.specs.Prelude.{codes, replicate}
 use Rattle.sb_lex.specs.declared.kinds.Kind.TheVariants as kind
 use Rattle.sb_lex.specs.declared.kinds.Mark.TheVariants as mark
 use Rattle.sb_lex.specs.declared.kinds.Word.TheVariants as word
 use Rattle.sb_step.specs.declared.file.Form.TheVariants as form
 use Rattle.sb_step.specs.Lexemes.{Lexeme}
-use Rattle.sb_step.specs.Grammar.{File, IsText}
+use Rattle.sb_step.specs.Grammar.{IsText}
 use Rattle.sb_step.specs.Faults.{BeginsText}
-use Rattle.sb_step.specs.Steps.{State, step, start, end_of, file_of, Ran, run}
+use Rattle.sb_step.specs.Steps.{step, start, Ran, run}
 use Rattle.sb_step.proofs.SomeTextGoesOn.{lexeme_of, mark_of, keyword_of}
 use Rattle.sb_step.proofs.TextsEnd.{ends_text, runs_begin}
 use Rattle.sb_step.proofs.OneFileOrOneFault.{stops}

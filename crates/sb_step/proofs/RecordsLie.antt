@@ -1,24 +1,23 @@
 -- The records of a text lie in its input.
-use Rattle.std.proofs.Common.{◌≡◌, ℕ, ◌+◌, ◌<◌, ◌≤◌, ◌⊎◌, Bool, List, [], ◌∷◌, ◌++◌, length, Option, Some, None, refl, sym, ap, ◌∙◌, subst, inl, inr, ⊎_elim, arith}
+use Rattle.std.proofs.Common.{◌≡◌, ℕ, ◌≤◌, Bool, List, [], ◌∷◌, length, Option, Some, None, sym, ◌∙◌, subst, inl, inr, ⊎_elim, arith}
 use Rattle.std.specs.List.{AllByRecursion}
 use Rattle.std.specs.Map.{lookup}
 use Rattle.std.proofs.lemmas.Option.{same_Some, none-some}
 use Rattle.sb_lex.specs.declared.kinds.Token.{Token}
 use Rattle.sb_lex.specs.declared.kinds.BadToken.{BadToken}
-use Rattle.sb_lex.specs.Tokens.{IsNext, AreTokensFrom, AreTokens}
+use Rattle.sb_lex.specs.Tokens.{AreTokensFrom}
 use Rattle.sb_lex.proofs.TokensHaveBytes.{next_lies}
-use Rattle.sb_step.specs.declared.file.Form.{Form}
 use Rattle.sb_step.specs.declared.file.Form.TheVariants as form
 use Rattle.sb_step.specs.declared.file.Record.{Record}
-use Rattle.sb_step.specs.Lexemes.{Lexeme, lexeme_at, lexemes}
-use Rattle.sb_step.specs.Rules.{Rule, One, Joined, ◌⋅◌, Many, Each, SomeOf}
+use Rattle.sb_step.specs.Lexemes.{Lexeme, lexemes}
+use Rattle.sb_step.specs.Rules.{Rule, One, ◌⋅◌, Many, Each, SomeOf}
 use Rattle.sb_step.specs.Rules.Many.{none, more}
 use Rattle.sb_step.specs.Grammar.{File, Parameter, ParameterList, MoreParameters, IsSimple, InnerRecord, IsComplex, IsRecord, IsInstance, BeginsSimple, BeginsComplex, Sections}
 use Rattle.sb_step.specs.Grammar.Parameter.{value, list, typed}
 use Rattle.sb_step.specs.Grammar.ParameterList.{empty, some}
 use Rattle.sb_step.specs.Grammar.MoreParameters.{last, more as further}
 use Rattle.sb_step.specs.Faults.{IsFile}
-use Rattle.sb_step.specs.Spans.{KeywordLies, RecordLies}
+use Rattle.sb_step.specs.Spans.{RecordLies}
 use Rattle.sb_step.proofs.KindsSay.{choice}
 
 -- the lexeme's token lies in an input so long

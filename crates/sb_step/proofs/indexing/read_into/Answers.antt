@@ -1,6 +1,5 @@
-use Rattle.std.proofs.Common.{◌≡◌, ℕ, Ok, Err, Some, None, sym, ap, ◌∙◌, subst}
-use Rattle.sb_lex.specs.declared.kinds.Token.{Token}
-use Rattle.sb_lex.specs.Tokens.{Reading, Answers, IsNext, moved}
+use Rattle.std.proofs.Common.{◌≡◌, Ok, Err, Some, None, sym, ap, ◌∙◌, subst}
+use Rattle.sb_lex.specs.Tokens.{Answers, IsNext, moved}
 use Rattle.sb_step.specs.Answers.{IsAnswer}
 use Rattle.sb_step.specs.Steps.{start}
 use Rattle.sb_step.specs.Machines.{state_of}
