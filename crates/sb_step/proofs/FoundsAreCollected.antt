@@ -3,7 +3,6 @@ use Rattle.std.proofs.Common.{◌≡◌, ℕ, List, [], ◌∷◌, ◌++◌, ref
 use Rattle.sb_step.specs.declared.file.Record.{Record}
 use Rattle.sb_step.specs.declared.steps.Found.{Found}
 use Rattle.sb_step.specs.declared.steps.Found.TheVariants as found
-use Rattle.sb_step.specs.declared.instances.Instances.{Instances}
 use Rattle.sb_step.specs.declared.collected.Collected.{Collected}
 use Rattle.sb_step.specs.Steps.{entities_of, instances_of}
 use Rattle.sb_step.specs.Kept.{AreKept}

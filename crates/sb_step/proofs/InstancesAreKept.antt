@@ -1,14 +1,14 @@
 -- One instance more is kept: its number and record, or the least number that was used twice.
-use Rattle.std.proofs.Common.{◌≡◌, ℕ, ◌+◌, ◌<◌, ◌≤◌, ◌⊎◌, Bool, true, false, cond, eqb, ltb, List, [], ◌∷◌, ◌++◌, Option, Some, None, refl, sym, ap, ◌∙◌, subst, inl, inr, ⊎_elim, arith}
+use Rattle.std.proofs.Common.{◌≡◌, ℕ, ◌+◌, ◌<◌, ◌≤◌, ◌⊎◌, true, false, cond, eqb, ltb, List, [], ◌∷◌, ◌++◌, Option, Some, None, refl, sym, ap, ◌∙◌, subst, inl, inr, ⊎_elim, arith}
 use Rattle.std.specs.Prelude.{is_some, nat_eq, nat_lt}
-use Rattle.std.proofs.lemmas.Bool.{cases_Bool, eqb-true, eq-eqb, lt-ltb, ltb-true, ltb-false, cond-true, cond-false, true≢false}
+use Rattle.std.proofs.lemmas.Bool.{cases_Bool, eqb-true, eq-eqb, lt-ltb, ltb-true, ltb-false, cond-true, cond-false}
 use Rattle.std.proofs.lemmas.List.Sums.{sum_by_push}
 use Rattle.std.proofs.lemmas.Option.{none-some}
-use Rattle.indexmap.specs.IndexMap.{get, insert_entry}
+use Rattle.indexmap.specs.IndexMap.{get}
 use Rattle.sb_step.specs.declared.file.Record.{Record}
 use Rattle.sb_step.specs.declared.instances.Instances.{Instances}
 use Rattle.sb_step.specs.Steps.{least_of}
-use Rattle.sb_step.specs.Numbers.{uses, IsUsedTwice, AreApart, IsLeastTwice}
+use Rattle.sb_step.specs.Numbers.{uses, IsUsedTwice, IsLeastTwice}
 use Rattle.sb_step.specs.Kept.{IsDoubled, AreKept}
 
 uses-push : (q : ℕ) (instances : List (ℕ × Record)) (i : ℕ × Record)

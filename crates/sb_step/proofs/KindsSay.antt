@@ -1,13 +1,12 @@
 -- What the tests of kinds say.
-use Rattle.std.proofs.Common.{◌≡◌, ℕ, List, true, false, Option, Some, None, refl, sym, ap, ◌∙◌, ◌⊎◌, inl, inr, ⊎_elim, Bool, cond}
-use Rattle.std.specs.Prelude.{codes}
+use Rattle.std.proofs.Common.{◌≡◌, ℕ, List, true, false, Option, Some, refl, ap, ◌⊎◌, inl, inr, Bool, cond}
 use Rattle.std.proofs.lemmas.Bool.{false≢true, and_parts, and_from}
 use Rattle.std.proofs.lemmas.Slice.Eq.{bytes_eq-Decides}
 use Rattle.sb_lex.specs.declared.kinds.Kind.{Kind}
 use Rattle.sb_lex.specs.declared.kinds.Kind.TheVariants as kind
 use Rattle.sb_lex.specs.declared.kinds.Mark.TheVariants as mark
 use Rattle.sb_lex.specs.declared.kinds.Word.TheVariants as word
-use Rattle.sb_step.specs.Lexemes.{Lexeme, IsThe, is_value, is_open, is_close}
+use Rattle.sb_step.specs.Lexemes.{Lexeme, IsThe, is_open, is_close}
 use Rattle.sb_step.specs.Steps.{is_semicolon, is_comma, is_equals, is_first, is_last, is_keyword, number_of, is_the}
 
 pub open_says : (k : Kind) → is_open k ≡ true → k ≡ kind.Mark mark.Open

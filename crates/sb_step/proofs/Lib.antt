@@ -14,3 +14,5 @@ pub mod InstancesAreKept
 pub mod FoundsAreCollected
 pub mod ReadingGoesOn
 pub mod OneAnswerToAnInput
+pub mod RecordsLie
+mod Examples

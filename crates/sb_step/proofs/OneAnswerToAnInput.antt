@@ -1,13 +1,11 @@
 -- To an input there is one answer, but for want of memory.
-use Rattle.std.proofs.Common.{◌≡◌, ◌≢◌, ◌↔◌, ℕ, ◌<◌, ◌≤◌, List, Result, Ok, Err, refl, sym, ap, ◌∙◌, subst, ⊎_elim, arith}
-use Rattle.std.proofs.lemmas.Bool.{cases_lt}
+use Rattle.std.proofs.Common.{◌≡◌, ◌↔◌, ℕ, List, Result, Ok, Err, refl, sym, ap, ◌∙◌, subst, arith}
 use Rattle.sb_step.specs.declared.error.StepError.{StepError}
 use Rattle.sb_step.specs.declared.error.StepError.TheVariants as step_error
 use Rattle.sb_step.specs.declared.file.Record.{Record}
-use Rattle.sb_step.specs.Grammar.{File}
 use Rattle.sb_step.specs.Numbers.{AreApart, IsLeastTwice}
 use Rattle.sb_step.specs.Indexed.{Indexed}
-use Rattle.sb_step.specs.Answers.{IsIndexed, HasDoubled, IsAnswer, IsInTime}
+use Rattle.sb_step.specs.Answers.{IsAnswer, IsInTime}
 use Rattle.sb_step.proofs.OneFileOrOneFault.{files_are_unique, faults_are_unique, no_file_has_a_fault}
 
 -- no number is the least of those used twice where none is used twice

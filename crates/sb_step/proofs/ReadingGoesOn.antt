@@ -1,23 +1,20 @@
 -- What a reading of the tokens so far says of the input.
-use Rattle.std.proofs.Common.{◌≡◌, ℕ, List, [], ◌∷◌, ◌++◌, length, Option, Some, None, Result, Ok, Err, refl, sym, ap, ◌∙◌, subst, append-nil, append_assoc}
-use Rattle.std.proofs.lemmas.Option.{same_Some, none-some}
+use Rattle.std.proofs.Common.{◌≡◌, ℕ, List, [], ◌∷◌, ◌++◌, Option, Some, None, Ok, Err, refl, sym, ap, ◌∙◌, subst, append-nil}
 use Rattle.sb_lex.specs.declared.kinds.Token.{Token}
 use Rattle.sb_lex.specs.declared.kinds.BadToken.{BadToken}
-use Rattle.sb_lex.specs.Tokens.{IsNext, IsEnd, IsBadFrom, AreTokensFrom, AreTokens, Answers}
+use Rattle.sb_lex.specs.Tokens.{IsNext, IsEnd, IsBadFrom, AreTokensFrom, AreTokens}
 use Rattle.sb_lex.proofs.OneAnswer.{answers_agree}
 use Rattle.sb_lex.proofs.OneListOfTokens.{each_input_has_tokens}
 use Rattle.sb_step.specs.declared.error.StepError.{StepError}
 use Rattle.sb_step.specs.declared.error.StepError.TheVariants as step_error
 use Rattle.sb_step.specs.declared.steps.Found.{Found}
 use Rattle.sb_step.specs.declared.collected.Collected.{Collected}
-use Rattle.sb_step.specs.Lexemes.{Lexeme, lexeme_at, lexemes}
-use Rattle.sb_step.specs.Grammar.{File}
+use Rattle.sb_step.specs.Lexemes.{lexeme_at, lexemes}
 use Rattle.sb_step.specs.Faults.{IsFile, IsFaultAt}
 use Rattle.sb_step.specs.Numbers.{AreApart}
-use Rattle.sb_step.specs.Indexed.{Indexed}
 use Rattle.sb_step.specs.Answers.{IsAnswer}
-use Rattle.sb_step.specs.Steps.{State, step, start, end_of, file_of, entities_of, instances_of, Ran, run}
-use Rattle.sb_step.specs.Kept.{IsDoubled, AreKept}
+use Rattle.sb_step.specs.Steps.{State, step, start, end_of, file_of, instances_of, Ran, run}
+use Rattle.sb_step.specs.Kept.{IsDoubled}
 use Rattle.sb_step.specs.Collects.{AreCollected}
 use Rattle.sb_step.specs.Progress.{TokensTo, Progress, Accepted, Accepts, by_doubled, finished}
 use Rattle.sb_step.proofs.TextsEnd.{ends_text, runs_begin}

@@ -1,14 +1,12 @@
 -- A text has the sections of the grammar exactly where it goes on so from its beginning.
-use Rattle.std.proofs.Common.{◌≡◌, ℕ, ◌⊎◌, List, [], ◌∷◌, refl, sym, subst, inl, inr}
-use Rattle.std.specs.Prelude.{codes}
+use Rattle.std.proofs.Common.{ℕ, List, [], ◌∷◌, refl, subst, inl, inr}
 use Rattle.sb_lex.specs.declared.kinds.Mark.TheVariants as mark
-use Rattle.sb_lex.specs.declared.kinds.Word.TheVariants as word
 use Rattle.sb_step.specs.declared.file.Record.{Record}
 use Rattle.sb_step.specs.declared.steps.Outside.TheVariants as outside
-use Rattle.sb_step.specs.Lexemes.{Lexeme, IsWord, IsKeyword, IsThe, IsName, IsMark}
-use Rattle.sb_step.specs.Rules.{Rule, One, Joined, ◌⋅◌, Many, Each, SomeOf}
-use Rattle.sb_step.specs.Grammar.{File, ParameterList, Semicolon, SemicolonAt, BeginsSimple, BeginsComplex, IsSimple, InnerRecord, IsComplex, IsRecord, IsInstance, EndOfData, Sections}
-use Rattle.sb_step.proofs.Continuations.{Rest, Then, After, AtEnd, AtRecordEnd, AtSimple, AtNextRecord, AtFirstRecord, AtComplex, AtBody, AtEquals, AtEndOfData, AtInstances, AtData, AtEndOfHeader, AtEntities, AtFirstEntity, Follows}
+use Rattle.sb_step.specs.Lexemes.{Lexeme, IsKeyword, IsName, IsMark}
+use Rattle.sb_step.specs.Rules.{Rule, One, ◌⋅◌, Many, Each, SomeOf}
+use Rattle.sb_step.specs.Grammar.{File, ParameterList, SemicolonAt, BeginsSimple, BeginsComplex, IsSimple, InnerRecord, IsComplex, IsRecord, IsInstance, Sections}
+use Rattle.sb_step.proofs.Continuations.{Rest, Then, After, AtEnd, AtRecordEnd, AtSimple, AtNextRecord, AtFirstRecord, AtComplex, AtBody, AtEquals, AtEndOfData, AtInstances, AtEndOfHeader, AtEntities, AtFirstEntity, Follows}
 
 -- rules and what follows them
 

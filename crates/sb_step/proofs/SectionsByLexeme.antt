@@ -1,14 +1,11 @@
 -- Outside of parameter lists the machine goes on with a lexeme exactly as the grammar does.
-use Rattle.std.proofs.Common.{◌≡◌, ℕ, ◌+◌, ◌<◌, ◌≤◌, ◌⊎◌, Bool, true, false, cond, ◌&&◌, List, [], ◌∷◌, length, Option, Some, None, refl, sym, ap, ◌∙◌, subst, inl, inr, ⊎_elim, arith}
+use Rattle.std.proofs.Common.{◌≡◌, ℕ, ◌⊎◌, Bool, true, false, cond, ◌&&◌, List, [], ◌∷◌, Option, Some, refl, sym, ap, ◌∙◌, subst, inl, inr, ⊎_elim}
 use Rattle.std.specs.Prelude.{codes}
 use Rattle.std.specs.Str.{bytes_eq}
 use Rattle.std.proofs.lemmas.Bool.{cases_Bool}
-use Rattle.std.proofs.lemmas.Option.{same_Some, none-some}
-use Rattle.sb_lex.specs.declared.kinds.Kind.{Kind}
+use Rattle.std.proofs.lemmas.Option.{none-some}
 use Rattle.sb_lex.specs.declared.kinds.Kind.TheVariants as kind
 use Rattle.sb_lex.specs.declared.kinds.Mark.TheVariants as mark
-use Rattle.sb_lex.specs.declared.kinds.Word.TheVariants as word
-use Rattle.sb_step.specs.declared.file.Form.TheVariants as form
 use Rattle.sb_step.specs.declared.file.Record.{Record}
 use Rattle.sb_step.specs.declared.steps.Span.{Span}
 use Rattle.sb_step.specs.declared.steps.Part.{Part}
@@ -18,13 +15,13 @@ use Rattle.sb_step.specs.declared.steps.Frame.TheVariants as frame
 use Rattle.sb_step.specs.declared.steps.Want.TheVariants as want
 use Rattle.sb_step.specs.declared.steps.Found.TheVariants as found
 use Rattle.sb_step.specs.declared.steps.Move.{Move}
-use Rattle.sb_step.specs.Lexemes.{Lexeme, IsKeyword, IsThe, IsMark, is_open, is_close}
-use Rattle.sb_step.specs.Rules.{Rule, One, Joined, Many}
+use Rattle.sb_step.specs.Lexemes.{Lexeme, IsKeyword, IsMark, is_open, is_close}
+use Rattle.sb_step.specs.Rules.{Rule, Many}
 use Rattle.sb_step.specs.Rules.Many.{none, more}
-use Rattle.sb_step.specs.Grammar.{File, ParameterList, BeginsSimple, BeginsComplex, InnerRecord}
-use Rattle.sb_step.specs.Steps.{is_semicolon, is_equals, is_first, is_last, is_keyword, number_of, is_the, moves, enters, finds, only, span_of, entity_of, record_of, simple_part, complex_part, names, outside_step, Turn, plain, begun, turn_outside}
+use Rattle.sb_step.specs.Grammar.{File, ParameterList, BeginsSimple, InnerRecord}
+use Rattle.sb_step.specs.Steps.{is_semicolon, is_equals, is_first, is_last, is_keyword, number_of, is_the, moves, enters, finds, only, span_of, entity_of, record_of, simple_part, complex_part, names, outside_step, Turn, turn_outside}
 use Rattle.sb_step.proofs.KindsSay.{open_says, close_says, semicolon_says, equals_says, first_says, last_says, keyword_says, number_says, the_says, said_the}
-use Rattle.sb_step.proofs.Continuations.{Rest, Then, After, Wanted, no_more, AtRecordEnd, AtNextRecord, AtEquals, AtBody, AtFirstRecord, AtInstances, AtData, AtEndOfHeader, AtEntities, AtFirstEntity, AtSimpleList, AtInnerList, IsOfSpan, IsOfPart, EntityFrom, NamedFrom, PartFrom, Past, Follows, Goes, prepend}
+use Rattle.sb_step.proofs.Continuations.{Rest, Then, After, Wanted, AtRecordEnd, AtNextRecord, AtEquals, AtBody, AtFirstRecord, AtInstances, AtEndOfHeader, AtEntities, AtFirstEntity, AtSimpleList, AtInnerList, IsOfSpan, IsOfPart, EntityFrom, NamedFrom, PartFrom, Past, Follows, Goes, prepend}
 use Rattle.sb_step.proofs.TurnsByTest.{turn_of, only_gives, either_gives, named_gives}
 use Rattle.sb_step.proofs.ListsByLexeme.{list_goes, list_came}
 
@@ -83,7 +80,11 @@ entered o b f xs holds on = record {
 
 after_map : (P : Rule) (K L : Rest) (xs : List Lexeme) → ((ys : List Lexeme) → K ys → L ys)
     → After P K xs → After P L xs
-after_map P K L xs on a = record { middle = a.middle; first = a.first; second = on a.middle a.second }
+after_map P K L xs on a = record {
+  middle = a.middle;
+  first = a.first;
+  second = on a.middle a.second;
+}
 
 -- an entity begins
 entity_begun : (x : Lexeme) (h : List Record) (r : Record) → BeginsSimple r x

@@ -1,26 +1,23 @@
 -- The machine reads the lexemes exactly of what some text begins with, and finds what it describes.
-use Rattle.std.proofs.Common.{◌≡◌, ℕ, suc, ◌+◌, ◌-◌, ◌<◌, ◌≤◌, ◌⊎◌, Bool, true, false, cond, List, [], ◌∷◌, ◌++◌, length, Option, Some, None, refl, sym, ap, ◌∙◌, subst, inl, inr, ⊎_elim, arith}
-use Rattle.std.specs.Prelude.{option_map, option_and_then}
+use Rattle.std.proofs.Common.{◌≡◌, ℕ, suc, ◌+◌, ◌<◌, ◌≤◌, Bool, true, false, cond, List, [], ◌∷◌, ◌++◌, length, Option, Some, None, refl, sym, ap, ◌∙◌, subst, ⊎_elim, arith}
+use Rattle.std.specs.Prelude.{option_and_then}
 use Rattle.std.proofs.lemmas.Bool.{cases_Bool}
 use Rattle.std.proofs.lemmas.List.Sums.{sum_by-cons}
 use Rattle.std.proofs.lemmas.Option.{same_Some, none-some}
-use Rattle.sb_lex.specs.declared.kinds.Kind.{Kind}
-use Rattle.sb_lex.specs.declared.kinds.Kind.TheVariants as kind
 use Rattle.sb_lex.specs.declared.kinds.Mark.TheVariants as mark
 use Rattle.sb_step.specs.declared.steps.Outside.{Outside}
-use Rattle.sb_step.specs.declared.steps.Outside.TheVariants as outside
 use Rattle.sb_step.specs.declared.steps.Frame.{Frame}
 use Rattle.sb_step.specs.declared.steps.Want.{Want}
 use Rattle.sb_step.specs.declared.steps.Want.TheVariants as want
 use Rattle.sb_step.specs.declared.steps.Found.{Found}
 use Rattle.sb_step.specs.declared.steps.Found.TheVariants as found
-use Rattle.sb_step.specs.Lexemes.{Lexeme, IsKeyword, IsMark, is_open, is_close, opened, closed}
-use Rattle.sb_step.specs.Grammar.{File, IsShallow, IsText}
-use Rattle.sb_step.specs.Steps.{Nest, outside_step, by_want, is_complex, room_of, State, Turn, plain, turn_outside, turn_inside, step, step_at, start, Ran, and_ran, run}
-use Rattle.sb_step.proofs.Continuations.{Follows, Wanted, Goes, prepend}
-use Rattle.sb_step.proofs.ListsByLexeme.{OpensNext, HasRoom, RoomFor, Inner, inside_goes, inside_came}
-use Rattle.sb_step.proofs.SectionsByLexeme.{Turned, outside_goes, outside_came}
-use Rattle.sb_step.proofs.DepthIsCounted.{opens, closes, depth_within, depth_without, depth, Fits, Counts, CountsStep, step_counts}
+use Rattle.sb_step.specs.Lexemes.{Lexeme, IsKeyword, IsMark, opened, closed}
+use Rattle.sb_step.specs.Grammar.{File, IsText}
+use Rattle.sb_step.specs.Steps.{Nest, by_want, is_complex, room_of, State, Turn, turn_inside, step, start, Ran, and_ran, run}
+use Rattle.sb_step.proofs.Continuations.{Follows, Goes, prepend}
+use Rattle.sb_step.proofs.ListsByLexeme.{OpensNext, RoomFor, inside_goes, inside_came}
+use Rattle.sb_step.proofs.SectionsByLexeme.{outside_goes, outside_came}
+use Rattle.sb_step.proofs.DepthIsCounted.{opens, closes, depth_within, depth_without, depth, Fits, Counts, step_counts}
 use Rattle.sb_step.proofs.SectionsAreFollowed.{follows_sections, sections_followed}
 
 -- depth along a text

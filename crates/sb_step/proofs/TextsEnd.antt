@@ -1,7 +1,6 @@
 -- A text ends where the machine has come to its end, and what it describes is what was found.
-use Rattle.std.proofs.Common.{◌≡◌, ℕ, ◌+◌, ◌≤◌, ◌⊎◌, List, [], ◌∷◌, ◌++◌, length, Option, Some, None, refl, sym, ap, ◌∙◌, subst, inl, inr, arith, append-nil}
-use Rattle.std.specs.Prelude.{option_and_then}
-use Rattle.std.proofs.lemmas.Option.{same_Some, none-some}
+use Rattle.std.proofs.Common.{◌≡◌, ℕ, ◌≤◌, List, [], ◌∷◌, ◌++◌, Some, refl, sym, ap, ◌∙◌, subst, inl, inr, arith, append-nil}
+use Rattle.std.proofs.lemmas.Option.{same_Some}
 use Rattle.sb_lex.specs.declared.kinds.Mark.TheVariants as mark
 use Rattle.sb_step.specs.declared.file.Record.{Record}
 use Rattle.sb_step.specs.declared.steps.Span.{Span}
@@ -15,10 +14,9 @@ use Rattle.sb_step.specs.declared.steps.Want.TheVariants as want
 use Rattle.sb_step.specs.declared.steps.Found.{Found}
 use Rattle.sb_step.specs.declared.steps.Found.TheVariants as found
 use Rattle.sb_step.specs.Lexemes.{Lexeme, IsMark}
-use Rattle.sb_step.specs.Rules.{Many}
-use Rattle.sb_step.specs.Grammar.{File, IsText, ParameterList, InnerRecord}
+use Rattle.sb_step.specs.Grammar.{File, IsText, ParameterList}
 use Rattle.sb_step.specs.Faults.{BeginsText}
-use Rattle.sb_step.specs.Steps.{State, Turn, step, start, end_at, end_of, entities_of, instances_of, file_of, Ran, run}
+use Rattle.sb_step.specs.Steps.{start, end_at, end_of, file_of, Ran, run}
 use Rattle.sb_step.proofs.Continuations.{Rest, Then, After, Closing, Wanted, no_more, AtEntities, AtFirstEntity, AtInstances, AtEndOfHeader, AtRecordEnd, AtNextRecord, AtBody, AtEquals, AtFirstRecord, AtSimpleList, AtInnerList, EntityFrom, NamedFrom, PartFrom, Follows, prepend}
 use Rattle.sb_step.proofs.ListsByLexeme.{list_on, parameter_on, more_on}
 use Rattle.sb_step.proofs.SectionsByLexeme.{many_on}
@@ -78,7 +76,8 @@ outside_ended outside.Begin f g = absurd g
 outside_ended outside.BeginSemicolon f g = absurd g
 outside_ended outside.Header f g = absurd g
 outside_ended outside.HeaderSemicolon f g = absurd g
-outside_ended outside.FirstEntity f g = absurd (first_entity_none f.header (AtEndOfHeader f.instances f.data_end) g)
+outside_ended outside.FirstEntity f g =
+    absurd (first_entity_none f.header (AtEndOfHeader f.instances f.data_end) g)
 outside_ended outside.Entities f g = absurd (entities_none f.header f.instances f.data_end g)
 outside_ended (outside.EntityOrEnd s) f (inl g) =
     absurd (entity_none s AtSimpleList f.header (AtEndOfHeader f.instances f.data_end)
@@ -88,7 +87,8 @@ outside_ended (outside.EntityOpen s) f g =
     absurd (entity_none s AtSimpleList f.header (AtEndOfHeader f.instances f.data_end)
     (λ r L a. list_none (AtRecordEnd r L) a) g)
 outside_ended (outside.EntityEnd s) f g =
-    absurd (entity_none s AtRecordEnd f.header (AtEndOfHeader f.instances f.data_end) (λ r L a. a) g)
+    absurd (entity_none s AtRecordEnd f.header (AtEndOfHeader f.instances f.data_end)
+    (λ r L a. a) g)
 outside_ended outside.Data f g = absurd g.1
 outside_ended outside.DataSemicolon f g = absurd g.1
 outside_ended outside.Instances f g = absurd (instances_none f.instances f.data_end g.1)
@@ -145,7 +145,8 @@ ended_reads (outside.End j) [] w k is =
 ended_reads _ _ w k is = absurd (cc)
 
 -- what was found is what the text describes
-prepend_all-no_more : (founds : List Found) (k : ℕ) → prepend_all founds (no_more k) ≡ file_of founds k
+prepend_all-no_more : (founds : List Found) (k : ℕ) → prepend_all founds (no_more k)
+    ≡ file_of founds k
 prepend_all-no_more [] k = refl
 prepend_all-no_more (found.Nothing ∷ founds) k = prepend_all-no_more founds k
 prepend_all-no_more (found.Entity r ∷ founds) k =

@@ -1,7 +1,6 @@
 -- What holds of each turn that a test allows holds of the turn that was made.
 use Rattle.std.proofs.Common.{◌≡◌, ℕ, Bool, true, false, cond, Option, Some, None, refl, subst}
 use Rattle.std.proofs.lemmas.Option.{same_Some, none-some}
-use Rattle.sb_step.specs.declared.steps.Outside.{Outside}
 use Rattle.sb_step.specs.declared.steps.Outside.TheVariants as outside
 use Rattle.sb_step.specs.declared.steps.Move.{Move}
 use Rattle.sb_step.specs.Steps.{Turn, moves, names, only, plain, begun, turn_outside}

@@ -5,7 +5,7 @@ use Rattle.sb_lex.specs.declared.kinds.Word.TheVariants as word
 use Rattle.sb_step.specs.declared.file.Form.TheVariants as form
 use Rattle.sb_step.specs.declared.file.Record.{Record}
 use Rattle.sb_step.specs.Lexemes.{Lexeme, IsWord, IsKeyword, IsThe, IsName, IsMark, IsValue, opened, closed}
-use Rattle.sb_step.specs.Rules.{Rule, One, Joined, ◌⋅◌, Many, Each, SomeOf}
+use Rattle.sb_step.specs.Rules.{Rule, One, ◌⋅◌, Many, Each, SomeOf}
 
 -- what a text describes: the records of its header in order, the number and the record of each
 -- instance in order, and where the ENDSEC of its data begins

@@ -1,5 +1,5 @@
 -- What is kept of the instances that were read.
-use Rattle.std.specs.Prelude.{◌≡◌, ◌↔◌, ℕ, ◌<◌, nat_lt, nat_eq, Bool, is_some, List, Option, Some, None}
+use Rattle.std.specs.Prelude.{◌≡◌, ℕ, nat_lt, nat_eq, is_some, List, Option, Some, None}
 use Rattle.indexmap.specs.IndexMap.{get}
 use Rattle.sb_step.specs.declared.file.Record.{Record}
 use Rattle.sb_step.specs.declared.instances.Instances.{Instances}

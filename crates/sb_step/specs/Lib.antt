@@ -5,6 +5,7 @@ pub mod Grammar
 pub mod Faults
 pub mod Numbers
 pub mod Indexed
+pub mod Spans
 pub mod Answers
 pub mod Steps
 pub mod Machines

@@ -1,6 +1,6 @@
 -- What the private functions promise: the grammar as a machine that reads one lexeme after another.
 -- The proofs join this to the grammar: the machine goes on exactly where some text does.
-use Rattle.std.specs.Prelude.{◌≡◌, ℕ, zero, suc, ◌+◌, ◌-◌, ◌/◌, ◌%◌, ◌^◌, ◌<◌, ◌≤◌, Bool, true, false, ◌&&◌, ◌==◌, nat_eq, nat_lt, if◌then◌else◌, List, [], ◌∷◌, length, codes, Option, Some, None, option_and_then}
+use Rattle.std.specs.Prelude.{◌≡◌, ℕ, zero, suc, ◌/◌, ◌%◌, ◌^◌, ◌<◌, ◌≤◌, Bool, true, false, ◌&&◌, nat_lt, if◌then◌else◌, List, [], ◌∷◌, length, codes, Option, Some, None, option_and_then}
 use Rattle.std.specs.Str.{bytes_eq}
 use Rattle.sb_lex.specs.declared.kinds.Kind.{Kind}
 use Rattle.sb_lex.specs.declared.kinds.Kind.TheVariants as kind
@@ -193,7 +193,8 @@ abbrev pub shut : List Frame → Nest
 shut [] = record { frames = []; want = want.Next }
 shut (f ∷ fs) = record { frames = fs; want = want.Next }
 
--- the parentheses that so many bits tell of, the lowest first: 1 for a list, 0 for a typed parameter
+-- the parentheses that so many bits tell of, the lowest first: 1 for a list, 0 for a typed
+-- parameter
 abbrev pub frame_of : ℕ → Frame
 frame_of zero = frame.Typed
 frame_of (suc n) = frame.List

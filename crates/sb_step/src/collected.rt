@@ -12,17 +12,18 @@ pub(crate) struct Collected {
 }
 
 impl Collected {
-    ghost use Rattle.std.specs.Prelude.{◌≡◌, List, [], ◌∷◌, ◌++◌, OnOk};
+    ghost use Rattle.std.specs.Prelude.{◌≡◌, List, [], ◌∷◌, ◌++◌, OnOk, IfOk};
     ghost use Rattle.sb_step.specs.declared.steps.Found.{Found as Event};
     ghost use Rattle.sb_step.specs.Collects.{AreCollected};
 
-    pub(crate) fn new(alloc: Global) -> Collected
-        ensures { AreCollected [] result }
+    /// Nothing yet, with room for so many instances.
+    pub(crate) fn with_capacity(alloc: Global, room: usize) -> Result<Collected, AllocError>
+        ensures { IfOk result (AreCollected []) }
     {
-        Collected {
+        Ok(Collected {
             header: Vec::new(alloc),
-            instances: Instances::new(alloc),
-        }
+            instances: Instances::with_capacity(alloc, room)?,
+        })
     }
 
     /// Keeps what was found at one token more.

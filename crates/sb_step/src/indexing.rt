@@ -1,8 +1,9 @@
 // A whole text, token by token.
-ghost use Rattle.std.specs.Prelude.{◌≡◌, ◌↔◌, ℕ, Ok, Err, List};
+ghost use Rattle.std.specs.Prelude.{◌≡◌, ◌↔◌, ℕ, [], Ok, Err};
 ghost use Rattle.sb_step.specs.Answers.{IsAnswer, IsInTime, IsIndexed, HasDoubled};
 ghost use Rattle.sb_step.specs.Faults.{IsFaultAt};
 ghost use Rattle.sb_step.specs.Indexed.{Indexed};
+ghost use Rattle.sb_step.specs.Collects.{AreCollected};
 ghost use Rattle.sb_step.specs.Machines.{state_of};
 ghost use Rattle.sb_step.specs.Progress as spec;
 
@@ -14,6 +15,10 @@ use crate::step_file::StepFile;
 use sb_lex::{BadToken, Lexer, Token};
 use std::alloc::Global;
 
+/// How many bytes an instance mostly has at least. So much room is made at first that the table of
+/// most texts never grows.
+const INSTANCE_LEN: usize = 48;
+
 /// The exchange text that the input is, with its instances by number.
 ///
 /// - `Ok(file)`: exactly where the input is a text of the grammar and no two of its instances have
@@ -22,7 +27,7 @@ use std::alloc::Global;
 ///   text has one fault. Tried first.
 /// - `Err(Duplicate(number))`: exactly where the input is a text and `number` is the least that two
 ///   of its instances have.
-/// - `Err(NoMemory)`: at any time.
+/// - `Err(NoMemory)`: at any time. The three others yield to it.
 ///
 /// Source: ISO 10303-21, with the leniencies that `specs/Grammar.antt` states.
 pub fn index<'a>(alloc: Global, bytes: &'a [u8]) -> Result<StepFile<'a>, StepError>
@@ -40,9 +45,19 @@ pub fn index<'a>(alloc: Global, bytes: &'a [u8]) -> Result<StepFile<'a>, StepErr
 fn read<'a>(alloc: Global, bytes: &'a [u8]) -> Result<StepFile<'a>, StepError>
     ensures { IsAnswer bytes.now result }
 {
+    match Collected::with_capacity(alloc, bytes.len() / INSTANCE_LEN) {
+        Ok(collected) => read_into(bytes, collected),
+        Err(_) => Err(StepError::NoMemory),
+    }
+}
+
+fn read_into<'a>(bytes: &'a [u8], empty: Collected) -> Result<StepFile<'a>, StepError>
+    requires { AreCollected [] empty }
+    ensures { IsAnswer bytes.now result }
+{
     let mut lexer = Lexer::new(bytes);
     let mut machine = Machine::new();
-    let mut collected = Collected::new(alloc);
+    let mut collected = empty;
     'tokens: loop {
         match lexer.next() {
             Ok(Some(token)) => {
@@ -81,7 +96,8 @@ fn finish<'a>(
     end: Option<usize>,
     collected: Collected,
 ) -> Result<StepFile<'a>, StepError>
-    ensures { result ≡ spec.finished bytes.now end collected }
+    requires { IsAnswer bytes.now (spec.finished bytes.now end collected) }
+    ensures { IsAnswer bytes.now result }
 {
     let Collected { header, instances } = collected;
     let Instances { records, doubled } = instances;

@@ -15,17 +15,18 @@ pub(crate) struct Instances {
 }
 
 impl Instances {
-    ghost use Rattle.std.specs.Prelude.{◌≡◌, ℕ, List, [], ◌∷◌, ◌++◌, OnOk};
+    ghost use Rattle.std.specs.Prelude.{◌≡◌, ℕ, List, [], ◌∷◌, ◌++◌, OnOk, IfOk};
     ghost use Rattle.sb_step.specs.declared.file.Record.{Record as Found};
     ghost use Rattle.sb_step.specs.Kept.{AreKept};
 
-    pub(crate) fn new(alloc: Global) -> Instances
-        ensures { AreKept [] result }
+    /// None yet, with room for so many.
+    pub(crate) fn with_capacity(alloc: Global, room: usize) -> Result<Instances, AllocError>
+        ensures { IfOk result (AreKept []) }
     {
-        Instances {
-            records: IndexMap::new(alloc),
+        Ok(Instances {
+            records: IndexMap::with_capacity(alloc, room)?,
             doubled: None,
-        }
+        })
     }
 
     /// Keeps one instance more.

@@ -14,6 +14,8 @@ mod machine;
 mod sections;
 mod step_file;
 mod steps;
+#[cfg(test)]
+mod tests;
 
 pub use crate::error::StepError;
 pub use crate::file::{Form, Record};

@@ -1,22 +1,21 @@
-use Rattle.std.proofs.Common.{◌≡◌, ℕ, Ok, Err, Some, None, sym, ap, ◌∙◌, subst}
-use Rattle.sb_lex.specs.declared.kinds.Token.{Token}
-use Rattle.sb_lex.specs.Tokens.{Reading, Answers, IsNext, moved}
+use Rattle.std.proofs.Common.{◌≡◌, Ok, Err, Some, None, sym, ap, ◌∙◌, subst}
+use Rattle.sb_lex.specs.Tokens.{Answers, IsNext, moved}
 use Rattle.sb_step.specs.Answers.{IsAnswer}
 use Rattle.sb_step.specs.Steps.{start}
 use Rattle.sb_step.specs.Machines.{state_of}
 use Rattle.sb_step.specs.Progress.{Progress, finished}
 use Rattle.sb_step.proofs.ReadingGoesOn.{nothing_read, one_more, fault_at_bad, answer_at_end, error_answers}
-use Rattle.sb_step.proofs.indexing.read.Goals as goal
+use Rattle.sb_step.proofs.indexing.read_into.Goals as goal
 
 pub tokens-init : goal.tokens-init
 tokens-init c = record {
   input_is = ap (λ r. r.input) c.new-lexer.ensures;
   progress = subst
-      (λ s. Progress c.args.bytes.now c.new-lexer.result.place s c.new-collected.result)
+      (λ s. Progress c.args.bytes.now c.new-lexer.result.place s c.args.empty)
       (sym c.new-machine.ensures)
-      (subst (λ k. Progress c.args.bytes.now k start c.new-collected.result)
+      (subst (λ k. Progress c.args.bytes.now k start c.args.empty)
       (sym (ap (λ r. r.place) c.new-lexer.ensures))
-      (nothing_read c.args.bytes.now c.new-collected.result c.new-collected.ensures));
+      (nothing_read c.args.bytes.now c.args.empty c.requires));
 }
 
 pub tokens-preserved : goal.tokens-preserved
@@ -54,8 +53,8 @@ returns-in-Err-accept c =
     (state_of c.accept.new.machine) c.tokens.collected c.accept.new.collected
     c.in-Err-accept.error invariant.progress next c.in-Err-accept.ensures
 
-pub returns-in-Ok-None : goal.returns-in-Ok-None
-returns-in-Ok-None c =
+pub finish-requires : goal.finish-requires
+finish-requires c =
     let input = c.args.bytes.now in
     let place = c.tokens.lexer.place in
     let invariant = c.tokens.invariant in
@@ -63,10 +62,9 @@ returns-in-Ok-None c =
     invariant.input_is
     (subst (λ o. Answers c.tokens.lexer (Ok o)) c.in-Ok-None.field-0-is
     c.in-Ok-None.ensures.answer) in
-    subst (IsAnswer input) (sym c.finish.ensures)
-    (subst (λ e. IsAnswer input (finished input e c.tokens.collected)) (sym c.end.ensures)
+    subst (λ e. IsAnswer input (finished input e c.tokens.collected)) (sym c.end.ensures)
     (answer_at_end input place (state_of c.tokens.machine) c.tokens.collected
-    invariant.progress ends))
+    invariant.progress ends)
 
 pub returns-in-Err : goal.returns-in-Err
 returns-in-Err c =

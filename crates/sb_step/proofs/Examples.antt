@@ -1,0 +1,122 @@
+-- Single lists of lexemes: texts that the grammar has, and places where it goes on no further. Each
+-- is found by computing.
+use Rattle.std.proofs.Common.{◌≡◌, List, [], ◌∷◌, ◌++◌, Some, None, refl}
+use Rattle.std.specs.Prelude.{codes, replicate}
+use Rattle.sb_lex.specs.declared.kinds.Kind.TheVariants as kind
+use Rattle.sb_lex.specs.declared.kinds.Mark.TheVariants as mark
+use Rattle.sb_lex.specs.declared.kinds.Word.TheVariants as word
+use Rattle.sb_step.specs.declared.file.Form.TheVariants as form
+use Rattle.sb_step.specs.Lexemes.{Lexeme}
+use Rattle.sb_step.specs.Grammar.{IsText}
+use Rattle.sb_step.specs.Faults.{BeginsText}
+use Rattle.sb_step.specs.Steps.{step, start, Ran, run}
+use Rattle.sb_step.proofs.SomeTextGoesOn.{lexeme_of, mark_of, keyword_of}
+use Rattle.sb_step.proofs.TextsEnd.{ends_text, runs_begin}
+use Rattle.sb_step.proofs.OneFileOrOneFault.{stops}
+
+-- a text begins with the lexemes, and none with one more
+record StopsAt (xs : List Lexeme) (x : Lexeme) : Type 0 where
+  begins : BeginsText xs
+  refused : BeginsText (xs ++ x ∷ []) → ⊥
+
+stops_at : (xs : List Lexeme) (x : Lexeme) (ran : Ran) → run xs start ≡ Some ran
+    → step ran.state x ≡ None → StopsAt xs x
+stops_at xs x ran is none = record {
+  begins = runs_begin xs ran is;
+  refused = stops xs ran x is none;
+}
+
+-- lexemes
+
+abbrev pub o : Lexeme
+o = mark_of mark.Open
+
+abbrev pub c : Lexeme
+c = mark_of mark.Close
+
+abbrev pub semicolon : Lexeme
+semicolon = mark_of mark.Semicolon
+
+abbrev pub value : Lexeme
+value = mark_of mark.Dollar
+
+abbrev pub keyword : Lexeme
+keyword = keyword_of (codes "A")
+
+-- `ISO-10303-21; HEADER;`
+abbrev pub header : List Lexeme
+header =
+    lexeme_of (kind.Word word.First) [] ∷ semicolon ∷ keyword_of (codes "HEADER") ∷ semicolon ∷ []
+
+-- `A(); ENDSEC; DATA;`
+abbrev pub data_begins : List Lexeme
+data_begins =
+    keyword ∷ o ∷ c ∷ semicolon ∷ keyword_of (codes "ENDSEC") ∷ semicolon
+    ∷ keyword_of (codes "DATA") ∷ semicolon ∷ []
+
+-- `#7 =`
+abbrev pub name : List Lexeme
+name = lexeme_of (kind.Name 7) [] ∷ mark_of mark.Equals ∷ []
+
+-- `ENDSEC; END-ISO-10303-21;`
+abbrev pub ending : List Lexeme
+ending =
+    keyword_of (codes "ENDSEC") ∷ semicolon ∷ lexeme_of (kind.Word word.Last) [] ∷ semicolon ∷ []
+
+-- a text without instances
+empty_text : IsText (header ++ data_begins ++ ending)
+    (record {
+      header = record { start = 0; end = 0; form = form.Simple 0 } ∷ [];
+      instances = [];
+      data_end = 0;
+    })
+empty_text = ends_text (header ++ data_begins ++ ending) _ 0 refl refl
+
+-- a complex instance
+complex_text : IsText
+    (header ++ data_begins ++ name ++ (o ∷ keyword ∷ o ∷ c ∷ c ∷ semicolon ∷ []) ++ ending)
+    (record {
+      header = record { start = 0; end = 0; form = form.Simple 0 } ∷ [];
+      instances = (7, record { start = 0; end = 0; form = form.Complex }) ∷ [];
+      data_end = 0;
+    })
+complex_text = ends_text
+    (header ++ data_begins ++ name ++ (o ∷ keyword ∷ o ∷ c ∷ c ∷ semicolon ∷ []) ++ ending) _ 0
+    refl refl
+
+-- `ENDSEC` may be the first entity, so the fault is at the semicolon behind it
+no_entity : StopsAt (header ++ keyword_of (codes "ENDSEC") ∷ []) semicolon
+no_entity = stops_at (header ++ keyword_of (codes "ENDSEC") ∷ []) semicolon _ refl refl
+
+-- with 64 parentheses open a value goes on, and neither a further one nor a keyword
+abbrev pub deep : List Lexeme
+deep = header ++ data_begins ++ name ++ (keyword ∷ []) ++ replicate 64 o
+
+one_too_many : StopsAt deep o
+one_too_many = stops_at deep o _ refl refl
+
+keyword_too_deep : StopsAt deep keyword
+keyword_too_deep = stops_at deep keyword _ refl refl
+
+value_is_not : BeginsText (deep ++ value ∷ [])
+value_is_not = runs_begin (deep ++ value ∷ []) _ refl
+
+-- the parenthesis of a complex record is one of them
+abbrev pub deep_complex : List Lexeme
+deep_complex = header ++ data_begins ++ name ++ (o ∷ keyword ∷ []) ++ replicate 63 o
+
+complex_too_deep : StopsAt deep_complex o
+complex_too_deep = stops_at deep_complex o _ refl refl
+
+-- a list ends behind no comma
+no_end_behind_a_comma : StopsAt
+    (header ++ data_begins ++ name ++ (keyword ∷ o ∷ value ∷ mark_of mark.Comma ∷ [])) c
+no_end_behind_a_comma = stops_at
+    (header ++ data_begins ++ name ++ (keyword ∷ o ∷ value ∷ mark_of mark.Comma ∷ [])) c _ refl
+    refl
+
+-- a typed parameter has one
+one_typed : StopsAt (header ++ data_begins ++ name ++ (keyword ∷ o ∷ keyword ∷ o ∷ value ∷ []))
+    (mark_of mark.Comma)
+one_typed = stops_at (header ++ data_begins ++ name ++ (keyword ∷ o ∷ keyword ∷ o ∷ value ∷ []))
+    (mark_of mark.Comma) _ refl refl
