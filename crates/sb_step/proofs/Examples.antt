@@ -28,11 +28,11 @@ stops_at xs x ran is none = record {
 
 -- lexemes
 
-abbrev pub o : Lexeme
-o = mark_of mark.Open
+abbrev pub opening : Lexeme
+opening = mark_of mark.Open
 
-abbrev pub c : Lexeme
-c = mark_of mark.Close
+abbrev pub closing : Lexeme
+closing = mark_of mark.Close
 
 abbrev pub semicolon : Lexeme
 semicolon = mark_of mark.Semicolon
@@ -51,7 +51,7 @@ header =
 -- `A(); ENDSEC; DATA;`
 abbrev pub data_begins : List Lexeme
 data_begins =
-    keyword ∷ o ∷ c ∷ semicolon ∷ keyword_of (codes "ENDSEC") ∷ semicolon
+    keyword ∷ opening ∷ closing ∷ semicolon ∷ keyword_of (codes "ENDSEC") ∷ semicolon
     ∷ keyword_of (codes "DATA") ∷ semicolon ∷ []
 
 -- `#7 =`
@@ -73,16 +73,17 @@ empty_text : IsText (header ++ data_begins ++ ending)
 empty_text = ends_text (header ++ data_begins ++ ending) _ 0 refl refl
 
 -- a complex instance
-complex_text : IsText
-    (header ++ data_begins ++ name ++ (o ∷ keyword ∷ o ∷ c ∷ c ∷ semicolon ∷ []) ++ ending)
-    (record {
-      header = record { start = 0; end = 0; form = form.Simple 0 } ∷ [];
-      instances = (7, record { start = 0; end = 0; form = form.Complex }) ∷ [];
-      data_end = 0;
-    })
-complex_text = ends_text
-    (header ++ data_begins ++ name ++ (o ∷ keyword ∷ o ∷ c ∷ c ∷ semicolon ∷ []) ++ ending) _ 0
-    refl refl
+abbrev pub complex : List Lexeme
+complex =
+    header ++ data_begins ++ name
+    ++ (opening ∷ keyword ∷ opening ∷ closing ∷ closing ∷ semicolon ∷ []) ++ ending
+
+complex_text : IsText complex (record {
+  header = record { start = 0; end = 0; form = form.Simple 0 } ∷ [];
+  instances = (7, record { start = 0; end = 0; form = form.Complex }) ∷ [];
+  data_end = 0;
+})
+complex_text = ends_text complex _ 0 refl refl
 
 -- `ENDSEC` may be the first entity, so the fault is at the semicolon behind it
 no_entity : StopsAt (header ++ keyword_of (codes "ENDSEC") ∷ []) semicolon
@@ -90,10 +91,10 @@ no_entity = stops_at (header ++ keyword_of (codes "ENDSEC") ∷ []) semicolon _ 
 
 -- with 64 parentheses open a value goes on, and neither a further one nor a keyword
 abbrev pub deep : List Lexeme
-deep = header ++ data_begins ++ name ++ (keyword ∷ []) ++ replicate 64 o
+deep = header ++ data_begins ++ name ++ (keyword ∷ []) ++ replicate 64 opening
 
-one_too_many : StopsAt deep o
-one_too_many = stops_at deep o _ refl refl
+one_too_many : StopsAt deep opening
+one_too_many = stops_at deep opening _ refl refl
 
 keyword_too_deep : StopsAt deep keyword
 keyword_too_deep = stops_at deep keyword _ refl refl
@@ -103,20 +104,24 @@ value_is_not = runs_begin (deep ++ value ∷ []) _ refl
 
 -- the parenthesis of a complex record is one of them
 abbrev pub deep_complex : List Lexeme
-deep_complex = header ++ data_begins ++ name ++ (o ∷ keyword ∷ []) ++ replicate 63 o
+deep_complex =
+    header ++ data_begins ++ name ++ (opening ∷ keyword ∷ []) ++ replicate 63 opening
 
-complex_too_deep : StopsAt deep_complex o
-complex_too_deep = stops_at deep_complex o _ refl refl
+complex_too_deep : StopsAt deep_complex opening
+complex_too_deep = stops_at deep_complex opening _ refl refl
 
--- a list ends behind no comma
-no_end_behind_a_comma : StopsAt
-    (header ++ data_begins ++ name ++ (keyword ∷ o ∷ value ∷ mark_of mark.Comma ∷ [])) c
-no_end_behind_a_comma = stops_at
-    (header ++ data_begins ++ name ++ (keyword ∷ o ∷ value ∷ mark_of mark.Comma ∷ [])) c _ refl
-    refl
+-- no list ends behind a comma
+abbrev pub behind_a_comma : List Lexeme
+behind_a_comma =
+    header ++ data_begins ++ name ++ (keyword ∷ opening ∷ value ∷ mark_of mark.Comma ∷ [])
+
+no_end_behind_a_comma : StopsAt behind_a_comma closing
+no_end_behind_a_comma = stops_at behind_a_comma closing _ refl refl
 
 -- a typed parameter has one
-one_typed : StopsAt (header ++ data_begins ++ name ++ (keyword ∷ o ∷ keyword ∷ o ∷ value ∷ []))
-    (mark_of mark.Comma)
-one_typed = stops_at (header ++ data_begins ++ name ++ (keyword ∷ o ∷ keyword ∷ o ∷ value ∷ []))
-    (mark_of mark.Comma) _ refl refl
+abbrev pub in_typed : List Lexeme
+in_typed =
+    header ++ data_begins ++ name ++ (keyword ∷ opening ∷ keyword ∷ opening ∷ value ∷ [])
+
+one_typed : StopsAt in_typed (mark_of mark.Comma)
+one_typed = stops_at in_typed (mark_of mark.Comma) _ refl refl

@@ -132,9 +132,9 @@ module _ (size : ℕ) where
   instances_lie [] xs rest each lie = tt
   instances_lie (i ∷ later) xs rest each lie =
       let one = each.first in
-      let behind_name = one_leaves _ xs one.middle one.first lie in
-      let behind_equals = one_leaves _ one.middle one.second.middle one.second.first behind_name in (
-        record_lies i.1 one.second.middle each.middle one.second.second behind_equals,
+      let named = one_leaves _ xs one.middle one.first lie in
+      let behind = one_leaves _ one.middle one.second.middle one.second.first named in (
+        record_lies i.1 one.second.middle each.middle one.second.second behind,
         instances_lie later each.middle rest each.second
             (instance_leaves i xs each.middle one lie),
       )

@@ -23,8 +23,8 @@ const INSTANCE_LEN: usize = 48;
 ///
 /// - `Ok(file)`: exactly where the input is a text of the grammar and no two of its instances have
 ///   one number. Then `file` is the one that the text describes.
-/// - `Err(Syntax(place))`: exactly where the input has its fault at this byte. Each input that is no
-///   text has one fault. Tried first.
+/// - `Err(Syntax(place))`: exactly where the input has its fault at this byte. Each input that is
+///   no text has one fault. Tried first.
 /// - `Err(Duplicate(number))`: exactly where the input is a text and `number` is the least that two
 ///   of its instances have.
 /// - `Err(NoMemory)`: at any time. The three others yield to it.
