@@ -21,7 +21,7 @@ impl<'a> Model for Lexer<'a> {
 }
 
 impl<'a> Lexer<'a> {
-    ghost use Rattle.std.specs.Prelude.{◌≡◌, ◌↔◌, ℕ};
+    ghost use Rattle.std.specs.Prelude.{◌≡◌, ◌≤◌, ◌↔◌, ℕ, length};
     ghost use Rattle.sb_lex.specs.declared.kinds.Token.{Token};
     ghost use Rattle.sb_lex.specs.Tokens.{Answers, IsNext, IsEnd, IsBadFrom, Lies, moved};
 
@@ -30,6 +30,14 @@ impl<'a> Lexer<'a> {
         ensures { result ≡ record { input = bytes.now; place = 0 } }
     {
         Lexer { bytes, place: 0 }
+    }
+
+    /// A reader that stands at this byte, as one does that has read so far.
+    pub fn at(bytes: &'a [u8], place: usize) -> Lexer<'a>
+        requires { place ≤ length bytes.now }
+        ensures { result ≡ record { input = bytes.now; place = place } }
+    {
+        Lexer { bytes, place }
     }
 
     /// The next token.
