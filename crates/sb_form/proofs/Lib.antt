@@ -4,3 +4,8 @@ mod FormHasOneReading
 mod Examples
 mod Passing
 mod NearIsInRange
+mod TokensAtTheFront
+mod NumbersAreReals
+mod RisingNumbersAreApart
+mod FormIsLexed
+pub mod FormsAreTexts

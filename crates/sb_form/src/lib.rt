@@ -3,10 +3,12 @@
 #![tactic(auto)]
 
 mod building;
+mod laws;
 mod matcher;
 mod meaning;
 mod number;
 
 pub use building::{SPACE, model};
+pub use laws::forms_are_texts;
 pub use matcher::{FirstForm, first_form};
 pub use meaning::{Defect, extent_of};

@@ -1,0 +1,5 @@
+use Rattle.sb_form.proofs.FormsAreTexts as form
+use Rattle.sb_form.proofs.laws.forms_are_texts.Goals as goal
+
+pub returns : goal.returns
+returns c = record { texts = form.forms_are_texts }
