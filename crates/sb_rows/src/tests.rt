@@ -235,20 +235,61 @@ fn each_fault_has_its_answer(rt: HostRuntime) -> Result<(), Fail> {
             true,
             "there is no seventh call",
         ),
-        (b"", 0, 6, "refused #0: Unbuilt\n", false, "the empty input"),
-        (
-            b"ISO-10303-21;",
-            0,
-            6,
-            "refused #0: Unbuilt\n",
-            false,
-            "a cut input",
-        ),
     ] {
         let left = left_by(alloc, file, failing)?;
         assert_eq!(rt; left.status, want, "{why}");
         assert_eq!(rt; left.said.as_str(), said, "{why}");
         assert_eq!(rt; left.report.is_some(), created, "{why}");
+    }
+    Ok(())
+}
+
+/// A text without spaces, up to its third instance.
+const BEFORE_BUILDING: &str =
+    "ISO-10303-21;HEADER;FILE_SCHEMA(('IFC4'));ENDSEC;DATA;#1=IFCSIUNIT(*,.LENGTHUNIT.,.MILLI.,.METRE.);#2=IFCUNITASSIGNMENT((#1));";
+
+/// The rest of it, behind the name of its third instance.
+const BUILDING: &str =
+    "=IFCBUILDING('0000000000000000000003',$,$,$,$,$,$,$,$,$,$,$);ENDSEC;END-ISO-10303-21;";
+
+/// The text without spaces, where its building has this name.
+fn building(alloc: Global, name: &str) -> Result<String, AllocError> {
+    format!(in alloc; "{BEFORE_BUILDING}{name}{BUILDING}")
+}
+
+#[test]
+fn each_text_has_its_fault(rt: HostRuntime) -> Result<(), Fail> {
+    let alloc = rt.alloc();
+    let room = form(alloc, ROOM)?;
+    let one = building(alloc, "#3")?;
+    let twice = building(alloc, "#2")?;
+    let thrice = building(alloc, "#1=A();#002=A();#2")?;
+    let zero = building(alloc, "#0")?;
+    for (file, want, said) in [
+        ("", 5, "syntax at byte 0\n"),
+        ("ISO-10303-21;/*", 5, "syntax at byte 13\n"),
+        (
+            "ISO-10303-21;HEADER;FILE_SCHEMA(('IFC4'));ENDSEC;DATA;#0=IFCWALL();",
+            5,
+            "syntax at byte 54\n",
+        ),
+        (
+            "ISO-10303-21;HEADER;FILE_SCHEMA(('IFC4'));ENDSEC;DATA;#12=IFCWALL(",
+            5,
+            "syntax at byte 66\n",
+        ),
+        (zero.as_str(), 5, "syntax at byte 126\n"),
+        (twice.as_str(), 6, "refused #2: Duplicate\n"),
+        (thrice.as_str(), 6, "refused #1: Duplicate\n"),
+        (one.as_str(), 6, "refused #0: Unbuilt\n"),
+        // The form without its last line feed, and without its last semicolon.
+        (&room[..room.len() - 1], 6, "refused #0: Unbuilt\n"),
+        (&room[..room.len() - 2], 5, "syntax at byte 603\n"),
+    ] {
+        let left = left_by(alloc, file.as_bytes(), 0)?;
+        assert_eq!(rt; left.status, want, "{file}");
+        assert_eq!(rt; left.said.as_str(), said, "{file}");
+        assert!(rt; left.report.is_none(), "{file}");
     }
     Ok(())
 }

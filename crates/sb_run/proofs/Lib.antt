@@ -2,6 +2,7 @@ mod SpacesEndWhereTheyChange
 mod CreatedIsEmptyFirst
 mod BoxListRises
 mod FormsAreShort
+mod TextsAreJudged
 mod AnswersHaveTheirCause
 mod BoxListIsReportable
 mod FormIsBox

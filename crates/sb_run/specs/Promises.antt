@@ -4,6 +4,8 @@ use Rattle.std.specs.Option.{ForSome}
 use Rattle.sb_shelf.specs.Outside.{Outside, Rose}
 use Rattle.sb_shelf.specs.WholeTexts.{AppendsFirstOf}
 use Rattle.sb_shelf.specs.declared.shelf.Out.TheVariants.{Ifc, Idf, Report, Said}
+use Rattle.sb_step.specs.Indexed.{Indexed}
+use Rattle.sb_step.specs.Answers.{IsIndexed, HasDoubled}
 use Rattle.sb_model.specs.declared.boundary.Boundary.{Boundary}
 use Rattle.sb_model.specs.Order.{IsInOrder}
 use Rattle.sb_model.specs.Sound as model
@@ -45,12 +47,19 @@ pub record IsSound (form : FirstForm) (input : List ℕ) : Type 0 where
 abbrev pub HasDefect : List ℕ → Defect → Type 0
 HasDefect input d = (form : FirstForm) × IsFormOf form input × (defect_of form ≡ Some d)
 
--- why an input is refused: the first defect of the space of its form, or that it is not of the form
+-- the input is an exchange text in which no number is used twice
+abbrev pub IsExchangeText : List ℕ → Type 0
+IsExchangeText input = (indexed : Indexed) × IsIndexed input indexed
+
+-- why an input is refused: the least number that is used twice in its text, the first defect of the
+-- space of its form, or that it is an exchange text and not of the form
 abbrev pub IsRefused : List ℕ → ℕ → Code → Type 0
+IsRefused input n code.Duplicate = HasDoubled input n
 IsRefused input n code.Shape = (n ≡ space_number) × HasDefect input defect.Shape
 IsRefused input n code.Range = (n ≡ space_number) × HasDefect input defect.Range
 IsRefused input n code.OffGrid = (n ≡ space_number) × HasDefect input defect.OffGrid
-IsRefused input n code.Unbuilt = (n ≡ 0) × ((form : FirstForm) → IsFormOf form input → ⊥)
+IsRefused input n code.Unbuilt =
+    (n ≡ 0) × IsExchangeText input × ((form : FirstForm) → IsFormOf form input → ⊥)
 
 -- the list of the model that the form means: it is sound for this model and in order, and has the
 -- boundaries of the form's box

@@ -7,13 +7,15 @@ use sb_model::Boundaries;
 /// Why an input is refused.
 #[derive(Clone, Copy)]
 pub enum Code {
+    /// Two instances have this number.
+    Duplicate,
     /// A shape is none that is read: a size of the box is not above 0.
     Shape,
     /// A coordinate is more than 500,000 mm in size.
     Range,
     /// A corner lies more than 10 µm from a whole millimetre.
     OffGrid,
-    /// The input is not of the first form, which is all that is read yet.
+    /// The input is an exchange text, but not of the first form, which is all that is read yet.
     Unbuilt,
 }
 
@@ -28,6 +30,8 @@ pub enum Answer {
     ReadFault,
     /// The input is longer than 67,108,864 bytes.
     TooLong,
+    /// The input is no exchange text (ISO 10303-21): it has its fault at this byte.
+    Syntax(u64),
     /// The input is refused because of the instance with this number, or of the whole where it is 0.
     Refused(u32, Code),
     /// Creating or writing an output has failed. A first part of its text may stand on it.
@@ -45,6 +49,7 @@ pub fn status(answer: &Answer) -> u8
         Answer::Usage => 2,
         Answer::ReadFault => 3,
         Answer::TooLong => 4,
+        Answer::Syntax(_) => 5,
         Answer::Refused(_, _) => 6,
         Answer::WriteFault => 10,
         Answer::NoMemory => 11,

@@ -1,12 +1,12 @@
 // The judgement of an input: what is to be written for it, or why it is refused.
-ghost use Rattle.std.specs.Prelude.{◌≡◌, ◌≤◌, length, IfOk, IfErr, string_bytes};
+ghost use Rattle.std.specs.Prelude.{◌≡◌, ◌≤◌, length, IfOk, IfErr, OnOk, string_bytes};
 ghost use Rattle.std.specs.Option.{ForSome};
 ghost use Rattle.sb_form.specs.FirstForm.{AreShort};
 ghost use Rattle.sb_form.specs.Meaning.{IsExtentOf, model_of};
 ghost use Rattle.sb_report.specs.Report.{report_of};
 ghost use Rattle.sb_shelf.specs.Outside.{OnlyReads};
 ghost use Rattle.sb_run.specs.Answers.{done_line};
-ghost use Rattle.sb_run.specs.Judgements.{IsReady, IsJudged, IsRefusal, code_of};
+ghost use Rattle.sb_run.specs.Judgements.{IsReady, IsRead, IsJudged, IsRefusal, code_of, refusal_of};
 ghost use Rattle.sb_run.specs.Promises.{IsListOf};
 
 use crate::answer::{Answer, Code};
@@ -16,6 +16,7 @@ use sb_form::{Defect, FirstForm, SPACE, extent_of, first_form, model};
 use sb_model::Boundaries;
 use sb_report::report_text;
 use sb_shelf::{ReadError, Shelf, read_all};
+use sb_step::{StepError, index};
 use std::alloc::{AllocError, Global};
 
 /// All that is to be written for an input: once it is there, a run takes no memory any more.
@@ -41,9 +42,44 @@ pub(crate) fn judged<S: Shelf>(alloc: Global, shelf: &mut S, path: &str) -> Resu
     }
 }
 
-/// Judges an input.
+/// Judges an input: first whether it is an exchange text, and then what it holds.
 fn judge(alloc: Global, input: &[u8]) -> Result<Ready, Answer>
     requires { length input.now ≤ 67108864 }
+    ensures ready { IfOk result (λ ready. IsReady input.now ready) }
+    ensures line { IfOk result (λ ready. string_bytes ready.line ≡ done_line ready.list) }
+    ensures refused { IfErr result (λ answer. IsJudged input.now answer) }
+{
+    check_text(alloc, input)?;
+    judge_text(alloc, input)
+}
+
+/// Whether the input is an exchange text whose numbers are apart. The index of its instances is
+/// given back: the form that is read yet needs none.
+fn check_text(alloc: Global, input: &[u8]) -> Result<(), Answer>
+    requires { length input.now ≤ 67108864 }
+    ensures read { OnOk result (IsRead input.now) }
+    ensures refused { IfErr result (λ answer. IsJudged input.now answer) }
+{
+    match index(alloc, input) {
+        Ok(_file) => Ok(()),
+        Err(error) => Err(refusal_of(error)),
+    }
+}
+
+fn refusal_of(error: StepError) -> Answer
+    ensures { result ≡ refusal_of error }
+{
+    match error {
+        StepError::Syntax(place) => Answer::Syntax(place as u64),
+        StepError::Duplicate(number) => Answer::Refused(number, Code::Duplicate),
+        StepError::NoMemory => Answer::NoMemory,
+    }
+}
+
+/// Judges an exchange text whose numbers are apart.
+fn judge_text(alloc: Global, input: &[u8]) -> Result<Ready, Answer>
+    requires within { length input.now ≤ 67108864 }
+    requires read { IsRead input.now }
     ensures ready { IfOk result (λ ready. IsReady input.now ready) }
     ensures line { IfOk result (λ ready. string_bytes ready.line ≡ done_line ready.list) }
     ensures refused { IfErr result (λ answer. IsJudged input.now answer) }

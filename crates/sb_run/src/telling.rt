@@ -95,10 +95,18 @@ pub(crate) fn early_line(alloc: Global, answer: &Answer) -> Result<Line, AllocEr
         Answer::ReadFault => Ok(Line::Fixed("read fault\n")),
         Answer::TooLong => Ok(Line::Fixed("too long\n")),
         Answer::NoMemory => Ok(Line::Fixed("no memory\n")),
+        Answer::Syntax(place) => Ok(Line::Made(syntax_text(alloc, *place)?)),
         Answer::Refused(number, code) => Ok(Line::Made(refused_text(alloc, *number, *code)?)),
         // These come after something was created.
         Answer::Done(_) | Answer::WriteFault => unreachable!(),
     }
+}
+
+/// The line of a fault of the exchange text.
+fn syntax_text(alloc: Global, place: u64) -> Result<String, AllocError>
+    ensures { IfOk result (λ text. string_bytes text ≡ line (Answer.Syntax place)) }
+{
+    format!(in alloc; "syntax at byte {place}\n")
 }
 
 /// The line of a refusal.
@@ -113,6 +121,7 @@ fn name_of(code: Code) -> &'static str
     ensures { result.now ≡ name_of code }
 {
     match code {
+        Code::Duplicate => "Duplicate",
         Code::Shape => "Shape",
         Code::Range => "Range",
         Code::OffGrid => "OffGrid",

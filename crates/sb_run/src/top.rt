@@ -5,6 +5,7 @@ ghost use Rattle.sb_run.specs.Command.{command};
 ghost use Rattle.sb_run.specs.Promises.{longest, IsInput, IsSound, IsRefused, IsDoneOrNoMemory};
 ghost use Rattle.sb_run.specs.Promises.{OnlyReport, ReportStands, Says};
 ghost use Rattle.sb_shelf.specs.Outside.{IsUntouched, OnlyWrites, Rose};
+ghost use Rattle.sb_step.specs.Faults.{IsFaultAt};
 ghost use Rattle.sb_run.specs.Judgements.{IsSameOrNoMemory, IsFinished, OnlyReportAndMessage};
 ghost use Rattle.sb_form.specs.declared.matcher.FirstForm.{FirstForm};
 ghost use Rattle.sb_run.specs.declared.answer.Code.{Code};
@@ -25,8 +26,12 @@ use std::alloc::Global;
 /// - `Usage`: exactly where the words are no command.
 /// - `ReadFault`: only where the count of read faults rose in this call.
 /// - `TooLong`: exactly where the input has more than 67,108,864 bytes.
+/// - `Syntax(place)`: exactly where the input is no exchange text and has its fault at this byte.
+/// - `Refused(number, Duplicate)`: exactly where the input is an exchange text and `number` is the
+///   least that two of its instances have.
 /// - `Refused(20, code)`: exactly where the input is of the first form and `code` is its first defect.
-/// - `Refused(0, Unbuilt)`: exactly where the input is not of the first form.
+/// - `Refused(0, Unbuilt)`: exactly where the input is an exchange text whose numbers are apart, and
+///   is not of the first form.
 /// - `WriteFault`: only where the count of faults of the files rose in this call.
 /// - `Done(list)`: the report of the list stands written.
 /// - `NoMemory`: at any step before the report is created.
@@ -43,6 +48,10 @@ pub fn run<S: Shelf>(alloc: Global, words: &[String], shelf: &mut S) -> Answer
     ensures too_long { (input : List ℕ) → IsInput (map string_bytes words.now) (S.state shelf.old) input
         → HasReached Answer.TooLong result
         → (result ≡ Answer.TooLong) ↔ (longest < length input) }
+
+    ensures syntax { (input : List ℕ) → IsInput (map string_bytes words.now) (S.state shelf.old) input
+        → (place : ℕ) → HasReached (Answer.Syntax place) result
+        → (result ≡ Answer.Syntax place) ↔ IsFaultAt input place }
 
     ensures refused { (input : List ℕ) → IsInput (map string_bytes words.now) (S.state shelf.old) input
         → (n : ℕ) (code : Code) → HasReached (Answer.Refused n code) result

@@ -1,5 +1,10 @@
-use Rattle.sb_run.proofs.AnswersHaveTheirCause.{told_under, refused_exactly, refused_is_unsound, finished_is_not_too_long, finished_is_not_refused, report_stands}
+use Rattle.sb_run.proofs.AnswersHaveTheirCause.{told_under, fault_exactly, refused_exactly, refused_is_unsound, finished_is_not_too_long, finished_has_no_fault, finished_is_not_refused, report_stands}
 use Rattle.sb_run.proofs.top.run.Goals as goal
+
+pub returns-in-Err-clause-syntax : goal.returns-in-Err-clause-syntax
+returns-in-Err-clause-syntax g c input is =
+    let told = told_under _ _ _ input c.in-Some.ensures.some is in
+    fault_exactly _ _ _ _ _ input c.in-Err.ensures.refused c.said_early.ensures.same told
 
 pub returns-in-Err-clause-refused : goal.returns-in-Err-clause-refused
 returns-in-Err-clause-refused g c input is =
@@ -16,6 +21,11 @@ pub returns-in-Ok-clause-too_long : goal.returns-in-Ok-clause-too_long
 returns-in-Ok-clause-too_long g c input is reached =
     let told = told_under _ _ _ input c.in-Some.ensures.some is in
     finished_is_not_too_long _ _ _ _ input c.finished.ensures.answer (c.in-Ok.ensures.ready input told)
+
+pub returns-in-Ok-clause-syntax : goal.returns-in-Ok-clause-syntax
+returns-in-Ok-clause-syntax g c input is place reached =
+    let told = told_under _ _ _ input c.in-Some.ensures.some is in
+    finished_has_no_fault _ _ _ _ input c.finished.ensures.answer (c.in-Ok.ensures.ready input told) place
 
 pub returns-in-Ok-clause-refused : goal.returns-in-Ok-clause-refused
 returns-in-Ok-clause-refused g c input is n why reached =
