@@ -261,6 +261,8 @@ fn building(alloc: Global, name: &str) -> Result<String, AllocError> {
 fn each_text_has_its_fault(rt: HostRuntime) -> Result<(), Fail> {
     let alloc = rt.alloc();
     let room = form(alloc, ROOM)?;
+    let no_line_feed = room.strip_suffix("\n").ok_or("no line feed")?;
+    let no_semicolon = room.strip_suffix(";\n").ok_or("no semicolon")?;
     let one = building(alloc, "#3")?;
     let twice = building(alloc, "#2")?;
     let thrice = building(alloc, "#1=A();#002=A();#2")?;
@@ -283,8 +285,8 @@ fn each_text_has_its_fault(rt: HostRuntime) -> Result<(), Fail> {
         (thrice.as_str(), 6, "refused #1: Duplicate\n"),
         (one.as_str(), 6, "refused #0: Unbuilt\n"),
         // The form without its last line feed, and without its last semicolon.
-        (&room[..room.len() - 1], 6, "refused #0: Unbuilt\n"),
-        (&room[..room.len() - 2], 5, "syntax at byte 603\n"),
+        (no_line_feed, 6, "refused #0: Unbuilt\n"),
+        (no_semicolon, 5, "syntax at byte 603\n"),
     ] {
         let left = left_by(alloc, file.as_bytes(), 0)?;
         assert_eq!(rt; left.status, want, "{file}");
