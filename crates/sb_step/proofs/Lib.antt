@@ -14,5 +14,7 @@ pub mod InstancesAreKept
 pub mod FoundsAreCollected
 pub mod ReadingGoesOn
 pub mod OneAnswerToAnInput
+pub mod BehindRules
 pub mod RecordsLie
+pub mod RecordsStand
 mod Examples
