@@ -18,4 +18,6 @@ pub mod OneAnswerToAnInput
 pub mod BehindRules
 pub mod RecordsLie
 pub mod RecordsStand
+pub mod OnlyOnePasses
+pub mod SchemaIsRead
 mod Examples
