@@ -14,7 +14,7 @@ use Rattle.sb_step.specs.Rules.{Rule, One, ◌⋅◌}
 use Rattle.sb_step.specs.Grammar.{BeginsSimple}
 use Rattle.sb_step.specs.Indexed.{Indexed}
 
--- a simple record that begins and whose keyword ends there has a keyword of these letters
+-- the record that begins there is simple, and its keyword has these letters
 abbrev pub is_spelled : List ℕ → List ℕ → ℕ → Form → Bool
 is_spelled letters input start (form.Simple end) = bytes_eq (slice_range input start end) letters
 is_spelled letters input start form.Complex = false
@@ -42,7 +42,8 @@ pub record HasOneString (input : List ℕ) (r : Record) (text : List ℕ) : Type
   pub are : AreTokens input (before ++ from) None
   pub stands : OneString r text (lexemes input from) rest
 
--- one entity of the header, and no second, is a FILE_SCHEMA, and the text is its one string
+-- one entity of the header, and no second, is a FILE_SCHEMA, and the text is its one string as it
+-- stands between its apostrophes, with each inside still doubled
 pub record IsSchema (indexed : Indexed) (text : List ℕ) : Type 0 where
   pub entity : Record
   pub only : filter (is_schema indexed.input) indexed.file.header ≡ entity ∷ []

@@ -6,7 +6,7 @@ use Rattle.sb_lex.specs.declared.kinds.Token.{Token}
 use Rattle.sb_lex.specs.Tokens.{AreTokensFrom, Reading, least_length}
 use Rattle.sb_step.specs.Lexemes.{is_open, is_close}
 
--- the only one
+-- the item of a list of one
 abbrev pub only_of : {A : Type 0} → List A → Option A
 only_of (x ∷ []) = Some x
 only_of _ = None
@@ -15,10 +15,12 @@ only_of _ = None
 abbrev pub StandsBefore : Reading → List Token → Type 0
 StandsBefore at tokens = AreTokensFrom at.input at.place tokens None
 
+-- the first, if there is one
 abbrev pub first_of : List Token → Option Token
 first_of [] = None
 first_of (t ∷ later) = Some t
 
+-- those behind the first
 abbrev pub behind_first : List Token → List Token
 behind_first [] = []
 behind_first (t ∷ later) = later
@@ -51,6 +53,7 @@ abbrev pub inside_of : Kind → ℕ → ℕ → List ℕ → Option (List ℕ)
 inside_of kind.Str start end input = Some (slice_range input (start + 1) (end - 1))
 inside_of _ start end input = None
 
+-- the same of a token, if there is one and it is a string
 abbrev pub inside : List ℕ → Option Token → Option (List ℕ)
 inside input None = None
 inside input (Some t) = inside_of t.kind t.start t.end input
