@@ -10,9 +10,14 @@ pub mod SomeTextGoesOn
 pub mod TextsEnd
 pub mod OneFileOrOneFault
 pub mod FramesAreBits
+pub mod OneUseMore
 pub mod InstancesAreKept
 pub mod FoundsAreCollected
 pub mod ReadingGoesOn
 pub mod OneAnswerToAnInput
+pub mod BehindRules
 pub mod RecordsLie
+pub mod RecordsStand
+pub mod OnlyOnePasses
+pub mod SchemaIsRead
 mod Examples

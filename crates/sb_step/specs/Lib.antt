@@ -6,9 +6,11 @@ pub mod Faults
 pub mod Numbers
 pub mod Indexed
 pub mod Spans
+pub mod Schema
 pub mod Answers
 pub mod Steps
 pub mod Machines
 pub mod Kept
 pub mod Collects
 pub mod Progress
+pub mod SchemaSteps

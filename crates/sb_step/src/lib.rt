@@ -11,6 +11,7 @@ mod kinds;
 mod laws;
 mod lists;
 mod machine;
+mod schema;
 mod sections;
 mod step_file;
 mod steps;

@@ -3,6 +3,7 @@ ghost use Rattle.std.specs.Option.{option_copied};
 ghost use Rattle.sb_step.specs.Spans as spec;
 
 use crate::file::{Form, Record};
+use crate::schema::{one_string, only_schema};
 use indexmap::IndexMap;
 use std::marker::Model;
 
@@ -12,12 +13,14 @@ pub struct StepFile<'a> {
     pub(crate) bytes: &'a [u8],
     pub(crate) header: Vec<Record>,
     pub(crate) instances: IndexMap<u32, Record>,
+    pub(crate) numbers: Vec<u32>,
+    pub(crate) greatest: u32,
     pub(crate) data_end: usize,
 }
 
 impl<'a> Model for StepFile<'a> {
     ghost use Rattle.sb_step.specs.Indexed.{Indexed};
-    ghost use Rattle.sb_step.specs.Answers.{IsIndexed};
+    ghost use Rattle.sb_step.specs.Answers.{Keeps};
 
     ghost Value = { Indexed };
 
@@ -30,7 +33,7 @@ impl<'a> Model for StepFile<'a> {
       };
     } };
 
-    ghost invariant = { λ s. IsIndexed s.bytes.now (record {
+    ghost invariant = { λ s. Keeps s.numbers.items s.greatest (record {
       input = s.bytes.now;
       file = record {
         header = s.header.items;
@@ -41,6 +44,24 @@ impl<'a> Model for StepFile<'a> {
 }
 
 impl<'a> StepFile<'a> {
+    ghost use Rattle.std.specs.Prelude.{◌↔◌, ℕ, List, Some, None};
+    ghost use Rattle.sb_step.specs.Numbers.{numbers_of, IsGreatest};
+    ghost use Rattle.sb_step.specs.Schema.{IsSchema, HasNoSchema};
+
+    /// The numbers of the instances in file order.
+    pub fn numbers(&self) -> &[u32]
+        ensures { result.now ≡ numbers_of self.now.file.instances }
+    {
+        self.numbers.as_slice()
+    }
+
+    /// The greatest number of an instance, and 0 where there is no instance.
+    pub fn greatest(&self) -> u32
+        ensures { IsGreatest result self.now.file.instances }
+    {
+        self.greatest
+    }
+
     /// The keyword of the instance of this number, found in constant time: `None` exactly where
     /// there is no such instance, or its record is complex.
     pub fn keyword(&self, number: u32) -> Option<&[u8]>
@@ -48,6 +69,31 @@ impl<'a> StepFile<'a> {
     {
         let record = self.instances.get(&number)?;
         keyword_at(self.bytes, *record)
+    }
+
+    /// The schema that the header names, as it stands between its apostrophes: the one string of the
+    /// one FILE_SCHEMA.
+    ///
+    /// - `Some(text)`: exactly where one entity of the header, and no second, is a FILE_SCHEMA, its
+    ///   list has one parameter, and this is a list of one string, the text in apostrophes.
+    /// - `None`: exactly where there is no such text.
+    pub fn schema(&self) -> Option<&[u8]>
+        ensures text { (text : List ℕ) → (option_copied result ≡ Some text)
+            ↔ IsSchema self.now text }
+        ensures none { (option_copied result ≡ None) ↔ HasNoSchema self.now }
+    {
+        self.read_schema()
+    }
+
+    fn read_schema(&self) -> Option<&[u8]>
+        ensures { (text : List ℕ) → (option_copied result ≡ Some text)
+            ↔ IsSchema self.now text }
+    {
+        let entity = only_schema(self.bytes, self.header.as_slice())?;
+        match entity.form {
+            Form::Simple(end) => one_string(self.bytes, end),
+            Form::Complex => None,
+        }
     }
 
     /// The first byte of the ENDSEC behind the instances.
