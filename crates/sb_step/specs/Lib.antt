@@ -10,6 +10,7 @@ pub mod Schema
 pub mod Answers
 pub mod Steps
 pub mod Machines
+pub mod Hashing
 pub mod Kept
 pub mod Collects
 pub mod Progress

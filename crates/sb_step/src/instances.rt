@@ -3,13 +3,18 @@ ghost use Rattle.std.specs.Prelude.{◌≡◌, max};
 ghost use Rattle.sb_step.specs.Steps as spec;
 
 use crate::file::Record;
+use crate::hashing::NumberHasher;
 use indexmap::IndexMap;
 use std::alloc::{AllocError, Global};
+use std::hash::BuildHasherDefault;
+
+/// Records by number, in the order in which they were inserted.
+pub(crate) type Records = IndexMap<u32, Record, BuildHasherDefault<NumberHasher>>;
 
 /// The records of instances, in order of the first use of their numbers.
 #[derive(Drop)]
 pub(crate) struct Instances {
-    pub records: IndexMap<u32, Record>,
+    pub records: Records,
     /// The numbers in file order.
     pub numbers: Vec<u32>,
     /// The greatest of them, and 0 where there is none.
@@ -28,7 +33,7 @@ impl Instances {
         ensures { IfOk result (AreKept []) }
     {
         Ok(Instances {
-            records: IndexMap::with_capacity(alloc, room)?,
+            records: Records::with_capacity_and_hasher(alloc, room, BuildHasherDefault::new())?,
             numbers: Vec::with_capacity(alloc, room)?,
             greatest: 0,
             doubled: None,

@@ -5,6 +5,7 @@
 mod collected;
 mod error;
 mod file;
+mod hashing;
 mod indexing;
 mod instances;
 mod kinds;

@@ -3,8 +3,8 @@ ghost use Rattle.std.specs.Option.{option_copied};
 ghost use Rattle.sb_step.specs.Spans as spec;
 
 use crate::file::{Form, Record};
+use crate::instances::Records;
 use crate::schema::{one_string, only_schema};
-use indexmap::IndexMap;
 use std::marker::Model;
 
 /// An exchange text whose instances are found by their numbers. It borrows the text.
@@ -12,7 +12,7 @@ use std::marker::Model;
 pub struct StepFile<'a> {
     pub(crate) bytes: &'a [u8],
     pub(crate) header: Vec<Record>,
-    pub(crate) instances: IndexMap<u32, Record>,
+    pub(crate) instances: Records,
     pub(crate) numbers: Vec<u32>,
     pub(crate) greatest: u32,
     pub(crate) data_end: usize,
