@@ -17,4 +17,10 @@ pub mod OneAnswerToAnInput
 pub mod BehindRules
 pub mod RecordsLie
 pub mod RecordsStand
+pub mod DoubledApostrophes
+pub mod InsidesOfTokens
+pub mod SaidIsParameter
+pub mod ParametersAreRead
+pub mod ListsAreRead
+pub mod ParametersByToken
 mod Examples

@@ -6,6 +6,8 @@ pub mod Faults
 pub mod Numbers
 pub mod Indexed
 pub mod Spans
+pub mod Parameters
+pub mod Reads
 pub mod Answers
 pub mod Steps
 pub mod Machines

@@ -11,14 +11,18 @@ mod kinds;
 mod laws;
 mod lists;
 mod machine;
+mod param;
+mod reading;
 mod sections;
 mod step_file;
 mod steps;
+mod values;
 #[cfg(test)]
 mod tests;
 
-pub use crate::error::StepError;
+pub use crate::error::{ParamsError, StepError};
 pub use crate::file::{Form, Record};
 pub use crate::indexing::index;
 pub use crate::laws::one_file_or_one_fault;
+pub use crate::param::{Param, Params};
 pub use crate::step_file::StepFile;
