@@ -1,18 +1,21 @@
 -- Single lists of lexemes: texts that the grammar has, and places where it goes on no further. Each
 -- is found by computing.
-use Rattle.std.proofs.Common.{◌≡◌, List, [], ◌∷◌, ◌++◌, Some, None, refl}
+use Rattle.std.proofs.Common.{◌≡◌, ℕ, List, [], ◌∷◌, ◌++◌, Some, None, refl, arith}
 use Rattle.std.specs.Prelude.{codes, replicate}
 use Rattle.sb_lex.specs.declared.kinds.Kind.TheVariants as kind
 use Rattle.sb_lex.specs.declared.kinds.Mark.TheVariants as mark
 use Rattle.sb_lex.specs.declared.kinds.Word.TheVariants as word
 use Rattle.sb_step.specs.declared.file.Form.TheVariants as form
+use Rattle.sb_step.specs.declared.file.Record.{Record}
 use Rattle.sb_step.specs.Lexemes.{Lexeme}
 use Rattle.sb_step.specs.Grammar.{IsText}
 use Rattle.sb_step.specs.Faults.{BeginsText}
+use Rattle.sb_step.specs.Numbers.{IsGreatest}
 use Rattle.sb_step.specs.Steps.{step, start, Ran, run}
 use Rattle.sb_step.proofs.SomeTextGoesOn.{lexeme_of, mark_of, keyword_of}
 use Rattle.sb_step.proofs.TextsEnd.{ends_text, runs_begin}
 use Rattle.sb_step.proofs.OneFileOrOneFault.{stops}
+use Rattle.sb_step.proofs.OneUseMore.{greatest_more}
 
 -- a text begins with the lexemes, and none with one more
 record StopsAt (xs : List Lexeme) (x : Lexeme) : Type 0 where
@@ -125,3 +128,26 @@ in_typed =
 
 one_typed : StopsAt in_typed (mark_of mark.Comma)
 one_typed = stops_at in_typed (mark_of mark.Comma) _ refl refl
+
+-- the greatest number
+
+abbrev pub at_start : Record
+at_start = record { start = 0; end = 0; form = form.Complex }
+
+-- `#5` and `#3`
+abbrev pub two_instances : List (ℕ × Record)
+two_instances = (5, at_start) ∷ (3, at_start) ∷ []
+
+five_is_greatest : IsGreatest 5 two_instances
+five_is_greatest =
+    greatest_more 5 ((5, at_start) ∷ []) (3, at_start)
+    (greatest_more 0 [] (5, at_start) refl)
+
+the_last_is_not : IsGreatest 3 two_instances → ⊥
+the_last_is_not is = let less = is.greatest 5 (omega arith) in absurd (omega (arith, less))
+
+six_is_not_there : IsGreatest 6 two_instances → ⊥
+six_is_not_there is = absurd (omega (arith, is.used))
+
+none_is_zero : (n : ℕ) → IsGreatest n [] → n ≡ 0
+none_is_zero n is = is

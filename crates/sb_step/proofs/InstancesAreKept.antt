@@ -1,37 +1,16 @@
 -- One instance more is kept: its number and record, or the least number that was used twice.
-use Rattle.std.proofs.Common.{◌≡◌, ℕ, ◌+◌, ◌<◌, ◌≤◌, ◌⊎◌, true, false, cond, eqb, ltb, List, [], ◌∷◌, ◌++◌, Option, Some, None, refl, sym, ap, ◌∙◌, subst, inl, inr, ⊎_elim, arith}
-use Rattle.std.specs.Prelude.{is_some, nat_eq, nat_lt}
+use Rattle.std.proofs.Common.{◌≡◌, ℕ, ◌<◌, ◌≤◌, ◌⊎◌, true, false, eqb, ltb, List, [], ◌∷◌, ◌++◌, Option, Some, None, refl, sym, ap, ◌∙◌, subst, inl, inr, ⊎_elim, arith}
+use Rattle.std.specs.Prelude.{max, is_some, nat_eq, nat_lt}
 use Rattle.std.proofs.lemmas.Bool.{cases_Bool, eqb-true, eq-eqb, lt-ltb, ltb-true, ltb-false, cond-true, cond-false}
-use Rattle.std.proofs.lemmas.List.Sums.{sum_by_push}
+use Rattle.std.proofs.lemmas.List.{map-append}
 use Rattle.std.proofs.lemmas.Option.{none-some}
 use Rattle.indexmap.specs.IndexMap.{get}
 use Rattle.sb_step.specs.declared.file.Record.{Record}
 use Rattle.sb_step.specs.declared.instances.Instances.{Instances}
 use Rattle.sb_step.specs.Steps.{least_of}
-use Rattle.sb_step.specs.Numbers.{uses, IsUsedTwice, IsLeastTwice}
+use Rattle.sb_step.specs.Numbers.{numbers_of, uses, IsUsedTwice, IsLeastTwice, IsGreatest}
 use Rattle.sb_step.specs.Kept.{IsDoubled, AreKept}
-
-uses-push : (q : ℕ) (instances : List (ℕ × Record)) (i : ℕ × Record)
-    → uses q (instances ++ i ∷ []) ≡ uses q instances + cond (eqb i.0 q) 1 0
-uses-push q instances i = sum_by_push (λ j. cond (eqb j.0 q) 1 0) instances i
-
--- one more use of this number
-here_more : (q : ℕ) (instances : List (ℕ × Record)) (i : ℕ × Record) → eqb i.0 q ≡ true
-    → uses q (instances ++ i ∷ []) ≡ uses q instances + 1
-here_more q instances i same =
-    uses-push q instances i ∙ ap (λ b. uses q instances + cond b 1 0) same
-
--- no more use of another
-there_more : (q : ℕ) (instances : List (ℕ × Record)) (i : ℕ × Record) → eqb i.0 q ≡ false
-    → uses q (instances ++ i ∷ []) ≡ uses q instances
-there_more q instances i apart =
-    let e : uses q (instances ++ i ∷ []) ≡ uses q instances + 0 =
-    uses-push q instances i ∙ ap (λ b. uses q instances + cond b 1 0) apart in
-    omega (arith, e)
-
-never_less : (q : ℕ) (instances : List (ℕ × Record)) (i : ℕ × Record)
-    → uses q instances ≤ uses q (instances ++ i ∷ [])
-never_less q instances i = omega (arith, uses-push q instances i)
+use Rattle.sb_step.proofs.OneUseMore.{here_more, there_more, never_less, greatest_more}
 
 module _ (instances : List (ℕ × Record)) (n : ℕ) (r : Record) where
   -- a number that was not used
@@ -95,39 +74,54 @@ module _ (instances : List (ℕ × Record)) (n : ℕ) (r : Record) where
       (cases_Bool (ltb d n))
 
   -- which numbers are there
-  numbers_more : (old new : Instances) → AreKept instances old
+  known_more : (old new : Instances) → AreKept instances old
       → is_some (get nat_eq new.records n) ≡ true
       → ((q : ℕ) → eqb n q ≡ false → get nat_eq new.records q ≡ get nat_eq old.records q)
       → (q : ℕ) → is_some (get nat_eq new.records q) ≡ nat_lt 0
       (uses q (instances ++ (n, r) ∷ []))
-  numbers_more old new kept there others q =
+  known_more old new kept there others q =
       ⊎_elim
       (λ same. ap (λ k. is_some (get nat_eq new.records k)) (sym (eqb-true n q same)) ∙ there
       ∙ sym (lt-ltb 0 (uses q (instances ++ (n, r) ∷ []))
       (omega (arith, here_more q instances (n, r) same))))
-      (λ other. ap is_some (others q other) ∙ kept.numbers q
+      (λ other. ap is_some (others q other) ∙ kept.known q
       ∙ ap (λ k. nat_lt 0 k) (sym (there_more q instances (n, r) other)))
       (cases_Bool (eqb n q))
 
   none_used : (old : Instances) → AreKept instances old → get nat_eq old.records n ≡ None
       → uses n instances ≡ 0
   none_used old kept none =
-      let low = ltb-false 0 (uses n instances) (sym (kept.numbers n) ∙ ap is_some none) in
+      let low = ltb-false 0 (uses n instances) (sym (kept.known n) ∙ ap is_some none) in
       omega (arith, low)
 
   one_used : (old : Instances) (x : Record) → AreKept instances old
       → get nat_eq old.records n ≡ Some x → 0 < uses n instances
   one_used old x kept there =
-      ltb-true 0 (uses n instances) (sym (kept.numbers n) ∙ ap is_some there)
+      ltb-true 0 (uses n instances) (sym (kept.known n) ∙ ap is_some there)
+
+  -- its number is behind the others, and the greatest is the greater of the two
+  pub record Numbered (old new : Instances) : Type 0 where
+    pub numbers : new.numbers.items ≡ old.numbers.items ++ n ∷ []
+    pub greatest : new.greatest ≡ max old.greatest n
+
+  numbers_more : (numbers : List ℕ) → numbers ≡ numbers_of instances
+      → numbers ++ n ∷ [] ≡ numbers_of (instances ++ (n, r) ∷ [])
+  numbers_more numbers are =
+      ap (λ l. l ++ n ∷ []) are ∙ sym (map-append (λ i. i.0) instances ((n, r) ∷ []))
 
   -- a first use is kept
   pub kept_first : (old new : Instances) → AreKept instances old
       → get nat_eq old.records n ≡ None → is_some (get nat_eq new.records n) ≡ true
       → ((q : ℕ) → eqb n q ≡ false → get nat_eq new.records q ≡ get nat_eq old.records q)
       → new.records.entries ≡ old.records.entries ++ (n, r) ∷ [] → new.doubled ≡ old.doubled
+      → Numbered old new
       → AreKept (instances ++ (n, r) ∷ []) new
-  kept_first old new kept none there others entries doubled = record {
-    numbers = numbers_more old new kept there others;
+  kept_first old new kept none there others entries doubled numbered = record {
+    numbers = numbered.numbers
+        ∙ numbers_more old.numbers.items kept.numbers;
+    greatest = subst (λ g. IsGreatest g (instances ++ (n, r) ∷ [])) (sym numbered.greatest)
+        (greatest_more old.greatest instances (n, r) kept.greatest);
+    known = known_more old new kept there others;
     doubled = subst (λ d. IsDoubled d (instances ++ (n, r) ∷ [])) (sym doubled)
         (first_use old.doubled (none_used old kept none) kept.doubled);
     entries = λ apart. entries
@@ -138,9 +132,13 @@ module _ (instances : List (ℕ × Record)) (n : ℕ) (r : Record) where
   pub kept_further : (old new : Instances) (x : Record) → AreKept instances old
       → get nat_eq old.records n ≡ Some x → is_some (get nat_eq new.records n) ≡ true
       → ((q : ℕ) → eqb n q ≡ false → get nat_eq new.records q ≡ get nat_eq old.records q)
-      → new.doubled ≡ Some (least_of old.doubled n) → AreKept (instances ++ (n, r) ∷ []) new
-  kept_further old new x kept found there others doubled = record {
-    numbers = numbers_more old new kept there others;
+      → new.doubled ≡ Some (least_of old.doubled n) → Numbered old new → AreKept (instances ++ (n, r) ∷ []) new
+  kept_further old new x kept found there others doubled numbered = record {
+    numbers = numbered.numbers
+        ∙ numbers_more old.numbers.items kept.numbers;
+    greatest = subst (λ g. IsGreatest g (instances ++ (n, r) ∷ [])) (sym numbered.greatest)
+        (greatest_more old.greatest instances (n, r) kept.greatest);
+    known = known_more old new kept there others;
     doubled = subst (λ d. IsDoubled d (instances ++ (n, r) ∷ [])) (sym doubled)
         (further_use old.doubled (one_used old x kept found) kept.doubled);
     entries = λ apart. absurd (none-some _ (sym apart ∙ doubled));

@@ -10,6 +10,7 @@ pub mod SomeTextGoesOn
 pub mod TextsEnd
 pub mod OneFileOrOneFault
 pub mod FramesAreBits
+pub mod OneUseMore
 pub mod InstancesAreKept
 pub mod FoundsAreCollected
 pub mod ReadingGoesOn

@@ -11,10 +11,10 @@ use Rattle.sb_step.specs.declared.steps.Found.{Found}
 use Rattle.sb_step.specs.declared.collected.Collected.{Collected}
 use Rattle.sb_step.specs.Lexemes.{lexeme_at, lexemes}
 use Rattle.sb_step.specs.Faults.{IsFile, IsFaultAt}
-use Rattle.sb_step.specs.Numbers.{AreApart}
+use Rattle.sb_step.specs.Numbers.{numbers_of, AreApart, IsGreatest}
 use Rattle.sb_step.specs.Answers.{IsAnswer}
 use Rattle.sb_step.specs.Steps.{State, step, start, end_of, file_of, instances_of, Ran, run}
-use Rattle.sb_step.specs.Kept.{IsDoubled}
+use Rattle.sb_step.specs.Kept.{IsDoubled, NumbersAreKept}
 use Rattle.sb_step.specs.Collects.{AreCollected}
 use Rattle.sb_step.specs.Progress.{TokensTo, Progress, Accepted, Accepts, by_doubled, finished}
 use Rattle.sb_step.proofs.TextsEnd.{ends_text, runs_begin}
@@ -183,6 +183,17 @@ end_answers input place s c (Some k) ended p ends =
       text = ends_text (lexemes input p.before) (record { state = s; founds = p.founds }) k
           p.reads ended;
     })
+
+-- the numbers are those of the map, as long as none was used twice
+pub numbers_at_end : (input : List ℕ) (place : ℕ) (s : State) (c : Collected)
+    → Progress input place s c → NumbersAreKept c.instances
+numbers_at_end input place s c p =
+    let kept = p.collected.instances in
+    record {
+      numbers = λ apart. kept.numbers ∙ sym (ap numbers_of (kept.entries apart));
+      greatest =
+          λ apart. subst (IsGreatest c.instances.greatest) (sym (kept.entries apart)) kept.greatest;
+    }
 
 -- what is answered there is so
 pub answer_at_end : (input : List ℕ) (place : ℕ) (s : State) (c : Collected)

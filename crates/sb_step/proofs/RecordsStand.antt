@@ -187,7 +187,8 @@ instance_stands input f is test r found end simple =
     let a = found_among test f.instances r found in
     let s = item_stands Holds tail IsInstance (instance_leaves Holds tail) a.front a.back
     (a.number, r) p.instances_at p.instances_rest
-    (subst (λ is. Each IsInstance is p.instances_at p.instances_rest) a.joined p.instances) p.instances_hold in
+    (subst (λ each. Each IsInstance each p.instances_at p.instances_rest) a.joined p.instances)
+    p.instances_hold in
     let named = one_leaves Holds tail _ s.at s.is.middle s.is.first s.holds in
     record_stands input is.tokens r is.are end simple s.is.second.middle s.rest
     s.is.second.second

@@ -4,7 +4,7 @@ use Rattle.sb_step.specs.declared.error.StepError.{StepError}
 use Rattle.sb_step.specs.declared.error.StepError.TheVariants as step_error
 use Rattle.sb_step.specs.Grammar.{File}
 use Rattle.sb_step.specs.Faults.{IsFile, IsFaultAt}
-use Rattle.sb_step.specs.Numbers.{AreApart, IsLeastTwice}
+use Rattle.sb_step.specs.Numbers.{numbers_of, AreApart, IsLeastTwice, IsGreatest}
 use Rattle.sb_step.specs.Indexed.{Indexed}
 
 -- the input is this file, and no number is used twice in it
@@ -12,6 +12,12 @@ pub record IsIndexed (input : List ℕ) (indexed : Indexed) : Type 0 where
   pub input_is : indexed.input ≡ input
   pub file : IsFile input indexed.file
   pub apart : AreApart indexed.file.instances
+
+-- a file that was indexed, the numbers of its instances in file order, and the greatest
+pub record Keeps (numbers : List ℕ) (greatest : ℕ) (indexed : Indexed) : Type 0 where
+  pub is : IsIndexed indexed.input indexed
+  pub numbers_are : numbers ≡ numbers_of indexed.file.instances
+  pub greatest_is : IsGreatest greatest indexed.file.instances
 
 -- the input is a file, and this is the least of the numbers that are used twice in it
 pub record HasDoubled (input : List ℕ) (n : ℕ) : Type 0 where

@@ -3,6 +3,7 @@ ghost use Rattle.std.specs.Prelude.{◌≡◌, ◌↔◌, ℕ, [], Ok, Err};
 ghost use Rattle.sb_step.specs.Answers.{IsAnswer, IsInTime, IsIndexed, HasDoubled};
 ghost use Rattle.sb_step.specs.Faults.{IsFaultAt};
 ghost use Rattle.sb_step.specs.Indexed.{Indexed};
+ghost use Rattle.sb_step.specs.Kept.{NumbersAreKept};
 ghost use Rattle.sb_step.specs.Collects.{AreCollected};
 ghost use Rattle.sb_step.specs.Machines.{state_of};
 ghost use Rattle.sb_step.specs.Progress as spec;
@@ -96,11 +97,17 @@ fn finish<'a>(
     end: Option<usize>,
     collected: Collected,
 ) -> Result<StepFile<'a>, StepError>
-    requires { IsAnswer bytes.now (spec.finished bytes.now end collected) }
+    requires answer { IsAnswer bytes.now (spec.finished bytes.now end collected) }
+    requires numbers { NumbersAreKept collected.instances }
     ensures { IsAnswer bytes.now result }
 {
     let Collected { header, instances } = collected;
-    let Instances { records, doubled } = instances;
+    let Instances {
+        records,
+        numbers,
+        greatest,
+        doubled,
+    } = instances;
     match end {
         Some(data_end) => match doubled {
             Some(number) => Err(StepError::Duplicate(number)),
@@ -108,6 +115,8 @@ fn finish<'a>(
                 bytes,
                 header,
                 instances: records,
+                numbers,
+                greatest,
                 data_end,
             }),
         },

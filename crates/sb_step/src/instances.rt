@@ -1,5 +1,5 @@
 // The instances that were read, by their numbers.
-ghost use Rattle.std.specs.Prelude.{◌≡◌};
+ghost use Rattle.std.specs.Prelude.{◌≡◌, max};
 ghost use Rattle.sb_step.specs.Steps as spec;
 
 use crate::file::Record;
@@ -10,6 +10,10 @@ use std::alloc::{AllocError, Global};
 #[derive(Drop)]
 pub(crate) struct Instances {
     pub records: IndexMap<u32, Record>,
+    /// The numbers in file order.
+    pub numbers: Vec<u32>,
+    /// The greatest of them, and 0 where there is none.
+    pub greatest: u32,
     /// The least number that was used twice.
     pub doubled: Option<u32>,
 }
@@ -25,6 +29,8 @@ impl Instances {
     {
         Ok(Instances {
             records: IndexMap::with_capacity(alloc, room)?,
+            numbers: Vec::with_capacity(alloc, room)?,
+            greatest: 0,
             doubled: None,
         })
     }
@@ -34,12 +40,20 @@ impl Instances {
         ensures { (instances : List (ℕ × Found)) → OnOk result (AreKept instances self.old
             → AreKept (instances ++ (number, body) ∷ []) self.new) }
     {
+        self.numbers.push(number)?;
+        self.greatest = greater(self.greatest, number);
         let known = self.records.insert(number, body)?;
         if known.is_some() {
             self.doubled = Some(least(self.doubled, number));
         }
         Ok(())
     }
+}
+
+fn greater(greatest: u32, number: u32) -> u32
+    ensures { result ≡ max greatest number }
+{
+    greatest.max(number)
 }
 
 fn least(doubled: Option<u32>, number: u32) -> u32

@@ -12,12 +12,14 @@ pub struct StepFile<'a> {
     pub(crate) bytes: &'a [u8],
     pub(crate) header: Vec<Record>,
     pub(crate) instances: IndexMap<u32, Record>,
+    pub(crate) numbers: Vec<u32>,
+    pub(crate) greatest: u32,
     pub(crate) data_end: usize,
 }
 
 impl<'a> Model for StepFile<'a> {
     ghost use Rattle.sb_step.specs.Indexed.{Indexed};
-    ghost use Rattle.sb_step.specs.Answers.{IsIndexed};
+    ghost use Rattle.sb_step.specs.Answers.{Keeps};
 
     ghost Value = { Indexed };
 
@@ -30,7 +32,7 @@ impl<'a> Model for StepFile<'a> {
       };
     } };
 
-    ghost invariant = { λ s. IsIndexed s.bytes.now (record {
+    ghost invariant = { λ s. Keeps s.numbers.items s.greatest (record {
       input = s.bytes.now;
       file = record {
         header = s.header.items;
@@ -41,6 +43,22 @@ impl<'a> Model for StepFile<'a> {
 }
 
 impl<'a> StepFile<'a> {
+    ghost use Rattle.sb_step.specs.Numbers.{numbers_of, IsGreatest};
+
+    /// The numbers of the instances in file order.
+    pub fn numbers(&self) -> &[u32]
+        ensures { result.now ≡ numbers_of self.now.file.instances }
+    {
+        self.numbers.as_slice()
+    }
+
+    /// The greatest number of an instance, and 0 where there is no instance.
+    pub fn greatest(&self) -> u32
+        ensures { IsGreatest result self.now.file.instances }
+    {
+        self.greatest
+    }
+
     /// The keyword of the instance of this number, found in constant time: `None` exactly where
     /// there is no such instance, or its record is complex.
     pub fn keyword(&self, number: u32) -> Option<&[u8]>

@@ -227,6 +227,29 @@ fn no_front_of_a_text_is_one(rt: HostRuntime) -> Result<(), Fail> {
     Ok(())
 }
 
+// Data, the numbers of its instances in file order, and the greatest.
+const NUMBERS: [(&[u8], &[u32], u32); 6] = [
+    (b"", &[], 0),
+    (b"#7=A();", &[7], 7),
+    (b"#5=A();#9=(A()B());#2=C(#9);", &[5, 9, 2], 9),
+    (b"#3=A();#1=A();#2=A();", &[3, 1, 2], 3),
+    (b"#1=A();#2=A();#0000000030=A();", &[1, 2, 30], 30),
+    (b"#4294967295=A();#1=A();", &[4294967295, 1], 4294967295),
+];
+
+#[test]
+fn numbers_in_file_order(rt: HostRuntime) -> Result<(), Fail> {
+    for (data, numbers, greatest) in NUMBERS {
+        let text = joined(rt.alloc(), &[HEAD, data, TAIL])?;
+        let found = match index(rt.alloc(), &text) {
+            Ok(file) => file.numbers() == numbers && file.greatest() == greatest,
+            Err(_) => false,
+        };
+        assert!(rt; found, "{numbers:?} and {greatest}");
+    }
+    Ok(())
+}
+
 #[test]
 fn keywords_by_number(rt: HostRuntime) -> Result<(), Fail> {
     let text = joined(rt.alloc(), &[HEAD, b"#7=WALL(); #2=(A()B());", TAIL])?;

@@ -4,7 +4,7 @@ use Rattle.sb_step.specs.Answers.{IsAnswer}
 use Rattle.sb_step.specs.Steps.{start}
 use Rattle.sb_step.specs.Machines.{state_of}
 use Rattle.sb_step.specs.Progress.{Progress, finished}
-use Rattle.sb_step.proofs.ReadingGoesOn.{nothing_read, one_more, fault_at_bad, answer_at_end, error_answers}
+use Rattle.sb_step.proofs.ReadingGoesOn.{nothing_read, one_more, fault_at_bad, answer_at_end, numbers_at_end, error_answers}
 use Rattle.sb_step.proofs.indexing.read_into.Goals as goal
 
 pub tokens-init : goal.tokens-init
@@ -53,8 +53,12 @@ returns-in-Err-accept c =
     (state_of c.accept.new.machine) c.tokens.collected c.accept.new.collected
     c.in-Err-accept.error invariant.progress next c.in-Err-accept.ensures
 
-pub finish-requires : goal.finish-requires
-finish-requires c =
+pub finish-requires-clause-numbers : goal.finish-requires-clause-numbers
+finish-requires-clause-numbers c = numbers_at_end c.args.bytes.now c.tokens.lexer.place
+    (state_of c.tokens.machine) c.tokens.collected c.tokens.invariant.progress
+
+pub finish-requires-clause-answer : goal.finish-requires-clause-answer
+finish-requires-clause-answer c =
     let input = c.args.bytes.now in
     let place = c.tokens.lexer.place in
     let invariant = c.tokens.invariant in
