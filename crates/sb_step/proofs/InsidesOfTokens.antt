@@ -23,7 +23,7 @@ take_front : (s rest : List ℕ) → take (length s) (s ++ rest) ≡ s
 take_front [] rest = refl
 take_front (b ∷ s) rest = ap (λ l. b ∷ l) (take_front s rest)
 
-inside_between : (a b : ℕ) (s : List ℕ) → inside_of (a ∷ (s ++ b ∷ [])) ≡ s
+pub inside_between : (a b : ℕ) (s : List ℕ) → inside_of (a ∷ (s ++ b ∷ [])) ≡ s
 inside_between a b s =
     let size : length (a ∷ (s ++ b ∷ [])) - 1 - 1 ≡ length s =
     omega (arith, length-append s (b ∷ [])) in

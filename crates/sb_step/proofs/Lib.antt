@@ -24,4 +24,6 @@ pub mod SaidIsParameter
 pub mod ParametersAreRead
 pub mod ListsAreRead
 pub mod ParametersByToken
+pub mod ParametersAreUnique
+pub mod ParametersOfAnInstance
 mod Examples

@@ -34,7 +34,7 @@ list_awaited at x o w = record {
   is = list_on_mark x w.xs w.rest o (parameter_on w.is);
 }
 
-said_behind : (x : Lexeme) (ps : List Param) (xs rest : List Lexeme) → IsMark mark.Open x
+pub said_behind : (x : Lexeme) (ps : List Param) (xs rest : List Lexeme) → IsMark mark.Open x
     → AreInList ps xs rest → AreParameters ps (x ∷ xs) rest
 said_behind x [] [] rest o says = absurd says
 said_behind x [] (y ∷ xs) rest o says =

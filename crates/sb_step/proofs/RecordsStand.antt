@@ -197,7 +197,7 @@ instance_stands input f is test r found end simple =
 -- where one reads on behind the keyword
 
 -- tokens behind the first ones
-tokens_behind : (input : List ℕ) (from : ℕ) (before behind : List Token) (t : Token)
+pub tokens_behind : (input : List ℕ) (from : ℕ) (before behind : List Token) (t : Token)
     (bad : Option BadToken) → AreTokensFrom input from (before ++ t ∷ behind) bad
     → (at : ℕ) × IsNext input at t × AreTokensFrom input t.end behind bad
 tokens_behind input from [] behind t bad are = (from, are.0, are.1)

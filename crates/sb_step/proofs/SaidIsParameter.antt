@@ -15,7 +15,7 @@ use Rattle.sb_step.specs.Parameters.AreParameters.{empty, some}
 use Rattle.sb_step.specs.Parameters.AreFurther.{last, more}
 
 -- a token that says something is a parameter by itself
-says_value : (k : Kind) (text : List ℕ) (p : Param) → Says k text p → is_value k ≡ true
+pub says_value : (k : Kind) (text : List ℕ) (p : Param) → Says k text p → is_value k ≡ true
 says_value kind.Integer text p says = refl
 says_value kind.Real text p says = refl
 says_value kind.Str text p says = refl

@@ -8,6 +8,7 @@ pub mod Indexed
 pub mod Spans
 pub mod Parameters
 pub mod Reads
+pub mod Held
 pub mod Answers
 pub mod Steps
 pub mod Machines
