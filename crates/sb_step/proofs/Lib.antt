@@ -26,4 +26,6 @@ pub mod ListsAreRead
 pub mod ParametersByToken
 pub mod ParametersAreUnique
 pub mod ParametersOfAnInstance
+pub mod ParametersExist
 mod Examples
+mod ParameterExamples

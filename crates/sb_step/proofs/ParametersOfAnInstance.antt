@@ -79,6 +79,26 @@ stands_once at (x ∷ xs) (y ∷ ys) a b =
     (subst (λ t. Stands (behind at.input t) xs) token a.2) b.2 in
     (λ i. first i ∷ later i)
 
+-- a record holds what its list says
+pub holds_said : (input : List ℕ) (r : Record) (s : SimpleStands input r) (ps : List Param)
+    → AreParameters ps (lexemes input (s.inside ++ s.semicolon ∷ s.after))
+    (lexemes input (s.semicolon ∷ s.after)) → HoldsParameters input r ps
+holds_said input r s ps says = record {
+  before = s.before;
+  from = s.keyword ∷ (s.inside ++ s.semicolon ∷ s.after);
+  are = s.are;
+  rest = lexemes input s.after;
+  says = record {
+    middle = lexemes input (s.inside ++ s.semicolon ∷ s.after);
+    first = (s.begins, refl);
+    second = record {
+      middle = lexemes input (s.semicolon ∷ s.after);
+      first = says;
+      second = ((s.closes, s.ends), refl);
+    };
+  };
+}
+
 -- the instance that is found
 
 module _ (input : List ℕ) (f : File) (is : IsFile input f) (test : ℕ → Bool) (r : Record)
@@ -110,23 +130,10 @@ module _ (input : List ℕ) (f : File) (is : IsFile input f) (test : ℕ → Boo
   holds_by ps (form.Simple end) simple says =
       let s = standing end simple in
       let o = reads_on input r end simple s in
-      let list = lexemes input (s.inside ++ s.semicolon ∷ s.after) in
-      record {
-        before = s.before;
-        from = s.keyword ∷ (s.inside ++ s.semicolon ∷ s.after);
-        are = s.are;
-        rest = lexemes input s.after;
-        says = record {
-          middle = list;
-          first = (s.begins, refl);
-          second = record {
-            middle = lexemes input (s.semicolon ∷ s.after);
-            first = says list (lexemes input (s.semicolon ∷ s.after))
-                (stands_before input end (s.inside ++ s.semicolon ∷ s.after) o.are) s.list;
-            second = ((s.closes, s.ends), refl);
-          };
-        };
-      }
+      holds_said input r s ps
+      (says (lexemes input (s.inside ++ s.semicolon ∷ s.after))
+      (lexemes input (s.semicolon ∷ s.after))
+      (stands_before input end (s.inside ++ s.semicolon ∷ s.after) o.are) s.list)
   holds_by ps form.Complex complex says = says
 
   -- and what it says is what the instance holds

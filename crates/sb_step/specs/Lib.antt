@@ -6,10 +6,10 @@ pub mod Faults
 pub mod Numbers
 pub mod Indexed
 pub mod Spans
+pub mod Answers
 pub mod Parameters
 pub mod Reads
 pub mod Held
-pub mod Answers
 pub mod Steps
 pub mod Machines
 pub mod Kept

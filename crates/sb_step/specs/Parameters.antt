@@ -14,8 +14,9 @@ use Rattle.sb_step.specs.declared.param.Param.{Param}
 use Rattle.sb_step.specs.declared.param.Param.TheVariants as param
 use Rattle.sb_step.specs.Lexemes.{Lexeme, lexemes, IsKeyword, IsMark}
 use Rattle.sb_step.specs.Rules.{Rule, One, ◌⋅◌}
-use Rattle.sb_step.specs.Grammar.{BeginsSimple, SemicolonAt}
+use Rattle.sb_step.specs.Grammar.{BeginsSimple, SemicolonAt, ParameterList}
 use Rattle.sb_step.specs.Indexed.{Indexed}
+use Rattle.sb_step.specs.Answers.{IsIndexed}
 
 -- a byte as it is written in a string: an apostrophe twice
 abbrev pub written : ℕ → List ℕ
@@ -95,3 +96,29 @@ pub record HasParameters (indexed : Indexed) (n : ℕ) (ps : List Param) : Type 
   pub record_of : Record
   pub found : lookup (nat_eq n) indexed.file.instances ≡ Some record_of
   pub holds : HoldsByForm record_of.form indexed.input record_of ps
+
+-- Laws
+
+-- each instance of a file has parameters
+abbrev pub EachInstanceHasParameters : Type 0
+EachInstanceHasParameters =
+    (indexed : Indexed) (n : ℕ) (r : Record) → IsIndexed indexed.input indexed
+    → lookup (nat_eq n) indexed.file.instances ≡ Some r
+    → (ps : List Param) × HasParameters indexed n ps
+
+-- and no others
+abbrev pub ParametersAreUnique : Type 0
+ParametersAreUnique =
+    (indexed : Indexed) (n : ℕ) (ps qs : List Param) → HasParameters indexed n ps
+    → HasParameters indexed n qs → ps ≡ qs
+
+-- only the lists of the grammar say parameters
+abbrev pub OnlyListsSayParameters : Type 0
+OnlyListsSayParameters =
+    (ps : List Param) (xs rest : List Lexeme) → AreParameters ps xs rest → ParameterList xs rest
+
+-- and none says two lists of parameters, or ends at two places
+abbrev pub EachListSaysOne : Type 0
+EachListSaysOne =
+    (ps qs : List Param) (xs rest other : List Lexeme) → AreParameters ps xs rest
+    → AreParameters qs xs other → (ps ≡ qs) × (rest ≡ other)

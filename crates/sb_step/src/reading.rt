@@ -86,11 +86,7 @@ fn typed(
 
 /// The parameters behind the parenthesis of a list, to its end.
 #[cycle(reading)]
-pub(crate) fn list(
-    alloc: Global,
-    bytes: &[u8],
-    lexer: &mut Lexer<'_>,
-) -> Result<Params, AllocError>
+pub(crate) fn list(alloc: Global, bytes: &[u8], lexer: &mut Lexer<'_>) -> Result<Params, AllocError>
     requires input { lexer.old.input ≡ bytes.now }
     requires awaits { Awaits InList lexer.old }
     ensures { IfOk result (λ ps. Reads InList (AreInList ps) lexer.old lexer.new) }
