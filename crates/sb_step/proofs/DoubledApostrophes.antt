@@ -28,46 +28,46 @@ written_head b rest c more same = by_case (b == apostrophe) same
     by_case true same = cc
     by_case false same = cc
 
-module _ (bytes single : List ℕ) (at : ℕ) (h : HalfRead bytes single at) (within : at < length bytes)
-  where
-    abbrev pub byte : ℕ
-    byte = get_or bytes at 0
+module _ (bytes single : List ℕ) (at : ℕ) (h : HalfRead bytes single at)
+    (within : at < length bytes) where
+  abbrev pub byte : ℕ
+  byte = get_or bytes at 0
 
-    stands : drop at bytes ≡ byte ∷ drop (suc at) bytes
-    stands = drop-cons bytes at 0 within
+  stands : drop at bytes ≡ byte ∷ drop (suc at) bytes
+  stands = drop-cons bytes at 0 within
 
-    one_by : (later : List ℕ) → drop at bytes ≡ doubled later
-        → HalfRead bytes (single ++ byte ∷ []) (at + length (written byte))
-    one_by [] same =
-        let some : byte ∷ drop (suc at) bytes ≡ [] = sym stands ∙ same in
-        absurd (cc)
-    one_by (c ∷ later) same =
-        let first : byte ≡ c = written_head c (doubled later) byte (drop (suc at) bytes)
-        (sym stands ∙ same) in
-        let now : drop at bytes ≡ written byte ++ doubled later =
-        same ∙ ap (λ b. written b ++ doubled later) (sym first) in
-        let rest : drop (at + length (written byte)) bytes ≡ doubled later =
-        sym (drop-drop (length (written byte)) at bytes)
-        ∙ ap (drop (length (written byte))) now ∙ drop-append_seam (written byte) (doubled later) in
-        let pushed : doubled (single ++ byte ∷ []) ≡ doubled single ++ written byte =
-        doubled-append single (byte ∷ []) ∙ ap (λ l. doubled single ++ l) (append-nil (written byte))
-        in
-        record {
-          so_far =
-              h.so_far ∙ ap (λ l. doubled single ++ l) now
-              ∙ sym (append_assoc (doubled single) (written byte) (doubled later))
-              ∙ (λ i. sym pushed i ++ sym rest i);
-          later = later;
-          behind = rest;
-        }
+  one_by : (later : List ℕ) → drop at bytes ≡ doubled later
+      → HalfRead bytes (single ++ byte ∷ []) (at + length (written byte))
+  one_by [] same =
+      let some : byte ∷ drop (suc at) bytes ≡ [] = sym stands ∙ same in
+      absurd (cc)
+  one_by (c ∷ later) same =
+      let first : byte ≡ c = written_head c (doubled later) byte (drop (suc at) bytes)
+      (sym stands ∙ same) in
+      let now : drop at bytes ≡ written byte ++ doubled later =
+      same ∙ ap (λ b. written b ++ doubled later) (sym first) in
+      let rest : drop (at + length (written byte)) bytes ≡ doubled later =
+      sym (drop-drop (length (written byte)) at bytes)
+      ∙ ap (drop (length (written byte))) now ∙ drop-append_seam (written byte) (doubled later) in
+      let pushed : doubled (single ++ byte ∷ []) ≡ doubled single ++ written byte =
+      doubled-append single (byte ∷ []) ∙ ap (λ l. doubled single ++ l) (append-nil (written byte))
+      in
+      record {
+        so_far =
+            h.so_far ∙ ap (λ l. doubled single ++ l) now
+            ∙ sym (append_assoc (doubled single) (written byte) (doubled later))
+            ∙ (λ i. sym pushed i ++ sym rest i);
+        later = later;
+        behind = rest;
+      }
 
-    -- one byte more
-    pub one_byte_more : (pushed : List ℕ) (step : ℕ) → pushed ≡ single ++ byte ∷ []
-        → step ≡ length (written byte) → HalfRead bytes pushed (at + step)
-    one_byte_more pushed step is size =
-        subst (λ n. HalfRead bytes pushed (at + n)) (sym size)
-        (subst (λ s. HalfRead bytes s (at + length (written byte))) (sym is)
-        (one_by h.later h.behind))
+  -- one byte more
+  pub one_byte_more : (pushed : List ℕ) (step : ℕ) → pushed ≡ single ++ byte ∷ []
+      → step ≡ length (written byte) → HalfRead bytes pushed (at + step)
+  one_byte_more pushed step is size =
+      subst (λ n. HalfRead bytes pushed (at + n)) (sym size)
+      (subst (λ s. HalfRead bytes s (at + length (written byte))) (sym is)
+      (one_by h.later h.behind))
 
 -- a text that is written so
 abbrev pub IsWritten : List ℕ → Type 0

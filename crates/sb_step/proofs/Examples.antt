@@ -1,6 +1,6 @@
 -- Single lists of lexemes: texts that the grammar has, and places where it goes on no further. Each
 -- is found by computing.
-use Rattle.std.proofs.Common.{◌≡◌, ℕ, List, [], ◌∷◌, ◌++◌, Some, None, refl, arith}
+use Rattle.std.proofs.Common.{◌≡◌, ℕ, List, [], ◌∷◌, ◌++◌, Some, None, refl, subst, arith}
 use Rattle.std.specs.Prelude.{codes, replicate}
 use Rattle.sb_lex.specs.declared.kinds.Kind.TheVariants as kind
 use Rattle.sb_lex.specs.declared.kinds.Mark.TheVariants as mark
@@ -11,6 +11,8 @@ use Rattle.sb_step.specs.Lexemes.{Lexeme}
 use Rattle.sb_step.specs.Grammar.{IsText}
 use Rattle.sb_step.specs.Faults.{BeginsText}
 use Rattle.sb_step.specs.Numbers.{IsGreatest}
+use Rattle.sb_step.specs.Rules.{Rule, One, ◌⋅◌}
+use Rattle.sb_step.specs.Schema.{OneString}
 use Rattle.sb_step.specs.Steps.{step, start, Ran, run}
 use Rattle.sb_step.proofs.SomeTextGoesOn.{lexeme_of, mark_of, keyword_of}
 use Rattle.sb_step.proofs.TextsEnd.{ends_text, runs_begin}
@@ -151,3 +153,54 @@ six_is_not_there is = absurd (omega (arith, is.used))
 
 none_is_zero : (n : ℕ) → IsGreatest n [] → n ≡ 0
 none_is_zero n is = is
+
+-- the schema
+
+-- `'IFC4'`
+abbrev pub ifc4 : Lexeme
+ifc4 = lexeme_of kind.Str (codes "'IFC4'")
+
+abbrev pub begins_here : Record
+begins_here = record { start = 0; end = 0; form = form.Simple 0 }
+
+-- `A(('IFC4'))`
+in_a_list : OneString begins_here (codes "IFC4")
+    (keyword ∷ opening ∷ opening ∷ ifc4 ∷ closing ∷ closing ∷ []) []
+in_a_list = record {
+  middle = _;
+  first = (record { keyword = refl; start = refl; form = refl }, refl);
+  second = record {
+    middle = _;
+    first = (refl, refl);
+    second = record {
+      middle = _;
+      first = (refl, refl);
+      second = record {
+        middle = _;
+        first = (record { string = refl; spelled = refl }, refl);
+        second = record { middle = _; first = (refl, refl); second = (refl, refl) };
+      };
+    };
+  };
+}
+
+behind : {P : Lexeme → Type 0} (Q : Rule) {x : Lexeme} {xs rest : List Lexeme}
+    → (One P ⋅ Q) (x ∷ xs) rest → Q xs rest
+behind Q {rest = rest} j = subst (λ l. Q l rest) j.first.1 j.second
+
+-- `A(('IFC4','IFC4'))`
+two_strings : (text : List ℕ) (rest : List Lexeme) → OneString begins_here text
+    (keyword ∷ opening ∷ opening ∷ ifc4 ∷ mark_of mark.Comma ∷ ifc4 ∷ closing ∷ closing ∷ []) rest
+    → ⊥
+two_strings text rest j =
+    let closed = behind _ (behind _ (behind _ (behind _ j))) in
+    let apart : kind.Mark mark.Comma ≡ kind.Mark mark.Close = closed.first.0 in
+    absurd (cc)
+
+-- `A('IFC4')`
+no_list : (text : List ℕ) (rest : List Lexeme) → OneString begins_here text
+    (keyword ∷ opening ∷ ifc4 ∷ closing ∷ []) rest → ⊥
+no_list text rest j =
+    let opened = behind _ (behind _ j) in
+    let apart : kind.Str ≡ kind.Mark mark.Open = opened.first.0 in
+    absurd (cc)

@@ -27,5 +27,7 @@ pub mod ParametersByToken
 pub mod ParametersAreUnique
 pub mod ParametersOfAnInstance
 pub mod ParametersExist
+pub mod OnlyOnePasses
+pub mod SchemaIsRead
 mod Examples
 mod ParameterExamples

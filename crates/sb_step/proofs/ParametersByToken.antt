@@ -122,9 +122,6 @@ module _ (bytes : List ℕ) (x : Lexeme) (keyword : IsKeyword x) (a : Reading)
             parameter_has_next b ys (t.close_mark ∷ w.rest) p.stands t.inner
 
     module _ (c : Reading) (t2 : Token) (first : ReadsToken b c t2) where
-      z : Lexeme
-      z = lexeme_at bytes t2
-
       b_is : b.input ≡ bytes
       b_is = input_stays a b t1 opens ∙ input
 

@@ -6,6 +6,7 @@ pub mod Faults
 pub mod Numbers
 pub mod Indexed
 pub mod Spans
+pub mod Schema
 pub mod Answers
 pub mod Parameters
 pub mod Reads
@@ -15,3 +16,4 @@ pub mod Machines
 pub mod Kept
 pub mod Collects
 pub mod Progress
+pub mod SchemaSteps

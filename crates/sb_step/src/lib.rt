@@ -16,6 +16,7 @@ mod parameters;
 #[cfg(test)]
 mod parameters_tests;
 mod reading;
+mod schema;
 mod sections;
 mod step_file;
 mod steps;

@@ -3,6 +3,7 @@ ghost use Rattle.std.specs.Option.{option_copied};
 ghost use Rattle.sb_step.specs.Spans as spec;
 
 use crate::file::{Form, Record};
+use crate::schema::{one_string, only_schema};
 use indexmap::IndexMap;
 use std::marker::Model;
 
@@ -43,7 +44,9 @@ impl<'a> Model for StepFile<'a> {
 }
 
 impl<'a> StepFile<'a> {
+    ghost use Rattle.std.specs.Prelude.{◌↔◌, ℕ, List, Some, None};
     ghost use Rattle.sb_step.specs.Numbers.{numbers_of, IsGreatest};
+    ghost use Rattle.sb_step.specs.Schema.{IsSchema, HasNoSchema};
 
     /// The numbers of the instances in file order.
     pub fn numbers(&self) -> &[u32]
@@ -66,6 +69,31 @@ impl<'a> StepFile<'a> {
     {
         let record = self.instances.get(&number)?;
         keyword_at(self.bytes, *record)
+    }
+
+    /// The schema that the header names, as it stands between its apostrophes: the one string of the
+    /// one FILE_SCHEMA.
+    ///
+    /// - `Some(text)`: exactly where one entity of the header, and no second, is a FILE_SCHEMA, its
+    ///   list has one parameter, and this is a list of one string, the text in apostrophes.
+    /// - `None`: exactly where there is no such text.
+    pub fn schema(&self) -> Option<&[u8]>
+        ensures text { (text : List ℕ) → (option_copied result ≡ Some text)
+            ↔ IsSchema self.now text }
+        ensures none { (option_copied result ≡ None) ↔ HasNoSchema self.now }
+    {
+        self.read_schema()
+    }
+
+    fn read_schema(&self) -> Option<&[u8]>
+        ensures { (text : List ℕ) → (option_copied result ≡ Some text)
+            ↔ IsSchema self.now text }
+    {
+        let entity = only_schema(self.bytes, self.header.as_slice())?;
+        match entity.form {
+            Form::Simple(end) => one_string(self.bytes, end),
+            Form::Complex => None,
+        }
     }
 
     /// The first byte of the ENDSEC behind the instances.

@@ -250,6 +250,64 @@ fn numbers_in_file_order(rt: HostRuntime) -> Result<(), Fail> {
     Ok(())
 }
 
+// Entities of a header, and the schema that they name.
+const SCHEMAS: [(&[u8], Option<&[u8]>); 25] = [
+    (b"FILE_SCHEMA(('IFC4'));", Some(b"IFC4")),
+    (b"A();FILE_SCHEMA(('IFC2X3'));B($);", Some(b"IFC2X3")),
+    (b" FILE_SCHEMA /* */ ( (\n'IFC4' ) ) ;", Some(b"IFC4")),
+    (b"ENDSEC();FILE_SCHEMA(('IFC4'));", Some(b"IFC4")),
+    (b"FILE_SCHEMA(('it''s'));", Some(b"it''s")),
+    (b"FILE_SCHEMA((''''));", Some(b"''")),
+    (b"FILE_SCHEMA((''));", Some(b"")),
+    (b"A('FILE_SCHEMA');FILE_SCHEMA(('IFC4'));", Some(b"IFC4")),
+    (
+        b"A(FILE_SCHEMA(('IFC2X3')));FILE_SCHEMA(('IFC4'));",
+        Some(b"IFC4"),
+    ),
+    (b"FILE_SCHEMA(('IFC4'));FILE_SCHEMA(('IFC4'));", None),
+    (b"FILE_SCHEMA(('IFC4'));A();FILE_SCHEMA();", None),
+    (b"FILE_SCHEMA();FILE_SCHEMA(('IFC4'));", None),
+    (
+        b"FILE_SCHEMA(('A'));FILE_SCHEMA(('B'));FILE_SCHEMA(('C'));",
+        None,
+    ),
+    (b"FILE_SCHEMA(('IFC4','IFC2X3'));", None),
+    (b"FILE_SCHEMA(('IFC4'),('IFC2X3'));", None),
+    (b"FILE_SCHEMA(('IFC4'),$);", None),
+    (b"FILE_SCHEMA($,('IFC4'));", None),
+    (b"FILE_SCHEMA('IFC4');", None),
+    (b"FILE_SCHEMA(());", None),
+    (b"FILE_SCHEMA();", None),
+    (b"FILE_SCHEMA((('IFC4')));", None),
+    (b"FILE_SCHEMA((4));", None),
+    (b"FILE_SCHEMA(A('IFC4'));", None),
+    (b"!FILE_SCHEMA(('IFC4'));FILE_SCHEMAS(('IFC4'));", None),
+    (b"A(FILE_SCHEMA(('IFC4')));", None),
+];
+
+fn names(file: &StepFile<'_>, schema: Option<&[u8]>) -> bool {
+    match (file.schema(), schema) {
+        (Some(found), Some(text)) => found == text,
+        (None, None) => true,
+        _ => false,
+    }
+}
+
+#[test]
+fn the_schema_of_a_header(rt: HostRuntime) -> Result<(), Fail> {
+    for (header, schema) in SCHEMAS {
+        let before = b"ISO-10303-21;HEADER;";
+        let data = b"ENDSEC;DATA;#1=FILE_SCHEMA(('IFC1'));";
+        let text = joined(rt.alloc(), &[before, header, data, TAIL])?;
+        let found = match index(rt.alloc(), &text) {
+            Ok(file) => names(&file, schema),
+            Err(_) => false,
+        };
+        assert!(rt; found, "the schema of {header:?}");
+    }
+    Ok(())
+}
+
 #[test]
 fn keywords_by_number(rt: HostRuntime) -> Result<(), Fail> {
     let text = joined(rt.alloc(), &[HEAD, b"#7=WALL(); #2=(A()B());", TAIL])?;

@@ -20,8 +20,12 @@ returns-then-is_some c = λ instances kept.
     let e = c.in_ok-known.ensures in
     let known = some_of c.in_ok-known.known (sym c.if-is_some.ensures) in
     kept_further instances c.args.number c.args.body c.args.self.now
-    (record { records = c.insert.new.self; numbers = c.push.new.self; greatest = c.greater-self.result; doubled = Some c.least.result }) known.0 kept
-    (sym e.old ∙ known.1) (ap is_some e.updates.1) (λ q apart. e.updates.2 q apart)
+    (record {
+      records = c.insert.new.self;
+      numbers = c.push.new.self;
+      greatest = c.greater-self.result;
+      doubled = Some c.least.result;
+    }) known.0 kept (sym e.old ∙ known.1) (ap is_some e.updates.1) (λ q apart. e.updates.2 q apart)
     (ap Some c.least.ensures)
     (record { numbers = c.in_ok-push.ensures.items; greatest = c.greater-self.ensures })
 
@@ -31,7 +35,12 @@ returns-else-is_some c = λ instances kept.
     let none : get nat_eq c.args.self.now.records c.args.number ≡ None =
     sym e.old ∙ none_of c.in_ok-known.known (sym c.if-is_some.ensures) in
     kept_first instances c.args.number c.args.body c.args.self.now
-    (record { records = c.insert.new.self; numbers = c.push.new.self; greatest = c.greater-self.result; doubled = c.args.self.now.doubled }) kept none
+    (record {
+      records = c.insert.new.self;
+      numbers = c.push.new.self;
+      greatest = c.greater-self.result;
+      doubled = c.args.self.now.doubled;
+    }) kept none
     (ap is_some e.updates.1) (λ q apart. e.updates.2 q apart)
     (e.entries ∙ insert_entry-new nat_eq c.args.self.now.records c.args.number c.args.body none)
     refl (record { numbers = c.in_ok-push.ensures.items; greatest = c.greater-self.ensures })

@@ -1,0 +1,7 @@
+use Rattle.std.specs.Option.{option_copied}
+use Rattle.sb_step.proofs.SchemaIsRead.{none_exactly}
+use Rattle.sb_step.proofs.step_file.StepFile.schema.Goals as goal
+
+pub returns-clause-none : goal.returns-clause-none
+returns-clause-none c =
+    none_exactly c.args.self.now (option_copied c.read_schema.result) c.read_schema.ensures
