@@ -18,6 +18,16 @@ pub mod OneAnswerToAnInput
 pub mod BehindRules
 pub mod RecordsLie
 pub mod RecordsStand
+pub mod DoubledApostrophes
+pub mod InsidesOfTokens
+pub mod SaidIsParameter
+pub mod ParametersAreRead
+pub mod ListsAreRead
+pub mod ParametersByToken
+pub mod ParametersAreUnique
+pub mod ParametersOfAnInstance
+pub mod ParametersExist
 pub mod OnlyOnePasses
 pub mod SchemaIsRead
 mod Examples
+mod ParameterExamples

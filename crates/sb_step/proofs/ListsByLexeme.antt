@@ -10,20 +10,17 @@ use Rattle.sb_step.specs.declared.steps.Frame.TheVariants as frame
 use Rattle.sb_step.specs.declared.steps.Want.{Want}
 use Rattle.sb_step.specs.declared.steps.Want.TheVariants as want
 use Rattle.sb_step.specs.Lexemes.{Lexeme, IsKeyword, IsMark, IsValue, is_value, is_open, is_close}
-use Rattle.sb_step.specs.Rules.{Rule, One, Joined}
+use Rattle.sb_step.specs.Rules.{One, Joined}
 use Rattle.sb_step.specs.Grammar.{Parameter, ParameterList, MoreParameters}
 use Rattle.sb_step.specs.Grammar.Parameter.{value, list, typed}
 use Rattle.sb_step.specs.Grammar.ParameterList.{empty, some}
 use Rattle.sb_step.specs.Grammar.MoreParameters.{last, more}
 use Rattle.sb_step.specs.Steps.{Nest, is_keyword, is_comma, deeper, parameter, comma, shut, by_want}
+use Rattle.sb_step.specs.Reads.{InList}
 use Rattle.sb_step.proofs.Continuations.{Rest, Then, After, Closing, Wanted}
 use Rattle.sb_step.proofs.KindsSay.{open_says, close_says, comma_says, keyword_says, choice}
 
 -- the ways in which a list begins with what a rule of parameters describes
-
--- behind the parenthesis of a list
-abbrev pub InList : Rule
-InList xs rest = One (IsMark mark.Close) xs rest ⊎ Joined Parameter MoreParameters xs rest
 
 -- behind the keyword of a typed parameter
 pub record InTyped (rest : List Lexeme) (open_mark : Lexeme) (xs : List Lexeme) : Type 0 where
@@ -166,7 +163,7 @@ value_closes_none (kind.Mark mark.Close) v = absurd (false≢true v)
 value_closes_none _ v = refl
 
 -- no parameter begins with one
-parameter_closes_none : (rest : List Lexeme) (x : Lexeme) (xs : List Lexeme)
+pub parameter_closes_none : (rest : List Lexeme) (x : Lexeme) (xs : List Lexeme)
     → ParameterOn rest (x ∷ xs) → is_close x.token.kind ≡ false
 parameter_closes_none rest x xs (inl v) = value_closes_none x.token.kind v.0
 parameter_closes_none rest x xs (inr (inl l)) = ap is_close l.0

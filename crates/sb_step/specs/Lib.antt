@@ -8,6 +8,9 @@ pub mod Indexed
 pub mod Spans
 pub mod Schema
 pub mod Answers
+pub mod Parameters
+pub mod Reads
+pub mod Held
 pub mod Steps
 pub mod Machines
 pub mod Hashing

@@ -15,3 +15,14 @@ pub enum StepError {
     #[error("no memory")]
     NoMemory,
 }
+
+/// Why an instance has no parameters.
+#[derive(Debug, Drop, Error)]
+pub enum ParamsError {
+    /// No instance has this number.
+    #[error("no instance has number {0}")]
+    Missing(u32),
+    /// There was no memory.
+    #[error("no memory")]
+    NoMemory,
+}

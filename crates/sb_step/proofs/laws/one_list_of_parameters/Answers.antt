@@ -1,0 +1,17 @@
+use Rattle.sb_step.proofs.ParametersExist.{each_instance_has_parameters}
+use Rattle.sb_step.proofs.ParametersOfAnInstance.{has_once}
+use Rattle.sb_step.proofs.ParametersAreUnique.{parameters_are_unique}
+use Rattle.sb_step.proofs.SaidIsParameter.{said_list}
+use Rattle.sb_step.proofs.laws.one_list_of_parameters.Goals as goal
+
+pub returns-clause-exist : goal.returns-clause-exist
+returns-clause-exist c = each_instance_has_parameters
+
+pub returns-clause-unique : goal.returns-clause-unique
+returns-clause-unique c = has_once
+
+pub returns-clause-only_lists : goal.returns-clause-only_lists
+returns-clause-only_lists c = λ ps xs rest says. said_list says
+
+pub returns-clause-one_a_list : goal.returns-clause-one_a_list
+returns-clause-one_a_list c = parameters_are_unique

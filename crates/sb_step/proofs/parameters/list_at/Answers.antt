@@ -1,0 +1,20 @@
+use Rattle.std.proofs.Common.{sym, subst}
+use Rattle.std.proofs.lemmas.Result.{IfOk-weaker}
+use Rattle.sb_step.specs.Grammar.{ParameterList}
+use Rattle.sb_step.specs.Reads.{Awaits, Stands}
+use Rattle.sb_step.proofs.ParametersOfAnInstance.{behind_parenthesis, list_said}
+use Rattle.sb_step.proofs.parameters.list_at.Goals as goal
+
+pub list-requires-clause-awaits : goal.list-requires-clause-awaits
+list-requires-clause-awaits c =
+    behind_parenthesis c.at-lexer.result c.next-opens.new.lexer c.next-opens.result
+    c.next-opens.ensures
+    (subst (Awaits ParameterList) (sym c.at-lexer.ensures) c.requires.awaits)
+
+pub returns : goal.returns
+returns c =
+    IfOk-weaker c.list.result _ _
+    (λ ps reads. λ xs rest stands l. list_said c.at-lexer.result c.next-opens.new.lexer
+    c.next-opens.result c.next-opens.ensures c.list.new.lexer ps reads xs rest
+    (subst (λ r. Stands r xs) (sym c.at-lexer.ensures) stands) l)
+    c.list.ensures
