@@ -17,7 +17,7 @@ pub mod ReadingGoesOn
 pub mod OneAnswerToAnInput
 pub mod BehindRules
 pub mod RecordsLie
-pub mod RecordsStand
 pub mod OnlyOnePasses
+pub mod RecordsStand
 pub mod SchemaIsRead
 mod Examples
