@@ -17,6 +17,7 @@ pub mod ReadingGoesOn
 pub mod OneAnswerToAnInput
 pub mod BehindRules
 pub mod RecordsLie
+pub mod OnlyOnePasses
 pub mod RecordsStand
 pub mod DoubledApostrophes
 pub mod InsidesOfTokens
@@ -27,7 +28,6 @@ pub mod ParametersByToken
 pub mod ParametersAreUnique
 pub mod ParametersOfAnInstance
 pub mod ParametersExist
-pub mod OnlyOnePasses
 pub mod SchemaIsRead
 mod Examples
 mod ParameterExamples

@@ -14,6 +14,7 @@ use Rattle.sb_step.specs.Rules.{Each}
 use Rattle.sb_step.specs.Grammar.{File, ParameterList, IsSimple, IsRecord, IsInstance, BeginsSimple, SemicolonAt}
 use Rattle.sb_step.specs.Faults.{IsFile}
 use Rattle.sb_step.proofs.KindsSay.{choice}
+use Rattle.sb_step.proofs.OnlyOnePasses.{IsAmong}
 use Rattle.sb_step.proofs.BehindRules.{Passes, one_leaves, list_leaves, simple_leaves, instance_leaves, item_stands, parts_of}
 
 -- the lexemes are those of the tokens from some token on
@@ -136,32 +137,29 @@ entity_stands input f is front back r header =
     p.header_holds in
     simple_stands input is.tokens r is.are s.at s.rest s.is s.holds
 
--- an instance whose record is simple
-pub record IsAmong (instances : List (ℕ × Record)) (r : Record) : Type 0 where
-  pub number : ℕ
-  pub front : List (ℕ × Record)
-  pub back : List (ℕ × Record)
-  pub joined : instances ≡ front ++ (number, r) ∷ back
-
+-- an instance that is found stands among them
 found_among : (test : ℕ → Bool) (instances : List (ℕ × Record)) (r : Record)
-    → lookup test instances ≡ Some r → IsAmong instances r
+    → lookup test instances ≡ Some r → (number : ℕ) × IsAmong instances (number, r)
 found_among test [] r found = absurd (none-some r found)
 found_among test (i ∷ later) r found =
     ⊎_elim
-    (λ here. record {
-      number = i.0;
-      front = [];
-      back = later;
-      joined = ap (λ s. (i.0, s) ∷ later) (same_Some i.1 r here.1);
-    })
+    (λ here. (
+      i.0,
+      record {
+        front = [];
+        back = later;
+        joined = ap (λ s. (i.0, s) ∷ later) (same_Some i.1 r here.1);
+      },
+    ))
     (λ there.
-    let a = found_among test later r there.1 in
-    record {
-      number = a.number;
-      front = i ∷ a.front;
-      back = a.back;
-      joined = ap (λ l. i ∷ l) a.joined;
-    })
+    let a = found_among test later r there.1 in (
+      a.0,
+      record {
+        front = i ∷ a.1.front;
+        back = a.1.back;
+        joined = ap (λ l. i ∷ l) a.1.joined;
+      },
+    ))
     (choice (test i.0) (Some i.1) (lookup test later) r found)
 
 -- the record of an instance is simple by its form
@@ -185,9 +183,9 @@ instance_stands input f is test r found end simple =
     let p = parts_of Holds tail f (lexemes input is.tokens) is.text.sections
     (all_stand input is.tokens) in
     let a = found_among test f.instances r found in
-    let s = item_stands Holds tail IsInstance (instance_leaves Holds tail) a.front a.back
-    (a.number, r) p.instances_at p.instances_rest
-    (subst (λ each. Each IsInstance each p.instances_at p.instances_rest) a.joined p.instances)
+    let s = item_stands Holds tail IsInstance (instance_leaves Holds tail) a.1.front a.1.back
+    (a.0, r) p.instances_at p.instances_rest
+    (subst (λ each. Each IsInstance each p.instances_at p.instances_rest) a.1.joined p.instances)
     p.instances_hold in
     let named = one_leaves Holds tail _ s.at s.is.middle s.is.first s.holds in
     record_stands input is.tokens r is.are end simple s.is.second.middle s.rest
@@ -211,6 +209,7 @@ pub record ReadsOn (input : List ℕ) (r : Record) (end : ℕ) (s : SimpleStands
   pub within : end ≤ length input
   pub are : AreTokensFrom input end (s.inside ++ s.semicolon ∷ s.after) None
 
+-- a reader that begins behind the keyword reads the list and all that follows
 pub reads_on : (input : List ℕ) (r : Record) (end : ℕ) → r.form ≡ form.Simple end
     → (s : SimpleStands input r) → ReadsOn input r end s
 reads_on input r end simple s =
