@@ -8,6 +8,7 @@ use Rattle.sb_model.specs.Spots.{vector}
 use Rattle.sb_model.specs.Turns.{Quarter}
 use Rattle.sb_model.specs.declared.frame.Frame.{Frame}
 use Rattle.sb_model.specs.declared.products.Space.{Space}
+use Rattle.sb_laws.specs.Rectangles.{rectangle}
 use Rattle.sb_box.specs.declared.extent.Extent.{Extent}
 use Rattle.sb_form.specs.declared.matcher.FirstForm.{FirstForm}
 use Rattle.sb_form.specs.declared.meaning.Defect.{Defect}
@@ -62,13 +63,7 @@ pub record IsExtentOf (f : FirstForm) (e : Extent) : Type 0 where
   pub z0 : e.z0 ≡ f.z
   pub z1 : e.z1 ≡ f.z +ℤ f.height
 
-abbrev pub corner : ℤ → ℤ → Point
-corner x y = record { x = x; y = y }
-
--- the corners of a box in plan, counterclockwise from the least one
-abbrev pub rectangle : ℤ → ℤ → ℤ → ℤ → List Point
-rectangle x0 x1 y0 y1 = corner x0 y0 ∷ corner x1 y0 ∷ corner x1 y1 ∷ corner x0 y1 ∷ []
-
+-- the corners of the box in plan
 abbrev pub plan_of : FirstForm → List Point
 plan_of f = rectangle (f.x -ℤ half f.size_x) (f.x +ℤ half f.size_x) (f.y -ℤ half f.size_y) (f.y +ℤ half f.size_y)
 
