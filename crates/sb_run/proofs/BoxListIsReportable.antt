@@ -20,11 +20,13 @@ use Rattle.sb_form.specs.Meaning.{model_of, half, IsExtentOf}
 use Rattle.sb_form.specs.declared.matcher.FirstForm.{FirstForm}
 use Rattle.sb_report.specs.Conditions.{is_boundary_of, is_list_of, have_corners, is_end_of}
 
+-- a list of which each item passes a test
 all_pass : (test : Boundary → Bool) (bs : List Boundary) → AllByRecursion (λ b. test b ≡ true) bs
     → list_all test bs ≡ true
 all_pass test [] all = refl
 all_pass test (b ∷ bs) all = and_from (test b) (list_all test bs) all.0 (all_pass test bs all.1)
 
+-- two facts of each patch are one
 both_hold : (P Q : BoxPatch → Type 0) (ps : List BoxPatch) → AllByRecursion P ps
     → AllByRecursion Q ps → AllByRecursion (λ p. P p × Q p) ps
 both_hold P Q [] first second = tt
@@ -37,7 +39,8 @@ both_hold P Q (p ∷ ps) first second =
 abbrev IsThere : FirstForm → FaceKind → Type 0
 IsThere f k = has_face (space_numbered (model_of f) 20) k ≡ true
 
-faces_are_there : (f : FirstForm) (e : Extent) → AllByRecursion (λ p. IsThere f p.kind) (box_patches e)
+faces_are_there : (f : FirstForm) (e : Extent)
+    → AllByRecursion (λ p. IsThere f p.kind) (box_patches e)
 faces_are_there f e = all_by_kind (IsThere f) e refl refl refl refl refl refl
 
 -- an end in the open needs nothing of the model
