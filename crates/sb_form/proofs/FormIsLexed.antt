@@ -4,7 +4,8 @@ use Rattle.std.proofs.Common.{◌++◌, ℕ, ℤ, List, [], ◌∷◌, Option, S
 use Rattle.std.proofs.Math.Seq.{drop-append_seam}
 use Rattle.sb_lex.specs.Steps.{scan_letters, scan_name, scan_number, scan_enumeration, exponent_len}
 use Rattle.sb_form.specs.Numbers.{IsShort, number_text}
-use Rattle.sb_form.specs.FirstForm.{before_place, before_sizes, before_height, behind_height, comma, form_text, AreShort}
+use Rattle.sb_form.specs.FirstForm.{before_place, before_sizes, before_height, behind_height, comma}
+use Rattle.sb_form.specs.FirstForm.{form_text, AreShort}
 use Rattle.sb_form.specs.declared.matcher.FirstForm.{FirstForm}
 use Rattle.sb_form.proofs.TokensAtTheFront.{Piece, Lexed, lexed, Lead, lead_append, lexed_leads}
 use Rattle.sb_form.proofs.NumbersAreReals.{EndsReal, real_of, number_is_first}

@@ -1,5 +1,6 @@
 -- Every input of the first form is an exchange text, and no number is used twice in it.
-use Rattle.std.proofs.Common.{◌≡◌, ℕ, Bool, true, false, ◌&&◌, List, [], Option, Some, None, refl, sym, subst, arith}
+use Rattle.std.proofs.Common.{◌≡◌, ℕ, Bool, true, false, ◌&&◌, List, Option, Some, None, refl}
+use Rattle.std.proofs.Common.{sym, subst, arith}
 use Rattle.std.specs.Prelude.{is_some}
 use Rattle.sb_lex.specs.Steps.{scan_letters, scan_name, scan_number, scan_enumeration, exponent_len}
 use Rattle.sb_step.specs.Lexemes.{Lexeme}
@@ -8,7 +9,8 @@ use Rattle.sb_step.specs.Faults.{IsFile}
 use Rattle.sb_step.specs.Numbers.{AreApart}
 use Rattle.sb_step.specs.Steps.{start, end_of, file_of, instances_of, Ran, run}
 use Rattle.sb_step.proofs.TextsEnd.{ends_text}
-use Rattle.sb_form.specs.FirstForm.{before_place, before_sizes, before_height, behind_height, IsFormOf}
+use Rattle.sb_form.specs.FirstForm.{before_place, before_sizes, before_height, behind_height}
+use Rattle.sb_form.specs.FirstForm.{IsFormOf}
 use Rattle.sb_form.specs.AsText.{FormsAreTexts}
 use Rattle.sb_form.specs.declared.matcher.FirstForm.{FirstForm}
 use Rattle.sb_form.proofs.TokensAtTheFront.{Lead, tokens_at, lexemes_at, lead_reads}

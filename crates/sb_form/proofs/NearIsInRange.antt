@@ -7,11 +7,13 @@ use Rattle.sb_form.specs.Meaning.{has_shape, is_near, is_near_about, is_near_up,
 use Rattle.sb_form.specs.declared.matcher.FirstForm.{FirstForm}
 
 -- from half an even size below a coordinate to half of it above
-pub about_is_interval : (m s : ℤ) → int_lt (pos 0) s ≡ true → is_near_about m s ≡ true → is_even s ≡ true
+pub about_is_interval : (m s : ℤ) → int_lt (pos 0) s ≡ true → is_near_about m s ≡ true
+    → is_even s ≡ true
     → is_interval (m -ℤ half s) (m +ℤ half s) ≡ true
 about_is_interval m s shape near grid = grind (arith, ints)
 
-pub up_is_interval : (z h : ℤ) → int_lt (pos 0) h ≡ true → is_near_up z h ≡ true → is_interval z (z +ℤ h) ≡ true
+pub up_is_interval : (z h : ℤ) → int_lt (pos 0) h ≡ true → is_near_up z h ≡ true
+    → is_interval z (z +ℤ h) ≡ true
 up_is_interval z h shape near = grind (arith, ints)
 
 second_is_true : (a b : Bool) → (a && b) ≡ true → b ≡ true

@@ -1,5 +1,7 @@
 -- A number of the first form is read as one real.
-use Rattle.std.proofs.Common.{◌≡◌, ◌<◌, ◌+◌, ◌++◌, ◌==◌, ◌∙◌, ℕ, ℤ, pos, negsuc, suc, true, false, List, [], ◌∷◌, Some, length, get_or, drop, refl, ap, sym, subst, arith, append_assoc, length-append}
+use Rattle.std.proofs.Common.{◌≡◌, ◌<◌, ◌+◌, ◌++◌, ◌==◌, ◌∙◌, ℕ, ℤ, pos, negsuc, suc, true, false}
+use Rattle.std.proofs.Common.{List, [], ◌∷◌, Some, length, get_or, drop, refl, ap, sym, subst}
+use Rattle.std.proofs.Common.{arith, append_assoc, length-append}
 use Rattle.std.specs.Prelude.{decimal, slice_index}
 use Rattle.std.specs.List.{list_all, prefix_len}
 use Rattle.std.specs.Int.{IsInRange}
@@ -10,7 +12,8 @@ use Rattle.std.proofs.lemmas.Fmt.{decimal_nonempty}
 use Rattle.std.proofs.lemmas.Bool.{and_parts, ne_eqb}
 use Rattle.sb_lex.specs.declared.kinds.Kind.TheVariants as kind
 use Rattle.sb_lex.specs.Bytes.{capital_e, is_letter}
-use Rattle.sb_lex.specs.Steps.{longer, head_of, exponent_len, fraction_len, scan_number, scan_at, scan}
+use Rattle.sb_lex.specs.Steps.{longer, head_of, exponent_len, fraction_len, scan_number, scan_at}
+use Rattle.sb_lex.specs.Steps.{scan}
 use Rattle.sb_lex.specs.Kinds.{BlankPiece}
 use Rattle.sb_lex.proofs.PiecesJoin.{repeated_nothing}
 use Rattle.sb_form.specs.Numbers.{IsShort, number_text}
@@ -75,12 +78,14 @@ scan-number_text : (n : ℤ) (rest : List ℕ) → IsShort n → EndsReal rest
     → scan (number_text n ++ rest) ≡ Some (kind.Real, length (number_text n))
 scan-number_text (pos n) rest short ends =
     ap scan (append_assoc (decimal n) (46 ∷ []) rest)
-    ∙ scan-digits (decimal n) rest (digits_decimal_all n short) (decimal_nonempty n (omega arith)) ends
+    ∙ scan-digits (decimal n) rest (digits_decimal_all n short)
+    (decimal_nonempty n (omega arith)) ends
     ∙ ap (λ k. Some (kind.Real, k)) (sym (length-append (decimal n) (46 ∷ [])))
 scan-number_text (negsuc n) rest short ends =
     let ds = decimal (suc n) in
     ap (λ l. scan (45 ∷ l)) (append_assoc ds (46 ∷ []) rest)
-    ∙ scan-signed ds rest (digits_decimal_all (suc n) short) (decimal_nonempty (suc n) (omega arith)) ends
+    ∙ scan-signed ds rest (digits_decimal_all (suc n) short)
+    (decimal_nonempty (suc n) (omega arith)) ends
     ∙ ap (λ k. Some (kind.Real, k)) (omega (arith, length-append ds (46 ∷ [])))
 
 -- the number alone

@@ -1,6 +1,8 @@
 -- What is computed at the front of bytes, white space and a token again and again, is read as these
 -- tokens wherever an input ends with these bytes.
-use Rattle.std.proofs.Common.{◌≡◌, ℕ, zero, suc, ◌+◌, ◌-◌, ◌≤◌, Bool, true, false, cond, List, [], ◌∷◌, ◌++◌, Option, Some, None, length, take, drop, sym, refl, ap, ap₂, ◌∙◌, subst, inl, arith, length-drop, drop-drop, one-add}
+use Rattle.std.proofs.Common.{◌≡◌, ℕ, zero, suc, ◌+◌, ◌-◌, ◌≤◌, Bool, true, false, cond, List, []}
+use Rattle.std.proofs.Common.{◌∷◌, ◌++◌, Option, Some, None, length, take, drop, sym, refl, ap, ap₂}
+use Rattle.std.proofs.Common.{◌∙◌, subst, inl, arith, length-drop, drop-drop, one-add}
 use Rattle.std.specs.Prelude.{slice_range}
 use Rattle.std.specs.List.{prefix_len}
 use Rattle.std.proofs.lemmas.List.Sums.{prefix_len-le-length}
@@ -200,7 +202,8 @@ lead_reads [] input bytes rest from ends lead white =
     omega (arith, ends.within, ap length here, length-drop from input) in
     record {
       tokens = subst (IsGap input from) all
-          (gap_from_blank input rest from (length rest) (record { within = ends.within; are = here })
+          (gap_from_blank input rest from (length rest)
+          (record { within = ends.within; are = here })
           (omega arith) (subst (λ n. Blank (take n rest)) white (white_is_blank rest)));
       texts = refl;
     }

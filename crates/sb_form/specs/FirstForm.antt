@@ -43,7 +43,8 @@ form_text f =
 
 -- each number has at most six digits
 abbrev pub AreShort : FirstForm → Type 0
-AreShort f = IsShort f.x × IsShort f.y × IsShort f.z × IsShort f.size_x × IsShort f.size_y × IsShort f.height
+AreShort f =
+    IsShort f.x × IsShort f.y × IsShort f.z × IsShort f.size_x × IsShort f.size_y × IsShort f.height
 
 -- the bytes are the text with these six numbers
 pub record IsFormOf (f : FirstForm) (bytes : List ℕ) : Type 0 where

@@ -1,5 +1,7 @@
 -- What an input of the first form means: a box, or the first of three defects.
-use Rattle.std.specs.Prelude.{◌≡◌, ◌+ℤ◌, ◌-ℤ◌, ◌*ℤ◌, ◌/◌, ◌%◌, ◌==◌, ℕ, ℤ, pos, Bool, ◌&&◌, List, [], ◌∷◌, codes, int_lt, nat_le, unsigned_abs, Option, Some, None, if◌then◌else◌}
+use Rattle.std.specs.Prelude.{◌≡◌, ◌+ℤ◌, ◌-ℤ◌, ◌*ℤ◌, ◌/◌, ◌%◌, ◌==◌, ℕ, ℤ, pos, Bool, ◌&&◌, List}
+use Rattle.std.specs.Prelude.{[], ◌∷◌, codes, int_lt, nat_le, unsigned_abs, Option, Some, None}
+use Rattle.std.specs.Prelude.{if◌then◌else◌}
 use Rattle.sb_fraction.specs.declared.point.Point.{Point}
 use Rattle.sb_fraction.specs.declared.unit.Unit.TheVariants.{Millimetre}
 use Rattle.sb_model.specs.Building.{Building, building}
@@ -8,6 +10,7 @@ use Rattle.sb_model.specs.Spots.{vector}
 use Rattle.sb_model.specs.Turns.{Quarter}
 use Rattle.sb_model.specs.declared.frame.Frame.{Frame}
 use Rattle.sb_model.specs.declared.products.Space.{Space}
+use Rattle.sb_laws.specs.Rectangles.{rectangle}
 use Rattle.sb_box.specs.declared.extent.Extent.{Extent}
 use Rattle.sb_form.specs.declared.matcher.FirstForm.{FirstForm}
 use Rattle.sb_form.specs.declared.meaning.Defect.{Defect}
@@ -47,7 +50,9 @@ is_on_grid f = is_even f.size_x && is_even f.size_y
 -- the first defect: a size that is not above 0, a coordinate out of range, a corner off the grid
 abbrev pub defect_of : FirstForm → Option Defect
 defect_of f =
-    if has_shape f then (if is_near f then (if is_on_grid f then None else Some OffGrid) else Some Range) else Some Shape
+    if has_shape f
+    then (if is_near f then (if is_on_grid f then None else Some OffGrid) else Some Range)
+    else Some Shape
 
 -- half of a size that is above 0 and even
 abbrev pub half : ℤ → ℤ
@@ -62,15 +67,11 @@ pub record IsExtentOf (f : FirstForm) (e : Extent) : Type 0 where
   pub z0 : e.z0 ≡ f.z
   pub z1 : e.z1 ≡ f.z +ℤ f.height
 
-abbrev pub corner : ℤ → ℤ → Point
-corner x y = record { x = x; y = y }
-
--- the corners of a box in plan, counterclockwise from the least one
-abbrev pub rectangle : ℤ → ℤ → ℤ → ℤ → List Point
-rectangle x0 x1 y0 y1 = corner x0 y0 ∷ corner x1 y0 ∷ corner x1 y1 ∷ corner x0 y1 ∷ []
-
+-- the corners of the box in plan
 abbrev pub plan_of : FirstForm → List Point
-plan_of f = rectangle (f.x -ℤ half f.size_x) (f.x +ℤ half f.size_x) (f.y -ℤ half f.size_y) (f.y +ℤ half f.size_y)
+plan_of f =
+    rectangle (f.x -ℤ half f.size_x) (f.x +ℤ half f.size_x)
+    (f.y -ℤ half f.size_y) (f.y +ℤ half f.size_y)
 
 -- no turn
 abbrev pub unturned : Quarter
@@ -85,7 +86,8 @@ abbrev pub space_number : ℕ
 space_number = 20
 
 abbrev pub frame_of : FirstForm → Frame
-frame_of f = record { turn = unturned; shift = nanometres f.x ∷ nanometres f.y ∷ nanometres f.z ∷ [] }
+frame_of f =
+    record { turn = unturned; shift = nanometres f.x ∷ nanometres f.y ∷ nanometres f.z ∷ [] }
 
 abbrev pub space_of : FirstForm → Space
 space_of f = record {

@@ -7,4 +7,5 @@ pub record AreThree (first second third : List ℕ) (a b c : ℤ) (rest bytes : 
   pub a_short : IsShort a
   pub b_short : IsShort b
   pub c_short : IsShort c
-  pub spelled : bytes ≡ first ++ (number_text a ++ (second ++ (number_text b ++ (third ++ (number_text c ++ rest)))))
+  pub spelled : bytes ≡ first
+      ++ (number_text a ++ (second ++ (number_text b ++ (third ++ (number_text c ++ rest)))))

@@ -8,9 +8,10 @@ ghost use Rattle.sb_model.specs.Building.{building, is_building, is_in_range, is
 ghost use Rattle.sb_model.specs.Building.{first_bad};
 ghost use Rattle.sb_model.specs.Building.{material_of, material_in as material_name};
 ghost use Rattle.sb_model.specs.Building.{material_at as name_at};
+ghost use Rattle.sb_model.specs.Faces.{space_numbered};
 
 use crate::layers::{Layer, Layering, Layers};
-use crate::products::{Element, Elements, Fillings, Openings, Spaces};
+use crate::products::{Element, Elements, Fillings, Openings, Space, Spaces};
 use sb_fraction::Unit;
 use std::alloc::Global;
 use std::marker;
@@ -120,6 +121,13 @@ impl Model {
         ensures is_building { IsTrue (is_building self.now) }
     {
         &self.spaces
+    }
+
+    /// The space with this number; `None` where there is none. Its lengths are in millimetres (mm).
+    pub fn space(&self, number: u32) -> Option<&Space>
+        ensures { option_copied result ≡ space_numbered self.now number }
+    {
+        self.spaces.as_slice().iter().find(|s| s.number == number)
     }
 
     /// The elements.

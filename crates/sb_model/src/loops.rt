@@ -1,7 +1,10 @@
 //! The plans of solids: closed loops of plan points.
 
-ghost use Rattle.std.specs.Prelude.{◌≡◌, IsTrue, Ok};
-ghost use Rattle.sb_model.specs.Loops.{are_loops, is_rectangle};
+ghost use Rattle.std.specs.Prelude.{◌≡◌, ◌<◌, ◌&&◌, length, slice_get, IfSome, IsTrue, Ok, Some};
+ghost use Rattle.std.specs.List.{list_all};
+ghost use Rattle.std.specs.Option.{option_map};
+ghost use Rattle.sb_model.specs.Loops.{are_loops, is_plan_point, is_rectangle};
+ghost use Rattle.sb_model.specs.Plan.{edge, edges_of, edges_of_loop, place_after};
 
 use sb_fraction::Point;
 use sb_list::Listed;
@@ -64,4 +67,40 @@ impl Loops {
     {
         &self.points
     }
+
+    /// The ends of edge `k`, counted through all loops from 0: the coordinates are in millimetres
+    /// (mm). `None` where there is no such edge.
+    pub fn edge(&self, k: usize) -> Option<(Point, Point)>
+        ensures value { option_map (λ e. edge e.0 e.1) result ≡ slice_get (edges_of self.now) k }
+        ensures in_range { IfSome result (λ e. IsTrue (is_plan_point e.0 && is_plan_point e.1)) }
+    {
+        let mut left = k;
+        for points in self.points().as_slice() {
+            let points = points.as_slice();
+            if left < points.len() {
+                return Some(edge_in(points, left));
+            }
+            left -= points.len();
+        }
+        None
+    }
+}
+
+/// The ends of edge `k` of a loop.
+fn edge_in(points: &[Point], k: usize) -> (Point, Point)
+    requires within { k < length points.now }
+    requires in_range { IsTrue (list_all is_plan_point points.now) }
+    ensures value { slice_get (edges_of_loop points.now) k ≡ Some (edge result.0 result.1) }
+    ensures in_range { IsTrue (is_plan_point result.0 && is_plan_point result.1) }
+{
+    (points[k], points[next_place(k, points.len())])
+}
+
+/// The place after `k` in a closed loop of `len` points.
+fn next_place(k: usize, len: usize) -> usize
+    requires { k < len }
+    ensures value { result ≡ place_after k len }
+    ensures within { result < len }
+{
+    if k + 1 < len { k + 1 } else { 0 }
 }

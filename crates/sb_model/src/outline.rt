@@ -1,13 +1,11 @@
 //! The corners of patches.
 
-ghost use Rattle.std.specs.Prelude.{◌≡◌, ◌==◌, ◌<◌, length, int_lt, slice_get, IsTrue, Some};
-ghost use Rattle.std.specs.Prelude.{is_some};
+ghost use Rattle.std.specs.Prelude.{◌≡◌, int_lt, slice_get, IsTrue, Some};
 ghost use Rattle.std.specs.Ordering.{int_eq};
-ghost use Rattle.std.specs.Option.{option_copied, option_map};
 ghost use Rattle.sb_fraction.specs.Ratio.{is_fraction};
-ghost use Rattle.sb_model.specs.Plan.{edge, edges_of, edges_of_loop, place_after};
+ghost use Rattle.sb_model.specs.Plan.{edge, edges_of};
 ghost use Rattle.sb_model.specs.Sides.{line_of};
-ghost use Rattle.sb_model.specs.Faces.{runs_along, space_numbered, is_face_of};
+ghost use Rattle.sb_model.specs.Faces.{runs_along, is_face_of};
 ghost use Rattle.sb_model.specs.Corners.{whole as whole_number, level_corner, side_corner};
 ghost use Rattle.sb_model.specs.Corners.{listed as corners_listed};
 ghost use Rattle.sb_model.specs.Corners.{corners_of, is_level_side, is_straight, is_straight_edge};
@@ -32,7 +30,7 @@ pub fn corners(model: &Model, patch: &Patch) -> Corners
     requires straight { IsTrue (is_straight model.now patch.now) }
     ensures { Some result ≡ corners_of model.now patch.now }
 {
-    outline_of(find_space(model, patch.face.space).unwrap(), patch)
+    outline_of(model.space(patch.face.space).unwrap(), patch)
 }
 
 /// The corners of a patch of a face of this space.
@@ -54,7 +52,7 @@ fn side_outline(loops: &Loops, k: usize, patch: &Patch) -> Corners
     requires { IsTrue (is_straight_edge (slice_get (edges_of loops.now) k)) }
     ensures { Some result ≡ side_corners (slice_get (edges_of loops.now) k) patch.now }
 {
-    let (a, b) = edge_of(loops, k).unwrap();
+    let (a, b) = loops.edge(k).unwrap();
     over_edge(a, b, patch)
 }
 
@@ -78,49 +76,6 @@ struct Ends {
     low_upper: Corner,
     high_lower: Corner,
     high_upper: Corner,
-}
-
-/// The space with this number.
-fn find_space(model: &Model, number: u32) -> Option<&Space>
-    ensures { option_copied result ≡ space_numbered model.now number }
-{
-    model
-        .spaces()
-        .as_slice()
-        .iter()
-        .find(|s| s.number == number)
-}
-
-/// The ends of edge `k`, counted through all loops; `None` where there is none.
-fn edge_of(loops: &Loops, k: usize) -> Option<(Point, Point)>
-    ensures { option_map (λ e. edge e.0 e.1) result ≡ slice_get (edges_of loops.now) k }
-{
-    let mut left = k;
-    for points in loops.points().as_slice() {
-        let points = points.as_slice();
-        if left < points.len() {
-            return Some(edge_in(points, left));
-        }
-        left -= points.len();
-    }
-    None
-}
-
-/// The ends of edge `k` of a loop.
-fn edge_in(points: &[Point], k: usize) -> (Point, Point)
-    requires { k < length points.now }
-    ensures { slice_get (edges_of_loop points.now) k ≡ Some (edge result.0 result.1) }
-{
-    (points[k], points[next_place(k, points.len())])
-}
-
-/// The place after k in a closed loop of so many points.
-fn next_place(k: usize, len: usize) -> usize
-    requires { k < len }
-    ensures next { result ≡ place_after k len }
-    ensures within { result < len }
-{
-    if k + 1 < len { k + 1 } else { 0 }
 }
 
 /// A whole number as a fraction.

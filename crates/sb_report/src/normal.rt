@@ -1,20 +1,17 @@
 //! The outward normals of faces.
 
-ghost use Rattle.std.specs.Prelude.{◌≡◌, ◌==◌, ◌&&◌, ◌<◌, ◌≤◌, IfSome, ◌-ℤ◌, ◌*ℤ◌, ◌+ℤ◌};
-ghost use Rattle.std.specs.Prelude.{◌+◌, ◌/◌, length, slice_get, IsTrue, Some, pos, neg_ℤ, unsigned_abs};
-ghost use Rattle.std.specs.Option.{option_copied, option_map};
-ghost use Rattle.std.specs.List.{list_all};
+ghost use Rattle.std.specs.Prelude.{◌≡◌, ◌≤◌, ◌-ℤ◌, ◌*ℤ◌, ◌+ℤ◌, ◌+◌, ◌/◌, IsTrue, Some, pos};
+ghost use Rattle.std.specs.Prelude.{neg_ℤ, unsigned_abs};
 ghost use Rattle.sb_fraction.specs.Divisors.{greatest_divisor};
 ghost use Rattle.sb_model.specs.Spots.{vector, inner};
-ghost use Rattle.sb_model.specs.Plan.{edge, edges_of, edges_of_loop, place_after};
+ghost use Rattle.sb_model.specs.Plan.{edge};
 ghost use Rattle.sb_model.specs.Loops.{is_plan_point};
-ghost use Rattle.sb_model.specs.Faces.{normal_over as normal_over_edge, space_numbered};
-ghost use Rattle.sb_model.specs.Faces.{is_face_of};
+ghost use Rattle.sb_model.specs.Faces.{is_face_of, normal_over as normal_over_edge};
 ghost use Rattle.sb_report.specs.Normals.{normal_of};
 ghost use Rattle.sb_report.specs.Steps.{vector_of, is_short, signed_as};
 
 use sb_fraction::{Fraction, Point};
-use sb_model::{Axis, Face, FaceKind, Loops, Model, Space};
+use sb_model::{Axis, Face, FaceKind, Model};
 
 /// The outward normal of a face of the model.
 pub fn normal(model: &Model, face: Face) -> Axis
@@ -26,8 +23,8 @@ pub fn normal(model: &Model, face: Face) -> Axis
         FaceKind::Bottom => Axis { x: 0, y: 0, z: -1 },
         FaceKind::Top => Axis { x: 0, y: 0, z: 1 },
         FaceKind::Side(k) => {
-            let space = find_space(model, face.space).unwrap();
-            let (a, b) = edge_of(space.prism.loops(), k as usize).unwrap();
+            let space = model.space(face.space).unwrap();
+            let (a, b) = space.prism.loops().edge(k as usize).unwrap();
             normal_over(a, b)
         }
     }
@@ -132,50 +129,4 @@ fn opposite(a: i32) -> i32
     ensures size { unsigned_abs result ≤ 1000000 }
 {
     -a
-}
-
-/// The space with this number.
-fn find_space(model: &Model, number: u32) -> Option<&Space>
-    ensures { option_copied result ≡ space_numbered model.now number }
-{
-    model
-        .spaces()
-        .as_slice()
-        .iter()
-        .find(|s| s.number == number)
-}
-
-/// The ends of edge `k`, counted through all loops; `None` where there is none.
-fn edge_of(loops: &Loops, k: usize) -> Option<(Point, Point)>
-    ensures value { option_map (λ e. edge e.0 e.1) result ≡ slice_get (edges_of loops.now) k }
-    ensures in_range { IfSome result (λ e. IsTrue (is_plan_point e.0 && is_plan_point e.1)) }
-{
-    let mut left = k;
-    for points in loops.points().as_slice() {
-        let points = points.as_slice();
-        if left < points.len() {
-            return Some(edge_in(points, left));
-        }
-        left -= points.len();
-    }
-    None
-}
-
-/// The ends of edge `k` of a loop.
-fn edge_in(points: &[Point], k: usize) -> (Point, Point)
-    requires within { k < length points.now }
-    requires in_range { IsTrue (list_all is_plan_point points.now) }
-    ensures value { slice_get (edges_of_loop points.now) k ≡ Some (edge result.0 result.1) }
-    ensures in_range { IsTrue (is_plan_point result.0 && is_plan_point result.1) }
-{
-    (points[k], points[next_place(k, points.len())])
-}
-
-/// The place after `k` in a closed loop of `len` points.
-fn next_place(k: usize, len: usize) -> usize
-    requires { k < len }
-    ensures value { result ≡ place_after k len }
-    ensures within { result < len }
-{
-    if k + 1 < len { k + 1 } else { 0 }
 }

@@ -4,6 +4,16 @@ use Rattle.sb_form.proofs.building.model.Goals as goal
 
 pub unreachable-requires : goal.unreachable-requires
 unreachable-requires c =
-    let found = (c.in-Err-BadNumber.ensures.bad_number c.in-Err-BadNumber.field-0-0).0 (ap Err c.in-Err-BadNumber.field-0-is) in
-    let none = rw (c.in_ok-push.ensures.ok, c.new-spaces.ensures, c.in_ok-space.ensures, c.new-elements.ensures, c.new-openings.ensures, c.new-fillings.ensures) at found in
+    let found =
+    (c.in-Err-BadNumber.ensures.bad_number c.in-Err-BadNumber.field-0-0).0
+    (ap Err c.in-Err-BadNumber.field-0-is) in
+    let none =
+    rw (
+      c.in_ok-push.ensures.ok,
+      c.new-spaces.ensures,
+      c.in_ok-space.ensures,
+      c.new-elements.ensures,
+      c.new-openings.ensures,
+      c.new-fillings.ensures,
+    ) at found in
     absurd (cc none)

@@ -2,4 +2,5 @@ use Rattle.sb_form.proofs.FormHasOneReading.{none_behind}
 use Rattle.sb_form.proofs.matcher.number_behind.Goals as goal
 
 pub returns-in-Some-clause-none : goal.returns-in-Some-clause-none
-returns-in-Some-clause-none c = none_behind c.number.result _ _ _ c.in-Some.ensures.found c.number.ensures.none
+returns-in-Some-clause-none c =
+    none_behind c.number.result _ _ _ c.in-Some.ensures.found c.number.ensures.none

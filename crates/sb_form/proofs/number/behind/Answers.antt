@@ -5,5 +5,7 @@ use Rattle.sb_form.proofs.number.behind.Goals as goal
 
 pub returns : goal.returns
 returns c =
-    let cases = strip_prefix_is Decides-eqb c.args.bytes.now c.args.opening.now c.strip_prefix.result c.strip_prefix.ensures.cases in
+    let cases =
+    strip_prefix_is Decides-eqb c.args.bytes.now c.args.opening.now c.strip_prefix.result
+    c.strip_prefix.ensures.cases in
     record { found = search (rules, cases); none = search (rules, cases) }

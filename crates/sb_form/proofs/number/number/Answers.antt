@@ -3,7 +3,8 @@ use Rattle.sb_form.proofs.NumbersEndAtTheirPoint.{behind_minus, decimal_next}
 use Rattle.sb_form.proofs.number.number.Goals as goal
 
 pub returns-in_err-size-in-Some-clause-none : goal.returns-in_err-size-in-Some-clause-none
-returns-in_err-size-in-Some-clause-none c = rw c.from_residual-in_err-size-in-Some.ensures (λ n rest short same.
+returns-in_err-size-in-Some-clause-none c =
+    rw c.from_residual-in_err-size-in-Some.ensures (λ n rest short same.
     let (m, small, digits) = behind_minus n rest _ short (sym c.in-Some.ensures.found ∙ same) in
     c.in_err-size-in-Some.ensures.none (suc m) rest small digits)
 

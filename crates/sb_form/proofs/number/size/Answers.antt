@@ -5,7 +5,8 @@ use Rattle.sb_form.proofs.number.size.Goals as goal
 
 pub returns-in_err-point-clause-none : goal.returns-in_err-point-clause-none
 returns-in_err-point-clause-none c = rw c.from_residual.ensures (λ n rest short same.
-    let none = c.in_err-point.was in cc (position-decimal n rest _ short same, c.point_place.ensures, none))
+    let none = c.in_err-point.was in
+    cc (position-decimal n rest _ short same, c.point_place.ensures, none))
 
 pub returns-in_err-value-clause-none : goal.returns-in_err-value-clause-none
 returns-in_err-value-clause-none c = rw c.from_residual-in_err-value.ensures (λ n rest short same.

@@ -1,5 +1,5 @@
 use Rattle.sb_model.proofs.EdgesByPlace.{edge_by_place}
-use Rattle.sb_report.proofs.normal.edge_in.Goals as goal
+use Rattle.sb_model.proofs.loops.edge_in.Goals as goal
 
 pub returns-clause-value : goal.returns-clause-value
 returns-clause-value c = rw c.next_place.ensures.value (edge_by_place _ _ _ c.requires.within)
