@@ -1,5 +1,5 @@
 -- What the index of an input says of it, and that an input which cannot be indexed is refused for this.
-use Rattle.std.proofs.Common.{◌≡◌, ◌≢◌, ◌≤◌, ◌↔◌, ◌∙◌, ℕ, List, length, Result, Ok, Err, refl}
+use Rattle.std.proofs.Common.{◌≡◌, ◌≤◌, ◌↔◌, ℕ, List, length, Result, Ok, Err, refl}
 use Rattle.sb_step.specs.Indexed.{Indexed}
 use Rattle.sb_step.specs.Answers.{IsIndexed, HasDoubled, IsAnswer, IsInTime}
 use Rattle.sb_step.specs.Faults.{IsFaultAt}
@@ -7,9 +7,8 @@ use Rattle.sb_step.specs.declared.error.StepError.{StepError}
 use Rattle.sb_step.specs.declared.error.StepError.TheVariants as step_error
 use Rattle.sb_form.specs.FirstForm.{IsFormOf}
 use Rattle.sb_form.specs.declared.matcher.FirstForm.{FirstForm}
-use Rattle.sb_run.specs.Promises.{longest, IsExchangeText, IsSound, IsRefused}
+use Rattle.sb_run.specs.Promises.{longest, IsExchangeText, IsRefused}
 use Rattle.sb_run.specs.Judgements.{IsRead, IsJudged, refusal_of}
-use Rattle.sb_run.specs.declared.answer.Answer.TheVariants.{Refused}
 use Rattle.sb_run.specs.declared.answer.Code.{Code}
 use Rattle.sb_run.specs.declared.answer.Code.TheVariants as code
 
