@@ -24,7 +24,8 @@ use Rattle.sb_model.specs.Corners.{whole}
 use Rattle.sb_model.specs.Faces.{Surface, surface_of, space_numbered, has_face, is_of_face, times_w}
 use Rattle.sb_model.specs.PlainPoints.{is_plain}
 use Rattle.sb_model.specs.Patches.{is_same_kind, is_in_patch, is_child_of, is_number}
-use Rattle.sb_model.specs.Places.{Stands, boundary_at}
+use Rattle.sb_whole.specs.Lists.{Stands}
+use Rattle.sb_model.specs.Places.{boundary_at}
 use Rattle.sb_model.specs.Covers.{Covers, CoversFace, is_top_at}
 use Rattle.sb_model.specs.Trimmed.{AreTopsTrimmed, AreTrimmed}
 use Rattle.sb_model.specs.Mirrors.{ArePaired, IsPairedBy}

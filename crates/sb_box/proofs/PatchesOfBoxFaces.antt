@@ -15,7 +15,8 @@ use Rattle.sb_model.specs.declared.walk.End.{End}
 use Rattle.sb_model.specs.declared.walk.End.TheVariants as end
 use Rattle.sb_model.specs.Patches.{is_same_kind}
 use Rattle.sb_model.specs.Order.{rank_of}
-use Rattle.sb_model.specs.Places.{ExactlyOne, AllOfTwo}
+use Rattle.sb_whole.specs.Lists.{AllOfTwo}
+use Rattle.sb_model.specs.Places.{ExactlyOne}
 use Rattle.sb_laws.proofs.PatchesBetweenLevels.{is_in_window}
 use Rattle.sb_laws.proofs.ListsInBlocks.{none-append, none_where, first_alone, one_behind}
 use Rattle.sb_laws.proofs.ListsInBlocks.{one_in_first, one_in_second, all-append, all_weaker}

@@ -1,15 +1,13 @@
 -- Between two ends there is a number, and the order goes on through numbers between them.
-use Rattle.std.proofs.Common.{◌≡◌, refl, inl, inr, ◌⊎◌, arith, ◌∙◌, sym}
+use Rattle.std.proofs.Common.{◌≡◌, refl, inl, inr, ◌⊎◌, arith}
 use Rattle.std.proofs.Common.{Option, Some, None, ℤ, pos, negsuc, ◌+ℤ◌, ◌-ℤ◌, ◌*ℤ◌, neg_ℤ}
 use Rattle.std.proofs.Common.{zero, suc, unsigned_abs}
 use Rattle.std.proofs.lemmas.Int.{ints}
 use Rattle.sb_whole.specs.Arrows.{Arrow, arrow, cross, mirror}
-use Rattle.sb_whole.specs.Rationals.{IsRational, IsBelow, IsAtMost, IsSame, mediant, rational}
-use Rattle.sb_whole.proofs.Shapes.{var, plus, minus, times, equal, cross_by, cross_eq}
+use Rattle.sb_whole.specs.Rationals.{IsRational, IsBelow, IsAtMost, mediant, rational}
+use Rattle.sb_whole.proofs.Shapes.{var, plus, minus, times, equal, cross_by}
 use Rattle.sb_whole.proofs.Products.{positive_product}
-use Rattle.sb_whole.proofs.Reduced.{reduced_unique}
-use Rattle.sb_whole.proofs.Arrows.{same_arrow, cross-mirror, mirror-cross, cross-mirror_comm}
-use Rattle.sb_whole.proofs.Ring.{mul_comm}
+use Rattle.sb_whole.proofs.Arrows.{cross-mirror, mirror-cross, cross-mirror_comm}
 use Rattle.sb_whole.proofs.Rationals.{below_trans, below_or_not, at_most_below_trans}
 use Rattle.sb_whole.proofs.Rationals.{below_at_most_trans}
 use Rattle.sb_whole.proofs.Rationals.{mediant-IsRational, mediant_between}
@@ -159,18 +157,6 @@ below_two_ends low high other low_in high_in other_in wide wide_too =
 -- a reduced fraction is a rational number
 pub fraction-IsRational : (r : Arrow) → IsFraction r → IsRational r
 fraction-IsRational r r_in = r_in.positive
-
--- and the only one of its value
-pub fraction_unique : (r s : Arrow) → IsFraction r → IsFraction s → IsSame r s → r ≡ s
-fraction_unique r s r_in s_in same =
-    let pair = reduced_unique r.y r.x s.y s.x r_in s_in proportion in
-    same_arrow r s pair.1 pair.0
-  where
-    proportion : r.y *ℤ s.x ≡ s.y *ℤ r.x
-    proportion =
-        let written : (r.x *ℤ s.y) -ℤ (r.y *ℤ s.x) ≡ pos 0 = sym (cross_eq r s) ∙ same in
-        let turned = mul_comm s.y r.x in
-        omega (arith, ints)
 
 unsigned_abs-neg : (n : ℤ) → unsigned_abs (neg_ℤ n) ≡ unsigned_abs n
 unsigned_abs-neg (pos zero) = refl

@@ -9,7 +9,8 @@ use Rattle.sb_cuttings.specs.Cuttings.{Break, HasLabel, IsCutting, AreDifferent}
 use Rattle.sb_cuttings.specs.Laws.{HasOneCutting}
 use Rattle.sb_cuttings.specs.Changes.{break_at}
 use Rattle.sb_cuttings.proofs.Ends.{IsBetween, after_trans, before_trans}
-use Rattle.sb_cuttings.proofs.Ends.{below_two_ends, fraction_unique}
+use Rattle.sb_whole.proofs.Reduced.{fraction_unique}
+use Rattle.sb_cuttings.proofs.Ends.{below_two_ends}
 
 -- where the first piece ends
 pub next_end : {L : Type 0} → List (Break L) → Option Arrow → Option Arrow

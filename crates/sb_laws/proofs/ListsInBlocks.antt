@@ -5,7 +5,8 @@ use Rattle.std.specs.Bool.{MatchBool}
 use Rattle.std.specs.List.{AllByRecursion, list_any}
 use Rattle.std.proofs.lemmas.Bool.{or_parts, or_from, false≢true}
 use Rattle.sb_model.specs.declared.boundary.Boundary.{Boundary}
-use Rattle.sb_model.specs.Places.{Stands, ExactlyOne, AllOfTwo, boundary_at}
+use Rattle.sb_whole.specs.Lists.{Stands, AllOfTwo}
+use Rattle.sb_model.specs.Places.{ExactlyOne, boundary_at}
 
 -- ---- any
 

@@ -10,7 +10,8 @@ use Rattle.sb_model.specs.Building.{Building}
 use Rattle.sb_model.specs.Faces.{Surface, surface_of, space_numbered}
 use Rattle.sb_model.specs.PlainPoints.{is_plain}
 use Rattle.sb_model.specs.Patches.{region_of, is_in_patch, is_child_of}
-use Rattle.sb_model.specs.Places.{Stands, ExactlyOne, NoneOf, AllOfTwo, boundary_at}
+use Rattle.sb_whole.specs.Lists.{Stands, AllOfTwo}
+use Rattle.sb_model.specs.Places.{ExactlyOne, NoneOf, boundary_at}
 use Rattle.sb_model.specs.Trimmed.{AreTrimmed}
 use Rattle.sb_model.specs.OpenedPoints.{IsOpened, IsKey}
 

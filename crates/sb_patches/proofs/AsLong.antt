@@ -9,7 +9,7 @@ use Rattle.sb_whole.proofs.Rationals.{same_sym}
 use Rattle.sb_plane.specs.Sides.{clearance_at}
 use Rattle.sb_plane.specs.Regions.{Region, IsRegion}
 use Rattle.sb_plane.proofs.Regions.{open_between}
-use Rattle.sb_patches.specs.Lists.{Stands}
+use Rattle.sb_whole.specs.Lists.{Stands}
 use Rattle.sb_patches.specs.Marked.{MarkedPatch, IsPatch}
 use Rattle.sb_patches.specs.Sheets.{Sheet}
 use Rattle.sb_patches.proofs.NoneBetween.{IsFreeBefore, IsFreeAfter, free_before, free_after}

@@ -11,7 +11,7 @@ use Rattle.sb_whole.proofs.Rationals.{below_trans, number_cases, same_sym, same_
 use Rattle.sb_plane.specs.Sides.{level, clearance}
 use Rattle.sb_plane.specs.Points.{FacePoint, IsFacePoint, abscissa_of, is_above_side, is_under_side}
 use Rattle.sb_plane.specs.Regions.{is_region, is_inside, is_seam}
-use Rattle.sb_patches.specs.Lists.{Stands}
+use Rattle.sb_whole.specs.Lists.{Stands}
 use Rattle.sb_patches.specs.Marked.{MarkedPatch}
 use Rattle.sb_patches.specs.Sheets.{IsMarkedAt, ArePlainOffCuts, HaveSameMarks}
 use Rattle.sb_patches.specs.Trimmed.{AreApart, AreTrimmed, IsTrimmedList}

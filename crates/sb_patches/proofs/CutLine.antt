@@ -12,7 +12,7 @@ use Rattle.sb_plane.specs.Regions.{Region, IsRegion, IsInner}
 use Rattle.sb_plane.proofs.Clearance.{value_on-IsRational, higher_is, at_least_is, clearance-turn}
 use Rattle.sb_plane.proofs.Clearance.{at_most_trans}
 use Rattle.sb_plane.proofs.Regions.{open_between}
-use Rattle.sb_patches.specs.Lists.{Stands}
+use Rattle.sb_whole.specs.Lists.{Stands}
 use Rattle.sb_patches.specs.Marked.{MarkedPatch, IsPatch}
 use Rattle.sb_patches.specs.Sheets.{Sheet, IsSheet, IsNoAbscissa}
 use Rattle.sb_patches.proofs.Lists.{all_of_images, all_images, all_follow}

@@ -15,7 +15,7 @@ use Rattle.sb_plane.specs.Regions.{is_region}
 use Rattle.sb_plane.specs.Regions.{closures_meet, is_reached, reaches_under}
 use Rattle.sb_plane.proofs.Regions.{region_from}
 use Rattle.sb_plane.proofs.Closures.{test_from_common, common_from_test}
-use Rattle.sb_patches.specs.Lists.{Stands}
+use Rattle.sb_whole.specs.Lists.{Stands}
 use Rattle.sb_patches.specs.Marked.{MarkedPatch, IsPatch}
 use Rattle.sb_patches.specs.Sheets.{Sheet, IsSheet, IsNoAbscissa, IsMarkedAt}
 use Rattle.sb_patches.specs.Trimmed.{AreApart, HaveNoSeam, IsTrimmedList}

@@ -2,7 +2,7 @@
 -- different places.
 use Rattle.std.proofs.Common.{◌≡◌, sym, ◌∙◌, inl, inr, ◌⊎◌, subst, List, [], ◌∷◌, map}
 use Rattle.std.specs.List.{AllByRecursion}
-use Rattle.sb_patches.specs.Lists.{Stands, AllOfTwo}
+use Rattle.sb_whole.specs.Lists.{Stands, AllOfTwo}
 
 module _ {X : Type 0} where
   -- what holds of all holds of one that stands there

@@ -12,7 +12,7 @@ use Rattle.sb_whole.proofs.Rationals.{below_or_not}
 use Rattle.sb_whole.proofs.Clear.{clear_to, clear_from}
 use Rattle.sb_whole.proofs.Avoid.{IsOther, not_zero_where_kept, value-form_of}
 use Rattle.sb_whole.proofs.Avoid.{form_of_is_form}
-use Rattle.sb_patches.specs.Lists.{Stands}
+use Rattle.sb_whole.specs.Lists.{Stands}
 use Rattle.sb_patches.proofs.Lists.{all_stands}
 
 -- no number of the list lies strictly between r and t

@@ -18,7 +18,7 @@ use Rattle.sb_plane.specs.Sides.{clearance_at, is_same_side}
 use Rattle.sb_plane.specs.Regions.{Region, IsRegion, is_seam, have_same_sides}
 use Rattle.sb_plane.proofs.SameSide.{same_side_decides}
 use Rattle.sb_plane.proofs.Regions.{open_between}
-use Rattle.sb_patches.specs.Lists.{Stands}
+use Rattle.sb_whole.specs.Lists.{Stands}
 use Rattle.sb_patches.specs.Marked.{MarkedPatch}
 use Rattle.sb_patches.specs.Sheets.{Sheet, IsSheet}
 use Rattle.sb_patches.proofs.Spaced.{IsOver, AreSpaced, IsSpacedList, patch_there}

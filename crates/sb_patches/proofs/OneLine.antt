@@ -9,7 +9,7 @@ use Rattle.sb_whole.proofs.Rationals.{below_trans, below_irrefl}
 use Rattle.sb_whole.proofs.Rationals.{at_most_below_trans, below_at_most_trans}
 use Rattle.sb_whole.proofs.Rationals.{at_most_from_below, mediant-IsRational, mediant_between}
 use Rattle.sb_whole.proofs.Avoid.{IsOther, another_is}
-use Rattle.sb_patches.specs.Lists.{Stands}
+use Rattle.sb_whole.specs.Lists.{Stands}
 use Rattle.sb_patches.proofs.Lists.{all_stands}
 use Rattle.sb_patches.proofs.NoneBetween.{IsFreeBefore, IsFreeAfter, free_before}
 use Rattle.sb_patches.proofs.NoneBetween.{free_after, other_between, beyond_end}

@@ -1,21 +1,16 @@
 -- The law of patches: two spaced lists that cover alike hold the same patches; and so do two
 -- trimmed lists that put the same plain points under the same marks.
-use Rattle.std.proofs.Common.{◌≡◌, sym, ◌∙◌, subst, arith, List, pos, ◌-ℤ◌, ◌*ℤ◌, IsTrue}
+use Rattle.std.proofs.Common.{◌≡◌, sym, ◌∙◌, subst, List, IsTrue}
 use Rattle.std.proofs.Common.{IsPermutation}
-use Rattle.std.proofs.lemmas.Int.{ints}
 use Rattle.sb_whole.specs.Arrows.{Arrow}
-use Rattle.sb_whole.specs.Rationals.{IsAtMost, IsSame}
-use Rattle.sb_whole.specs.Reduced.{IsReduced}
-use Rattle.sb_whole.proofs.Shapes.{cross_eq}
-use Rattle.sb_whole.proofs.Ring.{mul_comm}
-use Rattle.sb_whole.proofs.Arrows.{same_arrow}
-use Rattle.sb_whole.proofs.Reduced.{reduced_unique}
+use Rattle.sb_whole.specs.Rationals.{IsAtMost}
+use Rattle.sb_whole.proofs.Reduced.{fraction_unique}
 use Rattle.sb_whole.proofs.Rationals.{same_from_at_most, at_most_refl, at_most_trans}
 use Rattle.sb_whole.proofs.Rationals.{at_most_below_trans, below_at_most_trans}
 use Rattle.sb_plane.specs.Sides.{LineSide}
 use Rattle.sb_plane.specs.Points.{FacePoint}
 use Rattle.sb_plane.specs.Regions.{Region}
-use Rattle.sb_patches.specs.Lists.{Stands}
+use Rattle.sb_whole.specs.Lists.{Stands}
 use Rattle.sb_patches.specs.Marked.{MarkedPatch, IsPatch}
 use Rattle.sb_patches.specs.Sheets.{Sheet}
 use Rattle.sb_patches.specs.Laws.{CoverAlike, HaveSamePatches, HasLawOfPatches, HasOneListOfPatches}
@@ -26,14 +21,6 @@ use Rattle.sb_patches.proofs.SameLines.{same_lines}
 use Rattle.sb_patches.proofs.AsLong.{starts_by, ends_by}
 use Rattle.sb_patches.proofs.SamePoints.{AreTwoCovers, exchanged, two_covers}
 use Rattle.sb_patches.proofs.OneIfTouching.{HaveOneSides, one_if_overlapping}
-
--- reduced fractions of one value are equal
-same_fraction : (r s : Arrow) → IsReduced r.y r.x → IsReduced s.y s.x → IsSame r s → r ≡ s
-same_fraction r s r_in s_in same =
-    let written : (r.x *ℤ s.y) -ℤ (r.y *ℤ s.x) ≡ pos 0 = sym (cross_eq r s) ∙ same in
-    let turned = mul_comm s.y r.x in
-    let pair = reduced_unique r.y r.x s.y s.x r_in s_in (omega (arith, ints)) in
-    same_arrow r s pair.1 pair.0
 
 -- the region with these ends and sides
 abbrev region_of : Arrow → Arrow → LineSide → LineSide → Region
@@ -94,9 +81,9 @@ same_if_as_long : {M : Type 0} (ps qs : List (MarkedPatch M)) (p q : MarkedPatch
 same_if_as_long ps qs p q p_in q_in long low high =
     same_patch p q
     (same_region p.region q.region
-    (same_fraction p.region.low q.region.low p_in.low_reduced q_in.low_reduced
+    (fraction_unique p.region.low q.region.low p_in.low_reduced q_in.low_reduced
     (same_from_at_most p.region.low q.region.low low long.low))
-    (same_fraction p.region.high q.region.high p_in.high_reduced q_in.high_reduced
+    (fraction_unique p.region.high q.region.high p_in.high_reduced q_in.high_reduced
     (same_from_at_most p.region.high q.region.high long.high high))
     long.sides.lower long.sides.upper)
     (sym long.same_mark)

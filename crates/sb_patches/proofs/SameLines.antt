@@ -12,7 +12,7 @@ use Rattle.sb_whole.proofs.Rationals.{at_most_below_trans, below_at_most_trans}
 use Rattle.sb_whole.proofs.Avoid.{IsOffZero, avoiding_is, value-form_of, form_of_is_form}
 use Rattle.sb_plane.specs.Sides.{LineSide, IsReducedSide, clearance, clearance_at, is_same_side}
 use Rattle.sb_plane.proofs.SameSide.{same_side_decides, other_side_is_form}
-use Rattle.sb_patches.specs.Lists.{Stands}
+use Rattle.sb_whole.specs.Lists.{Stands}
 use Rattle.sb_patches.specs.Marked.{MarkedPatch, IsPatch}
 use Rattle.sb_patches.specs.Sheets.{Sheet, IsNoAbscissa}
 use Rattle.sb_patches.proofs.Lists.{all_of_images, all_images, all_follow}

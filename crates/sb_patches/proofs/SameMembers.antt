@@ -6,7 +6,7 @@ use Rattle.std.specs.List.{AllByRecursion}
 use Rattle.std.proofs.lemmas.List.Sorted.{IsPermutation-refl, IsPermutation-cons}
 use Rattle.std.proofs.lemmas.List.Sorted.{IsPermutation-trans, IsPermutation-sym}
 use Rattle.std.proofs.lemmas.List.Sorted.{IsPermutation-middle}
-use Rattle.sb_patches.specs.Lists.{Stands, AllOfTwo}
+use Rattle.sb_whole.specs.Lists.{Stands, AllOfTwo}
 use Rattle.sb_patches.proofs.Lists.{all_stands}
 
 -- no item stands at two places

@@ -6,7 +6,7 @@ use Rattle.sb_whole.specs.Arrows.{Arrow, cross}
 use Rattle.sb_whole.specs.Rationals.{IsRational, IsSame}
 use Rattle.sb_plane.specs.Sides.{LineSide, value_on}
 use Rattle.sb_plane.specs.Regions.{IsInner}
-use Rattle.sb_patches.specs.Lists.{Stands}
+use Rattle.sb_whole.specs.Lists.{Stands}
 use Rattle.sb_patches.specs.Marked.{MarkedPatch}
 use Rattle.sb_patches.specs.Sheets.{Sheet, IsSheet, IsNoAbscissa, IsOffCuts, IsMarkedAt}
 use Rattle.sb_patches.specs.Sheets.{ArePlainOffCuts}

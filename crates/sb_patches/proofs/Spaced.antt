@@ -10,7 +10,7 @@ use Rattle.sb_whole.proofs.Rationals.{at_most_from_below}
 use Rattle.sb_plane.specs.Sides.{clearance_at}
 use Rattle.sb_plane.specs.Regions.{Region, IsRegion, closures_meet, is_reached, reaches_under}
 use Rattle.sb_plane.proofs.Closures.{common_from_test}
-use Rattle.sb_patches.specs.Lists.{Stands}
+use Rattle.sb_whole.specs.Lists.{Stands}
 use Rattle.sb_patches.specs.Marked.{MarkedPatch, IsPatch}
 use Rattle.sb_patches.specs.Sheets.{Sheet, IsNoAbscissa}
 use Rattle.sb_patches.specs.Trimmed.{AreApart, HaveNoSeam, AreTrimmed, IsTrimmedList}

@@ -1,7 +1,7 @@
 -- The law of patches.
 use Rattle.std.specs.Prelude.{◌↔◌, Bool, IsTrue, List, IsPermutation}
 use Rattle.sb_plane.specs.Points.{FacePoint}
-use Rattle.sb_patches.specs.Lists.{Stands}
+use Rattle.sb_whole.specs.Lists.{Stands}
 use Rattle.sb_patches.specs.Marked.{MarkedPatch}
 use Rattle.sb_patches.specs.Sheets.{Sheet, IsSheet, ArePlainOffCuts, HaveSameMarks}
 use Rattle.sb_patches.specs.Trimmed.{IsTrimmedList}

@@ -1,5 +1,4 @@
 -- What a sheet and a trimmed list of marked patches are, and the law, in reading order.
-pub mod Lists
 pub mod Marked
 pub mod Sheets
 pub mod Trimmed

@@ -6,7 +6,7 @@ use Rattle.sb_whole.specs.Rationals.{IsRational, IsSame}
 use Rattle.sb_plane.specs.Sides.{LineSide, IsLineSide}
 use Rattle.sb_plane.specs.Points.{FacePoint, IsFacePoint, abscissa_of, is_on_side}
 use Rattle.sb_plane.specs.Regions.{is_inside}
-use Rattle.sb_patches.specs.Lists.{Stands}
+use Rattle.sb_whole.specs.Lists.{Stands}
 use Rattle.sb_patches.specs.Marked.{MarkedPatch}
 
 -- the abscissae are the numbers u at whose lines patches may end and touch; the cuts are sides on

@@ -4,7 +4,7 @@ use Rattle.std.specs.List.{AllByRecursion}
 use Rattle.sb_whole.specs.Arrows.{Arrow}
 use Rattle.sb_whole.specs.Rationals.{IsRational}
 use Rattle.sb_plane.specs.Regions.{Region, IsCommon, is_seam}
-use Rattle.sb_patches.specs.Lists.{AllOfTwo}
+use Rattle.sb_whole.specs.Lists.{AllOfTwo}
 use Rattle.sb_patches.specs.Marked.{MarkedPatch, IsPatch}
 use Rattle.sb_patches.specs.Sheets.{Sheet, IsNoAbscissa}
 

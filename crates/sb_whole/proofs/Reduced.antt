@@ -1,13 +1,17 @@
 -- Reduced fractions that are equal as numbers are equal as data.
 use Rattle.std.proofs.Common.{◌≡◌, ℕ, zero, suc, ◌+◌, ◌*◌, ◌-◌, ◌<◌, ◌≤◌, ⊎_elim}
-use Rattle.std.proofs.Common.{sym, ap, ◌∙◌, subst, subst₂, arith, ℤ, pos, ◌<ℤ◌, ◌*ℤ◌, unsigned_abs}
+use Rattle.std.proofs.Common.{sym, ap, ◌∙◌, subst, subst₂, arith, ℤ, pos, ◌<ℤ◌, ◌*ℤ◌, ◌-ℤ◌, unsigned_abs}
 use Rattle.std.proofs.lemmas.Int.{ints, unsigned_abs-mul}
 use Rattle.std.proofs.Common.{mul-le-mul_left, mul-le-mul_right}
 use Rattle.std.proofs.lemmas.Bool.{cases_lt}
 use Rattle.std.proofs.Math.Nat.{dvd_refl, dvd-zero, dvd-add, eq-one_of_dvd-one, one-dvd}
 use Rattle.std.specs.Int.{◌∣◌}
+use Rattle.sb_whole.specs.Arrows.{Arrow}
+use Rattle.sb_whole.specs.Rationals.{IsSame}
 use Rattle.sb_whole.specs.Reduced.{IsReduced}
+use Rattle.sb_whole.proofs.Shapes.{cross_eq}
 use Rattle.sb_whole.proofs.Ring.{mul_comm, mul-one}
+use Rattle.sb_whole.proofs.Arrows.{same_arrow}
 use Rattle.sb_whole.proofs.Products.{unscale_equal}
 
 -- what divides both divides 1
@@ -147,3 +151,11 @@ pub reduced_whole : (num den n : ℤ) → IsReduced num den → num ≡ n *ℤ d
     → (num ≡ n) × (den ≡ pos 1)
 reduced_whole num den n reduced equation =
     reduced_unique num den n (pos 1) reduced (whole_is_reduced n) (mul-one num ∙ equation)
+
+-- so with fractions: of one value there is one
+pub fraction_unique : (r s : Arrow) → IsReduced r.y r.x → IsReduced s.y s.x → IsSame r s → r ≡ s
+fraction_unique r s r_in s_in same =
+    let written : (r.x *ℤ s.y) -ℤ (r.y *ℤ s.x) ≡ pos 0 = sym (cross_eq r s) ∙ same in
+    let turned = mul_comm s.y r.x in
+    let pair = reduced_unique r.y r.x s.y s.x r_in s_in (omega (arith, ints)) in
+    same_arrow r s pair.1 pair.0

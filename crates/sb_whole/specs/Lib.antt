@@ -4,3 +4,4 @@ pub mod Arrows
 pub mod Rationals
 pub mod Intervals
 pub mod Reduced
+pub mod Lists

@@ -1,5 +1,5 @@
 -- Membership and pairs of a list, by recursion on the list.
-use Rattle.std.specs.Prelude.{◌≡◌, ◌⊎◌, List, [], ◌∷◌, ⊤}
+use Rattle.std.specs.Prelude.{◌≡◌, ◌⊎◌, List, [], ◌∷◌}
 use Rattle.std.specs.List.{AllByRecursion}
 
 -- x stands in the list
@@ -9,5 +9,5 @@ Stands x (y ∷ ys) = (x ≡ y) ⊎ Stands x ys
 
 -- the relation holds of each two items at different places of the list, the earlier one first
 abbrev pub AllOfTwo : {X : Type 0} → (X → X → Type 0) → List X → Type 0
-AllOfTwo R [] = ⊤
+AllOfTwo R [] = Unit {0}
 AllOfTwo R (x ∷ xs) = AllByRecursion (R x) xs × AllOfTwo R xs
