@@ -1,14 +1,14 @@
 #!/bin/sh
-# Times sb_count, which reads a file and counts its tokens, against the bare scan of the same bytes:
+# Times bench_tokens, which reads a file and counts its tokens, against the bare scan of the same bytes:
 # fastest of seven runs, the whole process with its start and reading.
-# usage: bench/tokens.sh [MEGABYTES], after `rt run` in crates/sb_count has built the program.
+# usage: bench/tokens.sh [MEGABYTES], after `rt run` in crates/bench_tokens has built the program.
 set -eu
 here=$(cd "$(dirname "$0")" && pwd)
 work=$(mktemp -d)
 trap 'rm -rf "$work"' EXIT
 python3 "$here/make_instances.py" "$work/instances.ifc" "${1:-60}"
 gcc -O2 -o "$work/bare_scan" "$here/bare_scan.c"
-python3 - "$here/../crates/sb_count/out/sb_count" "$work/bare_scan" "$work/instances.ifc" <<'END'
+python3 - "$here/../crates/bench_tokens/out/bench_tokens" "$work/bare_scan" "$work/instances.ifc" <<'END'
 import os
 import subprocess
 import sys

@@ -4,7 +4,7 @@ use Rattle.std.proofs.Common.{◌∷◌}
 use Rattle.std.proofs.lemmas.Int.{ints}
 use Rattle.std.proofs.lemmas.Bool.{and_left}
 use Rattle.sb_fraction.specs.declared.unit.Unit as unit
-use Rattle.sb_whole.proofs.Signs.{test_less, test_not_less}
+use Rattle.theory_numbers.proofs.Signs.{test_less, test_not_less}
 use Rattle.sb_model.specs.declared.frame.Frame.{Frame}
 use Rattle.sb_model.specs.declared.label.Label.TheVariants as label
 use Rattle.sb_model.specs.declared.products.Space.{Space}
@@ -13,7 +13,7 @@ use Rattle.sb_model.specs.Plan.{is_in_plan}
 use Rattle.sb_model.specs.Solids.{is_in_solid}
 use Rattle.sb_model.specs.Building.{Building, building}
 use Rattle.sb_model.specs.Labels.{label_at, open_label}
-use Rattle.sb_laws.specs.Rectangles.{rectangle}
+use Rattle.theory_models.specs.Rectangles.{rectangle}
 use Rattle.sb_box.specs.declared.extent.Extent.{Extent}
 use Rattle.sb_box.specs.BoxModel.{prism_of, IsBoxModel}
 

@@ -5,17 +5,17 @@ use Rattle.std.specs.Ordering.{int_eq}
 use Rattle.std.proofs.lemmas.Int.{ints, by_lt_z}
 use Rattle.std.proofs.lemmas.Bool.{and_from, and_left, and_right, and_parts, false≢true}
 use Rattle.std.proofs.lemmas.Bool.Decides.{Decides-int_eq}
-use Rattle.sb_whole.specs.Arrows.{Arrow, cross}
-use Rattle.sb_whole.specs.Rationals.{IsRational, IsBelow, rational}
-use Rattle.sb_whole.proofs.Signs.{less_from, test_less, test_not_less, test_at_most}
-use Rattle.sb_whole.proofs.Signs.{test_not_at_most}
-use Rattle.sb_whole.proofs.Shapes.{var, num, minus, plus, times, negated, equal}
-use Rattle.sb_whole.proofs.Ring.{mul_comm}
-use Rattle.sb_whole.proofs.Reduced.{whole_is_reduced}
-use Rattle.sb_cuttings.specs.Changes.{break_at}
-use Rattle.sb_whole.proofs.Products.{positive_product, negative_product, weak_product}
-use Rattle.sb_whole.proofs.Products.{weak_negative_product}
-use Rattle.sb_cuttings.specs.Passages.{ray_start}
+use Rattle.theory_numbers.specs.Arrows.{Arrow, cross}
+use Rattle.theory_numbers.specs.Rationals.{IsRational, IsBelow, rational}
+use Rattle.theory_numbers.proofs.Signs.{less_from, test_less, test_not_less, test_at_most}
+use Rattle.theory_numbers.proofs.Signs.{test_not_at_most}
+use Rattle.theory_numbers.proofs.Shapes.{var, num, minus, plus, times, negated, equal}
+use Rattle.theory_numbers.proofs.Ring.{mul_comm}
+use Rattle.theory_numbers.proofs.Reduced.{whole_is_reduced}
+use Rattle.theory_cuttings.specs.Changes.{break_at}
+use Rattle.theory_numbers.proofs.Products.{positive_product, negative_product, weak_product}
+use Rattle.theory_numbers.proofs.Products.{weak_negative_product}
+use Rattle.theory_cuttings.specs.Passages.{ray_start}
 use Rattle.sb_model.specs.declared.face.FaceKind.TheVariants as kind
 use Rattle.sb_model.specs.declared.label.Label.{Label}
 use Rattle.sb_model.specs.declared.label.Label.TheVariants as label
@@ -25,9 +25,9 @@ use Rattle.sb_model.specs.Solids.{is_between_heights}
 use Rattle.sb_model.specs.Labels.{label_at, open_label}
 use Rattle.sb_model.specs.Faces.{bottom_of, top_of, times_w, is_in_plane, is_of_face, axis_x}
 use Rattle.sb_model.specs.Faces.{axis_y, axis_z}
-use Rattle.sb_laws.specs.Rectangles.{rectangle, is_between_xs, is_between_ys}
-use Rattle.sb_laws.proofs.InsideRectangle.{inside_rectangle}
-use Rattle.sb_laws.proofs.PassagesOfRays.{LooksOut, one_passage, two_passages}
+use Rattle.theory_models.specs.Rectangles.{rectangle, is_between_xs, is_between_ys}
+use Rattle.theory_models.proofs.InsideRectangle.{inside_rectangle}
+use Rattle.theory_models.proofs.PassagesOfRays.{LooksOut, one_passage, two_passages}
 use Rattle.sb_box.specs.declared.extent.Extent.{Extent}
 use Rattle.sb_box.specs.BoxList.{above, below}
 use Rattle.sb_box.specs.BoxModel.{prism_of}

@@ -4,12 +4,12 @@ use Rattle.std.proofs.Common.{false, List, inl, inr, ⊎_elim, subst, Option, So
 use Rattle.std.specs.List.{list_any}
 use Rattle.std.proofs.lemmas.Bool.{eq-eqb, and_from, and_left}
 use Rattle.std.proofs.lemmas.Int.{ints}
-use Rattle.sb_whole.specs.Rationals.{IsSame}
-use Rattle.sb_whole.proofs.Arrows.{cross-self}
-use Rattle.sb_whole.proofs.Signs.{less_from}
+use Rattle.theory_numbers.specs.Rationals.{IsSame}
+use Rattle.theory_numbers.proofs.Arrows.{cross-self}
+use Rattle.theory_numbers.proofs.Signs.{less_from}
 use Rattle.sb_fraction.specs.Ratio.{Ratio}
-use Rattle.sb_plane.specs.Sides.{LineSide, level, clearance_at}
-use Rattle.sb_plane.proofs.Clearance.{clearance-self}
+use Rattle.theory_plane.specs.Sides.{LineSide, level, clearance_at}
+use Rattle.theory_plane.proofs.Clearance.{clearance-self}
 use Rattle.sb_model.specs.declared.boundary.Boundary.{Boundary}
 use Rattle.sb_model.specs.declared.face.Face.{Face}
 use Rattle.sb_model.specs.declared.face.FaceKind.{FaceKind}
@@ -24,7 +24,7 @@ use Rattle.sb_model.specs.Corners.{whole}
 use Rattle.sb_model.specs.Faces.{Surface, surface_of, space_numbered, has_face, is_of_face, times_w}
 use Rattle.sb_model.specs.PlainPoints.{is_plain}
 use Rattle.sb_model.specs.Patches.{is_same_kind, is_in_patch, is_child_of, is_number}
-use Rattle.sb_whole.specs.Lists.{Stands}
+use Rattle.theory_numbers.specs.Lists.{Stands}
 use Rattle.sb_model.specs.Places.{boundary_at}
 use Rattle.sb_model.specs.Covers.{Covers, CoversFace, is_top_at}
 use Rattle.sb_model.specs.Trimmed.{AreTopsTrimmed, AreTrimmed}
@@ -32,10 +32,10 @@ use Rattle.sb_model.specs.Mirrors.{ArePaired, IsPairedBy}
 use Rattle.sb_model.specs.Nested.{IsNested, Opens, is_child_at}
 use Rattle.sb_model.specs.Order.{IsInOrder, IsBefore, rank_of}
 use Rattle.sb_model.specs.Sound.{IsSound}
-use Rattle.sb_laws.proofs.PatchesBetweenLevels.{is_in_window}
-use Rattle.sb_laws.proofs.ListsInBlocks.{all_stands, stands_with_id, some_is, none_is_not_some}
-use Rattle.sb_laws.proofs.ListsInBlocks.{none_where}
-use Rattle.sb_laws.proofs.PassagesOfRays.{LooksOut, looks_out_walk, looks_out_not_opened}
+use Rattle.theory_models.proofs.PatchesBetweenLevels.{is_in_window}
+use Rattle.theory_models.proofs.ListsInBlocks.{all_stands, stands_with_id, some_is, none_is_not_some}
+use Rattle.theory_models.proofs.ListsInBlocks.{none_where}
+use Rattle.theory_models.proofs.PassagesOfRays.{LooksOut, looks_out_walk, looks_out_not_opened}
 use Rattle.sb_box.specs.declared.extent.Extent.{Extent}
 use Rattle.sb_box.specs.BoxList.{BoxPatch, box_patches, IsBoxBoundary, IsBoxList}
 use Rattle.sb_box.specs.BoxModel.{prism_of, IsBoxModel}

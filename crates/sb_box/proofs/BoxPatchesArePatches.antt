@@ -11,10 +11,10 @@ use Rattle.sb_fraction.specs.Divisors.{greatest_divisor, divisor_within, are_cop
 use Rattle.sb_fraction.specs.Plane.{is_direction}
 use Rattle.sb_fraction.specs.Ratio.{Ratio}
 use Rattle.sb_model.specs.Corners.{whole}
-use Rattle.sb_whole.specs.Arrows.{cross, dot}
-use Rattle.sb_whole.specs.Rationals.{is_below}
-use Rattle.sb_plane.specs.Sides.{level, clearance, clearance_at}
-use Rattle.sb_plane.specs.Regions.{is_region}
+use Rattle.theory_numbers.specs.Arrows.{cross, dot}
+use Rattle.theory_numbers.specs.Rationals.{is_below}
+use Rattle.theory_plane.specs.Sides.{level, clearance, clearance_at}
+use Rattle.theory_plane.specs.Regions.{is_region}
 use Rattle.sb_model.specs.Sides.{is_abscissa_size, is_side_of, is_patch, line_of, arrow_of}
 use Rattle.sb_model.specs.Sides.{region_between}
 use Rattle.sb_model.specs.declared.face.FaceKind.{FaceKind}
@@ -22,7 +22,7 @@ use Rattle.sb_model.specs.declared.face.FaceKind.TheVariants as kind
 use Rattle.sb_model.specs.declared.face.Side.{Side}
 use Rattle.sb_model.specs.declared.face.Side.TheVariants.{OnLine, Height}
 use Rattle.sb_model.proofs.StraightCorners.{reduced-one}
-use Rattle.sb_whole.proofs.Signs.{test_less, less_from}
+use Rattle.theory_numbers.proofs.Signs.{test_less, less_from}
 use Rattle.sb_box.specs.declared.extent.Extent.{Extent}
 use Rattle.sb_box.specs.BoxList.{is_cut, IsLevelFace}
 use Rattle.sb_box.specs.Extents.{is_interval, farthest}

@@ -5,23 +5,23 @@ use Rattle.std.specs.List.{list_any}
 use Rattle.std.proofs.lemmas.Int.{ints, by_lt_z}
 use Rattle.std.proofs.lemmas.Bool.{and_left, and_right, or_parts}
 use Rattle.std.proofs.lemmas.Bool.Decides.{Decides-int_eq}
-use Rattle.sb_whole.specs.Arrows.{Arrow, cross}
-use Rattle.sb_whole.specs.Rationals.{IsRational, IsBelow}
-use Rattle.sb_whole.proofs.Signs.{test_not_less}
-use Rattle.sb_whole.proofs.Shapes.{var, num, minus, plus, times, negated, equal}
-use Rattle.sb_whole.proofs.Products.{positive_product, scale_less}
-use Rattle.sb_whole.proofs.Ring.{mul_comm}
-use Rattle.sb_cuttings.specs.Passages.{ray_start}
+use Rattle.theory_numbers.specs.Arrows.{Arrow, cross}
+use Rattle.theory_numbers.specs.Rationals.{IsRational, IsBelow}
+use Rattle.theory_numbers.proofs.Signs.{test_not_less}
+use Rattle.theory_numbers.proofs.Shapes.{var, num, minus, plus, times, negated, equal}
+use Rattle.theory_numbers.proofs.Products.{positive_product, scale_less}
+use Rattle.theory_numbers.proofs.Ring.{mul_comm}
+use Rattle.theory_cuttings.specs.Passages.{ray_start}
 use Rattle.sb_model.specs.Spots.{Spot, IsSpot, Vector, vector, along, reading}
 use Rattle.sb_model.specs.Plan.{Edge, edge, is_on, is_in_plan}
 use Rattle.sb_model.specs.PlanEdges.{is_abscissa, plan_edges, ends_over, cross_over}
 use Rattle.sb_model.specs.Faces.{Surface, side_over, times_w, is_in_plane, axis_x, axis_y, axis_z}
-use Rattle.sb_laws.specs.Rectangles.{corner, rectangle, is_between_xs, is_between_ys}
-use Rattle.sb_laws.proofs.InsideRectangle.{inside_rectangle}
-use Rattle.sb_laws.proofs.EdgesAlongAxes.{IsHeaded, headed_east, headed_west, headed_north}
-use Rattle.sb_laws.proofs.EdgesAlongAxes.{headed_south, AreAbout, about_rising, about_turned}
-use Rattle.sb_laws.proofs.EdgesAlongAxes.{about_between, on_level, level_on, on_upright, upright_on}
-use Rattle.sb_laws.proofs.EdgesAlongAxes.{no_end_along_x, no_end_along_y}
+use Rattle.theory_models.specs.Rectangles.{corner, rectangle, is_between_xs, is_between_ys}
+use Rattle.theory_models.proofs.InsideRectangle.{inside_rectangle}
+use Rattle.theory_models.proofs.EdgesAlongAxes.{IsHeaded, headed_east, headed_west, headed_north}
+use Rattle.theory_models.proofs.EdgesAlongAxes.{headed_south, AreAbout, about_rising, about_turned}
+use Rattle.theory_models.proofs.EdgesAlongAxes.{about_between, on_level, level_on, on_upright, upright_on}
+use Rattle.theory_models.proofs.EdgesAlongAxes.{no_end_along_x, no_end_along_y}
 use Rattle.sb_box.specs.declared.extent.Extent.{Extent}
 use Rattle.sb_box.proofs.BoxLabels.{Besides, box_model}
 

@@ -6,12 +6,12 @@ use Rattle.std.specs.List.{AllByRecursion}
 use Rattle.std.proofs.lemmas.Int.{ints}
 use Rattle.std.proofs.lemmas.Bool.{and_from, and_parts, true≢false, false≢true}
 use Rattle.std.proofs.lemmas.Bool.Decides.{Decides-int_eq}
-use Rattle.sb_whole.specs.Arrows.{Arrow}
-use Rattle.sb_whole.specs.Rationals.{IsRational, IsBelow}
-use Rattle.sb_whole.proofs.Signs.{less_from, test_less}
-use Rattle.sb_whole.proofs.Products.{scale_at_most, negative_product, weak_product}
-use Rattle.sb_whole.proofs.Ring.{mul_comm}
-use Rattle.sb_cuttings.specs.Passages.{ray_start}
+use Rattle.theory_numbers.specs.Arrows.{Arrow}
+use Rattle.theory_numbers.specs.Rationals.{IsRational, IsBelow}
+use Rattle.theory_numbers.proofs.Signs.{less_from, test_less}
+use Rattle.theory_numbers.proofs.Products.{scale_at_most, negative_product, weak_product}
+use Rattle.theory_numbers.proofs.Ring.{mul_comm}
+use Rattle.theory_cuttings.specs.Passages.{ray_start}
 use Rattle.sb_model.specs.declared.face.FaceKind.{FaceKind}
 use Rattle.sb_model.specs.declared.face.FaceKind.TheVariants as kind
 use Rattle.sb_model.specs.declared.label.Label.TheVariants as label
@@ -28,9 +28,9 @@ use Rattle.sb_model.specs.Faces.{Surface, side_over, direction_of, times_w, is_i
 use Rattle.sb_model.specs.Faces.{is_of_side, edge_numbered, bottom_of, top_of, axis_z}
 use Rattle.sb_model.specs.Patches.{is_same_kind}
 use Rattle.sb_model.specs.Places.{ExactlyOne}
-use Rattle.sb_laws.proofs.PatchesBetweenLevels.{is_in_window}
-use Rattle.sb_laws.proofs.ListsInBlocks.{all_weaker}
-use Rattle.sb_laws.proofs.PassagesOfRays.{LooksOut, one_passage}
+use Rattle.theory_models.proofs.PatchesBetweenLevels.{is_in_window}
+use Rattle.theory_models.proofs.ListsInBlocks.{all_weaker}
+use Rattle.theory_models.proofs.PassagesOfRays.{LooksOut, one_passage}
 use Rattle.sb_box.specs.declared.extent.Extent.{Extent}
 use Rattle.sb_box.specs.BoxList.{BoxPatch, box_patches, box_patch, above, below}
 use Rattle.sb_box.specs.BoxModel.{prism_of}

@@ -7,20 +7,20 @@ use Rattle.std.specs.List.{AllByRecursion, list_any}
 use Rattle.std.proofs.lemmas.Int.{ints, by_lt_z}
 use Rattle.std.proofs.lemmas.Bool.{and_from, and_parts, and_left, and_right, or_from, false≢true}
 use Rattle.std.proofs.lemmas.Bool.{eqb-true}
-use Rattle.sb_whole.proofs.Signs.{test_less, test_not_less, test_at_most, test_not_at_most}
-use Rattle.sb_whole.proofs.Signs.{less_from}
+use Rattle.theory_numbers.proofs.Signs.{test_less, test_not_less, test_at_most, test_not_at_most}
+use Rattle.theory_numbers.proofs.Signs.{less_from}
 use Rattle.sb_model.specs.declared.face.FaceKind.{FaceKind}
 use Rattle.sb_model.specs.declared.face.FaceKind.TheVariants as kind
 use Rattle.sb_model.specs.declared.walk.End.{End}
 use Rattle.sb_model.specs.declared.walk.End.TheVariants as end
 use Rattle.sb_model.specs.Patches.{is_same_kind}
 use Rattle.sb_model.specs.Order.{rank_of}
-use Rattle.sb_whole.specs.Lists.{AllOfTwo}
+use Rattle.theory_numbers.specs.Lists.{AllOfTwo}
 use Rattle.sb_model.specs.Places.{ExactlyOne}
-use Rattle.sb_laws.proofs.PatchesBetweenLevels.{is_in_window}
-use Rattle.sb_laws.proofs.ListsInBlocks.{none-append, none_where, first_alone, one_behind}
-use Rattle.sb_laws.proofs.ListsInBlocks.{one_in_first, one_in_second, all-append, all_weaker}
-use Rattle.sb_laws.proofs.ListsInBlocks.{two-append}
+use Rattle.theory_models.proofs.PatchesBetweenLevels.{is_in_window}
+use Rattle.theory_models.proofs.ListsInBlocks.{none-append, none_where, first_alone, one_behind}
+use Rattle.theory_models.proofs.ListsInBlocks.{one_in_first, one_in_second, all-append, all_weaker}
+use Rattle.theory_models.proofs.ListsInBlocks.{two-append}
 use Rattle.sb_box.specs.declared.extent.Extent.{Extent}
 use Rattle.sb_box.specs.BoxList.{BoxPatch, box_patch, box_patches, side_patches, is_cut, below}
 use Rattle.sb_box.specs.BoxList.{above}

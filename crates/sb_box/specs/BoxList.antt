@@ -2,7 +2,7 @@
 use Rattle.std.specs.Prelude.{◌≡◌, ℕ, ℤ, pos, Bool, ◌&&◌, List, [], ◌∷◌, ◌++◌, None, int_lt, int_le}
 use Rattle.std.specs.Prelude.{if◌then◌else◌}
 use Rattle.sb_model.specs.Corners.{whole}
-use Rattle.sb_plane.specs.Sides.{level}
+use Rattle.theory_plane.specs.Sides.{level}
 use Rattle.sb_model.specs.Sides.{line_of}
 use Rattle.sb_model.specs.declared.boundary.Boundary.{Boundary}
 use Rattle.sb_model.specs.declared.face.FaceKind.{FaceKind}

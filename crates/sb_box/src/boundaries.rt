@@ -10,7 +10,7 @@ ghost use Rattle.sb_model.specs.Building.{Building};
 ghost use Rattle.sb_model.specs.Corners.{whole};
 ghost use Rattle.sb_model.specs.Order.{IsInOrder};
 ghost use Rattle.sb_model.specs.Sound.{IsSound};
-ghost use Rattle.sb_plane.specs.Sides.{level};
+ghost use Rattle.theory_plane.specs.Sides.{level};
 ghost use Rattle.sb_model.specs.Sides.{line_of, is_side_of};
 
 use crate::extent::{Extent, Interval};

@@ -10,7 +10,7 @@ use Rattle.sb_model.specs.Spots.{vector}
 use Rattle.sb_model.specs.Turns.{Quarter}
 use Rattle.sb_model.specs.declared.frame.Frame.{Frame}
 use Rattle.sb_model.specs.declared.products.Space.{Space}
-use Rattle.sb_laws.specs.Rectangles.{rectangle}
+use Rattle.theory_models.specs.Rectangles.{rectangle}
 use Rattle.sb_box.specs.declared.extent.Extent.{Extent}
 use Rattle.sb_form.specs.declared.matcher.FirstForm.{FirstForm}
 use Rattle.sb_form.specs.declared.meaning.Defect.{Defect}

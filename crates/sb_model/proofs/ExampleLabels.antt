@@ -1,8 +1,8 @@
 -- Worked labels, crossings, abscissae, thicknesses and keys.
 
 use Rattle.std.proofs.Common.{◌≡◌, refl, ℕ, true, false, [], ◌∷◌, pos, negsuc, Some}
-use Rattle.sb_whole.specs.Arrows.{cross, dot}
-use Rattle.sb_whole.specs.Rationals.{rational}
+use Rattle.theory_numbers.specs.Arrows.{cross, dot}
+use Rattle.theory_numbers.specs.Rationals.{rational}
 use Rattle.sb_model.specs.declared.label.Label.TheVariants.{Space, Element, Earth, Void}
 use Rattle.sb_model.specs.declared.products.Filling.{Filling}
 use Rattle.sb_model.specs.declared.products.FillKind.TheVariants.{Window}

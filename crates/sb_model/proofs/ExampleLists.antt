@@ -7,10 +7,10 @@ use Rattle.std.proofs.lemmas.Int.{ints}
 use Rattle.std.proofs.lemmas.Bool.{true≢false, false≢true}
 use Rattle.sb_fraction.specs.Divisors.{divisor_within, greatest_divisor}
 use Rattle.sb_fraction.specs.Plane.{is_direction}
-use Rattle.sb_whole.specs.Arrows.{cross, dot}
-use Rattle.sb_plane.specs.Sides.{clearance}
-use Rattle.sb_plane.specs.Points.{face_point}
-use Rattle.sb_plane.specs.Regions.{is_inside}
+use Rattle.theory_numbers.specs.Arrows.{cross, dot}
+use Rattle.theory_plane.specs.Sides.{clearance}
+use Rattle.theory_plane.specs.Points.{face_point}
+use Rattle.theory_plane.specs.Regions.{is_inside}
 use Rattle.sb_model.specs.declared.boundary.Boundary.{Boundary}
 use Rattle.sb_model.specs.declared.face.FaceKind.{FaceKind}
 use Rattle.sb_model.specs.declared.face.FaceKind.TheVariants as kind

@@ -2,7 +2,7 @@
 
 use Rattle.std.proofs.Common.{◌≡◌, refl, true, false, List, [], ◌∷◌, ℤ, pos, negsuc}
 use Rattle.sb_fraction.specs.declared.point.Point.{Point}
-use Rattle.sb_whole.specs.Arrows.{cross, dot}
+use Rattle.theory_numbers.specs.Arrows.{cross, dot}
 use Rattle.sb_model.specs.Spots.{spot}
 use Rattle.sb_model.specs.Plan.{is_in_plan, is_on, edge}
 use Rattle.sb_model.specs.Solids.{upright, is_in_solid}

@@ -8,8 +8,8 @@ use Rattle.std.proofs.lemmas.Bool.{and_from, and_parts, false≢true, false_from
 use Rattle.std.proofs.lemmas.Bool.Decides.{Decides-int_eq}
 use Rattle.std.proofs.Math.IntN.{zero-*ℤ, *ℤ_comm}
 use Rattle.sb_fraction.specs.declared.point.Point.{Point}
-use Rattle.sb_whole.proofs.Products.{positive_product, negative_product, product_of_negatives}
-use Rattle.sb_whole.proofs.Signs.{less_from}
+use Rattle.theory_numbers.proofs.Products.{positive_product, negative_product, product_of_negatives}
+use Rattle.theory_numbers.proofs.Signs.{less_from}
 use Rattle.sb_model.specs.Loops.{is_rectangle, are_corners, is_plan_point, are_loops, is_bent}
 use Rattle.sb_model.specs.Loops.{is_coordinate}
 

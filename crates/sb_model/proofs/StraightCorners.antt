@@ -14,12 +14,12 @@ use Rattle.sb_fraction.specs.Divisors.{greatest_divisor, are_coprime}
 use Rattle.sb_fraction.proofs.GreatestDivisor.{greatest_divisor-zero, zero-greatest_divisor}
 use Rattle.sb_fraction.proofs.LowestTerms.{reduced-lowest, reduced-multiple}
 use Rattle.sb_fraction.specs.declared.point.Point.{Point}
-use Rattle.sb_plane.specs.Sides.{LineSide}
-use Rattle.sb_plane.specs.Regions.{is_region}
-use Rattle.sb_whole.specs.Tests.{differ}
-use Rattle.sb_whole.proofs.Signs.{less_from, same_less}
-use Rattle.sb_whole.proofs.Shapes.{var, num, plus, minus, times, equal}
-use Rattle.sb_whole.proofs.Ring.{mul-one, one-mul}
+use Rattle.theory_plane.specs.Sides.{LineSide}
+use Rattle.theory_plane.specs.Regions.{is_region}
+use Rattle.theory_numbers.specs.Tests.{differ}
+use Rattle.theory_numbers.proofs.Signs.{less_from, same_less}
+use Rattle.theory_numbers.proofs.Shapes.{var, num, plus, minus, times, equal}
+use Rattle.theory_numbers.proofs.Ring.{mul-one, one-mul}
 use Rattle.sb_model.specs.declared.corner.Corner.{Corner}
 use Rattle.sb_model.specs.declared.face.Side.{Side}
 use Rattle.sb_model.specs.Spots.{Vector, vector, opposite}

@@ -8,7 +8,7 @@ use Rattle.std.specs.List.{find}
 use Rattle.sb_fraction.specs.Divisors.{greatest_divisor}
 use Rattle.sb_fraction.specs.Plane.{is_forward}
 use Rattle.sb_fraction.specs.Ratio.{divided}
-use Rattle.sb_plane.specs.Points.{FacePoint, face_point}
+use Rattle.theory_plane.specs.Points.{FacePoint, face_point}
 use Rattle.sb_model.specs.declared.face.Face.{Face}
 use Rattle.sb_model.specs.declared.face.FaceKind.{FaceKind}
 use Rattle.sb_model.specs.declared.face.FaceKind.TheVariants as kind

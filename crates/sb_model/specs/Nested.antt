@@ -1,8 +1,8 @@
 -- Nested boundaries: the children of a boundary are its openings.
 
 use Rattle.std.specs.Prelude.{◌≡◌, ℕ, Bool, ◌&&◌, List, Some, None, IsTrue}
-use Rattle.sb_plane.specs.Points.{FacePoint, IsFacePoint}
-use Rattle.sb_plane.specs.Regions.{is_inside}
+use Rattle.theory_plane.specs.Points.{FacePoint, IsFacePoint}
+use Rattle.theory_plane.specs.Regions.{is_inside}
 use Rattle.sb_model.specs.declared.boundary.Boundary.{Boundary}
 use Rattle.sb_model.specs.declared.products.Space.{Space}
 use Rattle.sb_model.specs.Spots.{Spot, IsSpot}
@@ -10,7 +10,7 @@ use Rattle.sb_model.specs.Building.{Building}
 use Rattle.sb_model.specs.Faces.{Surface, surface_of, space_numbered}
 use Rattle.sb_model.specs.PlainPoints.{is_plain}
 use Rattle.sb_model.specs.Patches.{region_of, is_in_patch, is_child_of}
-use Rattle.sb_whole.specs.Lists.{Stands, AllOfTwo}
+use Rattle.theory_numbers.specs.Lists.{Stands, AllOfTwo}
 use Rattle.sb_model.specs.Places.{ExactlyOne, NoneOf, boundary_at}
 use Rattle.sb_model.specs.Trimmed.{AreTrimmed}
 use Rattle.sb_model.specs.OpenedPoints.{IsOpened, IsKey}

@@ -2,9 +2,9 @@
 
 use Rattle.std.specs.Prelude.{◌≡◌, ◌↔◌, ℕ, List, [], ◌∷◌, ◌++◌, Option, Some, None, IsTrue}
 use Rattle.std.specs.List.{AllByRecursion}
-use Rattle.sb_whole.specs.Arrows.{Arrow}
-use Rattle.sb_whole.specs.Rationals.{IsRational, IsBelow}
-use Rattle.sb_cuttings.specs.Cuttings.{Break}
+use Rattle.theory_numbers.specs.Arrows.{Arrow}
+use Rattle.theory_numbers.specs.Rationals.{IsRational, IsBelow}
+use Rattle.theory_cuttings.specs.Cuttings.{Break}
 use Rattle.sb_model.specs.declared.label.Label.{Label}
 use Rattle.sb_model.specs.declared.label.Label.TheVariants as label
 use Rattle.sb_model.specs.declared.products.Filling.{Filling}
@@ -19,7 +19,7 @@ use Rattle.sb_model.specs.Faces.{Surface}
 use Rattle.sb_model.specs.Passages.{Ray, ray_from, at_depth, ArePassages, passages_of, Piece}
 use Rattle.sb_model.specs.Passages.{pieces_of, start_of, end_of}
 use Rattle.sb_model.specs.Walks.{Course, Goes, stop_at}
-use Rattle.sb_whole.specs.Lists.{Stands}
+use Rattle.theory_numbers.specs.Lists.{Stands}
 
 -- a crossing of an element in a walk, between two depths
 pub record Crossing : Type 0 where

@@ -1,17 +1,17 @@
 -- Lists in order.
 
 use Rattle.std.specs.Prelude.{◌≡◌, ◌⊎◌, ℕ, pos, ◌+◌, ◌<◌, ◌≤ℤ◌, List, Some, None, IsTrue}
-use Rattle.sb_whole.specs.Arrows.{Arrow}
-use Rattle.sb_whole.specs.Rationals.{IsRational, IsBelow, IsSame}
-use Rattle.sb_plane.specs.Sides.{clearance_at}
-use Rattle.sb_plane.specs.Regions.{is_spanned}
+use Rattle.theory_numbers.specs.Arrows.{Arrow}
+use Rattle.theory_numbers.specs.Rationals.{IsRational, IsBelow, IsSame}
+use Rattle.theory_plane.specs.Sides.{clearance_at}
+use Rattle.theory_plane.specs.Regions.{is_spanned}
 use Rattle.sb_model.specs.declared.boundary.Boundary.{Boundary}
 use Rattle.sb_model.specs.declared.face.FaceKind.{FaceKind}
 use Rattle.sb_model.specs.declared.face.FaceKind.TheVariants as kind
 use Rattle.sb_model.specs.declared.patch.Patch.{Patch}
 use Rattle.sb_model.specs.Sides.{arrow_of, line_of}
 use Rattle.sb_model.specs.Patches.{region_of}
-use Rattle.sb_whole.specs.Lists.{AllOfTwo}
+use Rattle.theory_numbers.specs.Lists.{AllOfTwo}
 use Rattle.sb_model.specs.Places.{boundary_at}
 
 -- the faces of a space in order: Bottom, Top, Side(0), Side(1) and so on

@@ -1,9 +1,9 @@
 -- Passages: the ray from a point, cut into pieces of one label.
 
 use Rattle.std.specs.Prelude.{◌==◌, Bool, false, if◌then◌else◌, List, [], ◌∷◌, Option, Some, None}
-use Rattle.sb_whole.specs.Arrows.{Arrow}
-use Rattle.sb_cuttings.specs.Cuttings.{Break}
-use Rattle.sb_cuttings.specs.Passages as cut
+use Rattle.theory_numbers.specs.Arrows.{Arrow}
+use Rattle.theory_cuttings.specs.Cuttings.{Break}
+use Rattle.theory_cuttings.specs.Passages as cut
 use Rattle.sb_model.specs.declared.label.Label.{Label}
 use Rattle.sb_model.specs.declared.label.Label.TheVariants as label
 use Rattle.sb_model.specs.Spots.{Spot, Vector, along}

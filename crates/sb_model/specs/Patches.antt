@@ -1,7 +1,7 @@
 -- Patches of faces, and the points inside them.
 
 use Rattle.std.specs.Prelude.{ℕ, ◌==◌, Bool, true, false, ◌&&◌, Option, Some, None, is_none}
-use Rattle.sb_plane.specs.Regions.{Region, is_inside}
+use Rattle.theory_plane.specs.Regions.{Region, is_inside}
 use Rattle.sb_model.specs.declared.boundary.Boundary.{Boundary}
 use Rattle.sb_model.specs.declared.face.Face.{Face}
 use Rattle.sb_model.specs.declared.face.FaceKind.{FaceKind}

@@ -6,8 +6,8 @@ use Rattle.std.specs.Prelude.{if◌then◌else◌}
 use Rattle.std.specs.Ordering.{int_eq}
 use Rattle.std.specs.List.{list_any}
 use Rattle.sb_fraction.specs.declared.point.Point.{Point}
-use Rattle.sb_whole.specs.Arrows.{Arrow, arrow, cross}
-use Rattle.sb_whole.specs.Rationals.{rational}
+use Rattle.theory_numbers.specs.Arrows.{Arrow, arrow, cross}
+use Rattle.theory_numbers.specs.Rationals.{rational}
 use Rattle.sb_model.specs.Spots.{Spot, spot, Vector, reading}
 use Rattle.sb_model.specs.Plan.{Edge, edges_of, span_of, is_within}
 use Rattle.sb_model.specs.Solids.{Upright}

@@ -3,10 +3,10 @@
 use Rattle.std.specs.Prelude.{ℕ, pos, Bool, true, false, ◌&&◌, ◌*◌, ◌^◌, int_lt, nat_le}
 use Rattle.std.specs.Prelude.{unsigned_abs}
 use Rattle.sb_fraction.specs.Ratio.{Ratio, is_fraction}
-use Rattle.sb_whole.specs.Arrows.{Arrow}
-use Rattle.sb_whole.specs.Rationals.{rational}
-use Rattle.sb_plane.specs.Sides.{LineSide, line, level}
-use Rattle.sb_plane.specs.Regions.{Region, is_region}
+use Rattle.theory_numbers.specs.Arrows.{Arrow}
+use Rattle.theory_numbers.specs.Rationals.{rational}
+use Rattle.theory_plane.specs.Sides.{LineSide, line, level}
+use Rattle.theory_plane.specs.Regions.{Region, is_region}
 use Rattle.sb_model.specs.declared.face.FaceKind.{FaceKind}
 use Rattle.sb_model.specs.declared.face.FaceKind.TheVariants as kind
 use Rattle.sb_model.specs.declared.face.Side.{Side}

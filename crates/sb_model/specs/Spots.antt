@@ -1,8 +1,8 @@
 -- Points and vectors in space, and the points of a ray.
 
 use Rattle.std.specs.Prelude.{ℤ, pos, neg_ℤ, ◌+ℤ◌, ◌*ℤ◌, ◌<ℤ◌}
-use Rattle.sb_whole.specs.Arrows.{Arrow}
-use Rattle.sb_whole.specs.Rationals.{rational}
+use Rattle.theory_numbers.specs.Arrows.{Arrow}
+use Rattle.theory_numbers.specs.Rationals.{rational}
 
 -- a vector with whole coordinates
 pub record Vector : Type 0 where

@@ -1,16 +1,16 @@
 -- Trimmed patches: two of one face with one mark neither touch nor share a whole side.
 
 use Rattle.std.specs.Prelude.{◌≡◌, false, List, Some, None}
-use Rattle.sb_whole.specs.Arrows.{Arrow}
-use Rattle.sb_whole.specs.Rationals.{IsRational}
-use Rattle.sb_plane.specs.Regions.{IsCommon, is_seam}
+use Rattle.theory_numbers.specs.Arrows.{Arrow}
+use Rattle.theory_numbers.specs.Rationals.{IsRational}
+use Rattle.theory_plane.specs.Regions.{IsCommon, is_seam}
 use Rattle.sb_model.specs.declared.boundary.Boundary.{Boundary}
 use Rattle.sb_model.specs.declared.patch.Patch.{Patch}
 use Rattle.sb_model.specs.Building.{Building}
 use Rattle.sb_model.specs.PlanEdges.{is_abscissa}
 use Rattle.sb_model.specs.Faces.{Surface}
 use Rattle.sb_model.specs.Patches.{region_of, surface_at}
-use Rattle.sb_whole.specs.Lists.{AllOfTwo}
+use Rattle.theory_numbers.specs.Lists.{AllOfTwo}
 
 -- two patches of one face
 pub record AreTrimmed (m : Building) (p q : Patch) : Type 0 where

@@ -8,9 +8,9 @@ use Rattle.std.specs.Prelude.{if◌then◌else◌}
 use Rattle.std.specs.Ordering.{int_eq}
 use Rattle.std.specs.List.{list_all, find}
 use Rattle.sb_fraction.specs.Ratio.{Ratio, reduced}
-use Rattle.sb_whole.specs.Arrows.{Arrow}
-use Rattle.sb_whole.specs.Rationals.{rational}
-use Rattle.sb_cuttings.specs.Cuttings.{Break}
+use Rattle.theory_numbers.specs.Arrows.{Arrow}
+use Rattle.theory_numbers.specs.Rationals.{rational}
+use Rattle.theory_cuttings.specs.Cuttings.{Break}
 use Rattle.sb_model.specs.declared.label.Label.{Label}
 use Rattle.sb_model.specs.declared.label.Label.TheVariants as label
 use Rattle.sb_model.specs.declared.layers.Layer.{Layer}

@@ -1,8 +1,8 @@
 use Rattle.std.proofs.Common.{refl}
 use Rattle.sb_fraction.specs.Divisors.{greatest_divisor, divisor_within}
 use Rattle.sb_fraction.specs.Ratio.{reduced}
-use Rattle.sb_whole.specs.Arrows.{cross, dot}
-use Rattle.sb_plane.specs.Sides.{clearance}
+use Rattle.theory_numbers.specs.Arrows.{cross, dot}
+use Rattle.theory_plane.specs.Sides.{clearance}
 use Rattle.sb_model.proofs.tests.bottom.Goals as goal
 
 pub invariant_of-dir : goal.invariant_of-dir

@@ -1,0 +1,141 @@
+-- Exclusive or, and the parity of how often a test answers true in a list.
+use Rattle.std.proofs.Common.{◌≡◌, refl, sym, ap, ap₂, ◌∙◌, Bool, true, false, not}
+use Rattle.std.proofs.Common.{List, [], ◌∷◌, ◌++◌, map}
+use Rattle.std.proofs.Common.{ℕ, zero, suc, ◌+◌, cond, count_by, IsPermutation, one-add, zero-add}
+use Rattle.std.proofs.lemmas.Bool.{or_parts}
+use Rattle.std.proofs.lemmas.List.Sums.{sum_by-cons}
+use Rattle.std.proofs.lemmas.List.Sorted.{sum_by-IsPermutation}
+use Rattle.std.specs.List.{list_any}
+use Rattle.theory_numbers.specs.Tests.{differ, is_odd_number}
+
+-- ---- exclusive or
+
+-- a bit does not differ from itself
+pub differ-self : (b : Bool) → differ b b ≡ false
+differ-self true = refl
+differ-self false = refl
+
+-- to differ from false is to be true
+pub differ-false : (b : Bool) → differ b false ≡ b
+differ-false true = refl
+differ-false false = refl
+
+-- to differ from true is to be false
+pub differ-true : (b : Bool) → differ b true ≡ not b
+differ-true true = refl
+differ-true false = refl
+
+-- exclusive or does not see the order of its bits
+pub differ_comm : (b c : Bool) → differ b c ≡ differ c b
+differ_comm true true = refl
+differ_comm true false = refl
+differ_comm false true = refl
+differ_comm false false = refl
+
+-- nor how they are grouped
+pub differ_assoc : (b c d : Bool) → differ (differ b c) d ≡ differ b (differ c d)
+differ_assoc true true true = refl
+differ_assoc true true false = refl
+differ_assoc true false d = refl
+differ_assoc false c d = refl
+
+-- to turn one bit turns the answer
+pub not-differ : (b c : Bool) → differ (not b) c ≡ not (differ b c)
+not-differ true true = refl
+not-differ true false = refl
+not-differ false c = refl
+
+-- two different bits are opposite
+pub differ-opposite : (b c : Bool) → b ≡ not c → differ b c ≡ true
+differ-opposite true false relation = refl
+differ-opposite false true relation = refl
+differ-opposite true true relation = cc
+differ-opposite false false relation = cc
+
+-- bits that do not differ are equal
+pub same_from_differ : (b c : Bool) → differ b c ≡ false → b ≡ c
+same_from_differ true true relation = refl
+same_from_differ false false relation = refl
+same_from_differ true false relation = cc
+same_from_differ false true relation = cc
+
+-- the middle two of four change places
+pub differ-differ : (a b c d : Bool)
+    → differ (differ a b) (differ c d) ≡ differ (differ a c) (differ b d)
+differ-differ true true true d = refl
+differ-differ true true false true = refl
+differ-differ true true false false = refl
+differ-differ true false true true = refl
+differ-differ true false true false = refl
+differ-differ true false false d = refl
+differ-differ false true true true = refl
+differ-differ false true true false = refl
+differ-differ false false true d = refl
+differ-differ false b false d = refl
+
+-- ---- the fold of exclusive or over a list
+
+module _ {X : Type 0} where
+  -- over two lists joined it is the exclusive or of the two
+  pub is_odd_number-append : (test : X → Bool) (xs ys : List X)
+      → is_odd_number test (xs ++ ys) ≡ differ (is_odd_number test xs) (is_odd_number test ys)
+  is_odd_number-append test [] ys = refl
+  is_odd_number-append test (x ∷ xs) ys =
+      ap (differ (test x)) (is_odd_number-append test xs ys)
+      ∙ sym (differ_assoc (test x) (is_odd_number test xs) (is_odd_number test ys))
+
+  -- of a test that never answers true it is false
+  pub is_odd_number-none : (test : X → Bool) (xs : List X) → list_any test xs ≡ false
+      → is_odd_number test xs ≡ false
+  is_odd_number-none test [] relation = refl
+  is_odd_number-none test (x ∷ xs) relation =
+      let parts = or_parts (test x) (list_any test xs) relation in
+      rw (parts.0) (is_odd_number-none test xs parts.1)
+
+  -- of two tests that answer alike it is the same
+  pub is_odd_number-same : (f g : X → Bool) → ((x : X) → f x ≡ g x) → (xs : List X)
+      → is_odd_number f xs ≡ is_odd_number g xs
+  is_odd_number-same f g same [] = refl
+  is_odd_number-same f g same (x ∷ xs) = ap₂ differ (same x) (is_odd_number-same f g same xs)
+
+  -- of the exclusive or of two tests it is the exclusive or of the two folds
+  pub is_odd_number-differ : (f g : X → Bool) (xs : List X)
+      → is_odd_number (λ x. differ (f x) (g x)) xs
+      ≡ differ (is_odd_number f xs) (is_odd_number g xs)
+  is_odd_number-differ f g [] = refl
+  is_odd_number-differ f g (x ∷ xs) =
+      ap (differ (differ (f x) (g x))) (is_odd_number-differ f g xs)
+      ∙ differ-differ (f x) (g x) (is_odd_number f xs) (is_odd_number g xs)
+
+-- of a list that is mapped it is that of the composed test
+pub is_odd_number-map : {X Y : Type 0} (test : Y → Bool) (f : X → Y) (xs : List X)
+    → is_odd_number test (map f xs) ≡ is_odd_number (λ x. test (f x)) xs
+is_odd_number-map test f [] = refl
+is_odd_number-map test f (x ∷ xs) = ap (differ (test (f x))) (is_odd_number-map test f xs)
+
+-- ---- the parity of a count
+
+-- odd numbers: 1, 3, 5 and so on
+abbrev pub is_odd : ℕ → Bool
+is_odd zero = false
+is_odd (suc n) = not (is_odd n)
+
+-- the fold of exclusive or says whether the test answers true at an odd number of places
+pub is_odd_number-count : {X : Type 0} (test : X → Bool) (xs : List X)
+    → is_odd_number test xs ≡ is_odd (count_by test xs)
+is_odd_number-count test [] = refl
+is_odd_number-count test (x ∷ xs) =
+    rw (sum_by-cons (λ y. cond (test y) 1 0) x xs, is_odd_number-count test xs)
+    (one_more (test x) (count_by test xs))
+  where
+    one_more : (b : Bool) (n : ℕ) → differ b (is_odd n) ≡ is_odd (cond b 1 0 + n)
+    one_more true n = rw one-add
+    one_more false n = rw zero-add
+
+-- and does not see a permutation
+pub is_odd_number-permuted : {X : Type 0} (test : X → Bool) (xs ys : List X)
+    → IsPermutation xs ys → is_odd_number test ys ≡ is_odd_number test xs
+is_odd_number-permuted test xs ys permuted =
+    is_odd_number-count test ys
+    ∙ ap is_odd (sum_by-IsPermutation (λ y. cond (test y) 1 0) xs ys permuted)
+    ∙ sym (is_odd_number-count test xs)

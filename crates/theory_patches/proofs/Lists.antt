@@ -1,0 +1,42 @@
+-- What holds of all items of a list holds of one that stands in it; two items are one, or stand at
+-- different places.
+use Rattle.std.proofs.Common.{◌≡◌, sym, ◌∙◌, inl, inr, ◌⊎◌, subst, List, [], ◌∷◌, map}
+use Rattle.std.specs.List.{AllByRecursion}
+use Rattle.theory_numbers.specs.Lists.{Stands, AllOfTwo}
+
+module _ {X : Type 0} where
+  -- what holds of all holds of one that stands there
+  pub all_stands : (P : X → Type 0) (x : X) (xs : List X) → AllByRecursion P xs → Stands x xs → P x
+  all_stands P x [] all stands = absurd stands
+  all_stands P x (y ∷ ys) all (inl same) = subst P (sym same) all.0
+  all_stands P x (y ∷ ys) all (inr later) = all_stands P x ys all.1 later
+
+  -- what follows for each item holds of all
+  pub all_follow : {P Q : X → Type 0} → ((x : X) → P x → Q x) → (xs : List X)
+      → AllByRecursion P xs → AllByRecursion Q xs
+  all_follow step [] all = tt
+  all_follow step (x ∷ xs) all = (step x all.0, all_follow step xs all.1)
+
+  -- what holds of all images holds of the items, in this form
+  pub all_of_images : {Y : Type 0} (P : Y → Type 0) (f : X → Y) (xs : List X)
+      → AllByRecursion P (map f xs) → AllByRecursion (λ x. P (f x)) xs
+  all_of_images P f [] all = tt
+  all_of_images P f (x ∷ xs) all = (all.0, all_of_images P f xs all.1)
+
+  -- and the other way round
+  pub all_images : {Y : Type 0} (P : Y → Type 0) (f : X → Y) (xs : List X)
+      → AllByRecursion (λ x. P (f x)) xs → AllByRecursion P (map f xs)
+  all_images P f [] all = tt
+  all_images P f (x ∷ xs) all = (all.0, all_images P f xs all.1)
+
+  -- two that stand there are one, or the relation holds of them one way round
+  pub one_or_two : (R : X → X → Type 0) (x y : X) (xs : List X) → AllOfTwo R xs
+      → Stands x xs → Stands y xs → (x ≡ y) ⊎ (R x y ⊎ R y x)
+  one_or_two R x y [] all at_x at_y = absurd at_x
+  one_or_two R x y (z ∷ zs) all (inl same) (inl same_y) = inl (same ∙ sym same_y)
+  one_or_two R x y (z ∷ zs) all (inl same) (inr later) =
+      inr (inl (subst (λ w. R w y) (sym same) (all_stands (R z) y zs all.0 later)))
+  one_or_two R x y (z ∷ zs) all (inr later) (inl same) =
+      inr (inr (subst (λ w. R w x) (sym same) (all_stands (R z) x zs all.0 later)))
+  one_or_two R x y (z ∷ zs) all (inr later) (inr later_y) =
+      one_or_two R x y zs all.1 later later_y
