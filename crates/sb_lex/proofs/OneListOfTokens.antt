@@ -6,7 +6,7 @@ use Rattle.sb_lex.specs.declared.kinds.Token.{Token}
 use Rattle.sb_lex.specs.declared.kinds.BadToken.{BadToken}
 use Rattle.sb_lex.specs.Kinds.{BlankPiece, Blank}
 use Rattle.sb_lex.specs.Steps.{Found, scan, piece_len}
-use Rattle.sb_lex.specs.Tokens.{IsNext, AreTokensFrom, Reading, Answers, moved, Calls, EachInputHasTokens, TokensAreUnique, CallsGiveTokens, OneTokenAtAPlace}
+use Rattle.sb_lex.specs.Tokens.{IsNext, AreTokensFrom, Reading, Answers, moved, Calls, EachInputHasTokens, TokensAreUnique, TokensFollowEachPlace, TokensBehindAPlaceAreUnique, CallsGiveTokens, OneTokenAtAPlace}
 use Rattle.sb_lex.proofs.PiecesJoin.{repeated_cons, repeated_nothing}
 use Rattle.sb_lex.proofs.GapsAgree.{piece_found}
 use Rattle.sb_lex.proofs.ScannedIsToken.{le_zero}
@@ -124,14 +124,18 @@ tokens_by (suc fuel) input from enough (Ok (Some t)) holds =
     let more = tokens_by fuel input t.end (omega arith) a.answer a.holds in
     record { tokens = t ∷ more.tokens; fault = more.fault; are = (holds, more.are) }
 
-tokens_from : (input : List ℕ) (from : ℕ) → from ≤ length input → HasTokens input from
-tokens_from input from within =
+has_tokens : (input : List ℕ) (from : ℕ) → from ≤ length input → HasTokens input from
+has_tokens input from within =
     let a = answer_exists input from within in
     tokens_by (length input) input from (omega arith) a.answer a.holds
 
-tokens_agree : (input : List ℕ) (from : ℕ) (ts us : List Token) (fault other : Option BadToken)
-    → AreTokensFrom input from ts fault → AreTokensFrom input from us other → (ts ≡ us)
-    × (fault ≡ other)
+-- from each place on there are tokens
+pub tokens_follow : TokensFollowEachPlace
+tokens_follow input from within =
+    let h = has_tokens input from within in (h.tokens, h.fault, h.are)
+
+-- and no others
+pub tokens_agree : TokensBehindAPlaceAreUnique
 tokens_agree input from [] [] None None a b = (refl, refl)
 tokens_agree input from [] [] None (Some bad) a b =
     let same = answers_agree (record { input = input; place = from }) (Ok None) (Err bad) a b in cc
@@ -165,7 +169,7 @@ tokens_agree input from (t ∷ ts) (u ∷ us) fault other a b =
 -- each input has tokens
 pub each_input_has_tokens : EachInputHasTokens
 each_input_has_tokens input =
-    let h = tokens_from input 0 (omega arith) in (h.tokens, h.fault, h.are)
+    let h = has_tokens input 0 (omega arith) in (h.tokens, h.fault, h.are)
 
 -- and no others
 pub tokens_are_unique : TokensAreUnique

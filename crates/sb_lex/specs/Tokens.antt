@@ -116,6 +116,18 @@ TokensAreUnique =
     (input : List ℕ) (ts us : List Token) (fault other : Option BadToken) → AreTokens input ts
     fault → AreTokens input us other → (ts ≡ us) × (fault ≡ other)
 
+-- from each place of the input on there are tokens
+abbrev pub TokensFollowEachPlace : Type 0
+TokensFollowEachPlace = (input : List ℕ) (from : ℕ) → from ≤ length input
+    → (tokens : List Token) × (fault : Option BadToken) × AreTokensFrom input from tokens fault
+
+-- and no others
+abbrev pub TokensBehindAPlaceAreUnique : Type 0
+TokensBehindAPlaceAreUnique =
+    (input : List ℕ) (from : ℕ) (ts us : List Token) (fault other : Option BadToken)
+    → AreTokensFrom input from ts fault → AreTokensFrom input from us other
+    → (ts ≡ us) × (fault ≡ other)
+
 -- calling to the end gives the tokens, or the bad place behind them
 abbrev pub CallsGiveTokens : Type 0
 CallsGiveTokens =
