@@ -5,8 +5,7 @@ use Rattle.std.proofs.lemmas.Option.{same_Some, none-some}
 use Rattle.std.proofs.lemmas.List.{map-append}
 use Rattle.sb_lex.specs.declared.kinds.Token.{Token}
 use Rattle.sb_lex.specs.declared.kinds.BadToken.{BadToken}
-use Rattle.sb_lex.specs.Tokens.{AreTokens}
-use Rattle.sb_lex.proofs.OneListOfTokens.{each_input_has_tokens, tokens_are_unique}
+use Rattle.sb_lex.specs.Tokens.{AreTokens, EachInputHasTokens, TokensAreUnique}
 use Rattle.sb_step.specs.Lexemes.{Lexeme, lexeme_at, lexemes}
 use Rattle.sb_step.specs.Grammar.{File, IsText}
 use Rattle.sb_step.specs.Faults.{IsFile, BeginsText, place_of, GoesOn, IsFaultAt, EachIsFileOrFault, FilesAreUnique, FaultsAreUnique, NoFileHasAFault}
@@ -148,17 +147,17 @@ decide input before (t ∷ after) bad ran are is =
         ∙ goes_on (lexemes input before) ran (lexeme_at input t) turn is on)
 
 -- each input is a file or has a fault
-pub each_is_file_or_fault : EachIsFileOrFault
-each_is_file_or_fault input =
-    let h = each_input_has_tokens input in
+pub each_is_file_or_fault : EachInputHasTokens → EachIsFileOrFault
+each_is_file_or_fault has_tokens input =
+    let h = has_tokens input in
     decide input [] h.0 h.1 (record { state = start; founds = [] }) h.2 refl
 
 -- there is one
 
 -- an input is one file at most
-pub files_are_unique : FilesAreUnique
-files_are_unique input file other is also =
-    let same = tokens_are_unique input is.tokens also.tokens None None is.are also.are in
+pub files_are_unique : TokensAreUnique → FilesAreUnique
+files_are_unique one_list input file other is also =
+    let same = one_list input is.tokens also.tokens None None is.are also.are in
     let e = text_ends (lexemes input is.tokens) file is.text in
     let o = text_ends (lexemes input is.tokens) other
     (subst (λ ts. IsText (lexemes input ts) other) (sym same.0) also.text) in
@@ -236,9 +235,9 @@ no_earlier input before after longer bad refused begins g =
     (shorter input before longer g.next g.middle g.joined begins)
 
 -- an input has one fault at most
-pub faults_are_unique : FaultsAreUnique
-faults_are_unique input place other one two =
-    let tokens = tokens_are_unique input (one.before ++ one.after) (two.before ++ two.after)
+pub faults_are_unique : TokensAreUnique → FaultsAreUnique
+faults_are_unique one_list input place other one two =
+    let tokens = one_list input (one.before ++ one.after) (two.before ++ two.after)
     one.bad two.bad one.are two.are in
     by (cuts one.before one.after two.before two.after tokens.0) tokens.1
   where
@@ -265,9 +264,9 @@ goes_to_end input before (t ∷ after) bad tokens file joined none text =
     })
 
 -- and not both
-pub no_file_has_a_fault : NoFileHasAFault
-no_file_has_a_fault input file place is fault =
-    let same = tokens_are_unique input (fault.before ++ fault.after) is.tokens fault.bad None
+pub no_file_has_a_fault : TokensAreUnique → NoFileHasAFault
+no_file_has_a_fault one_list input file place is fault =
+    let same = one_list input (fault.before ++ fault.after) is.tokens fault.bad None
     fault.are is.are in
     fault.refused (goes_to_end input fault.before fault.after fault.bad is.tokens file same.0
     same.1 is.text)

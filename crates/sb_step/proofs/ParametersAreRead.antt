@@ -4,7 +4,6 @@ use Rattle.std.proofs.lemmas.Bool.{false≢true}
 use Rattle.sb_lex.specs.declared.kinds.Mark.TheVariants as mark
 use Rattle.sb_lex.specs.declared.kinds.Token.{Token}
 use Rattle.sb_lex.specs.Tokens.{IsToken, Reading}
-use Rattle.sb_lex.proofs.OneAnswer.{answers_agree}
 use Rattle.sb_step.specs.declared.param.Param.{Param}
 use Rattle.sb_step.specs.Lexemes.{Lexeme, lexeme_at, is_close, IsMark}
 use Rattle.sb_step.specs.Steps.{is_comma}
@@ -25,8 +24,7 @@ pub record Passes (a b : Reading) (t : Token) (x : Lexeme) (xs : List Lexeme) : 
 module _ (a b : Reading) (t : Token) (read : ReadsToken a b t) where
   pub passes : (x : Lexeme) (xs : List Lexeme) → Stands a (x ∷ xs) → Passes a b t x xs
   passes x xs stands =
-      let agree = answers_agree a (Ok (Some x.token)) (Ok (Some t)) stands.0 read.next in
-      let same : x.token ≡ t = cc in
+      let same = read.only x.token stands.0 in
       record {
         is = stands.1 ∙ ap (lexeme_at a.input) same;
         stands = subst (λ r. Stands r xs) (sym read.moved)

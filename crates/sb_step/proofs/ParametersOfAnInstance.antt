@@ -1,11 +1,10 @@
 -- What stands behind the keyword of an instance is read, and is what the instance holds.
-use Rattle.std.proofs.Common.{◌≡◌, ℕ, ◌↔◌, Bool, List, [], ◌∷◌, ◌++◌, Some, None, Result, Ok, Err, refl, sym, ap, ◌∙◌, subst}
+use Rattle.std.proofs.Common.{◌≡◌, ℕ, ◌↔◌, Bool, List, [], ◌∷◌, ◌++◌, Some, None, Result, Ok, Err, map, refl, sym, ap, ◌∙◌, subst}
 use Rattle.std.specs.Prelude.{nat_eq}
 use Rattle.std.specs.Map.{lookup}
 use Rattle.std.proofs.lemmas.Option.{same_Some, none-some}
 use Rattle.sb_lex.specs.declared.kinds.Token.{Token}
-use Rattle.sb_lex.specs.Tokens.{AreTokensFrom, Reading}
-use Rattle.sb_lex.proofs.OneAnswer.{answers_agree}
+use Rattle.sb_lex.specs.Tokens.{AreTokensFrom, Reading, TokensBehindAPlaceAreUnique}
 use Rattle.sb_step.specs.declared.error.ParamsError.{ParamsError}
 use Rattle.sb_step.specs.declared.error.ParamsError.TheVariants as params_error
 use Rattle.sb_step.specs.declared.file.Form.{Form}
@@ -16,7 +15,7 @@ use Rattle.sb_step.specs.Lexemes.{Lexeme, lexeme_at, lexemes}
 use Rattle.sb_step.specs.Grammar.{File, ParameterList}
 use Rattle.sb_step.specs.Faults.{IsFile}
 use Rattle.sb_step.specs.Indexed.{Indexed}
-use Rattle.sb_step.specs.Parameters.{AreParameters, SaysSimple, HoldsParameters, HoldsByForm, HasParameters}
+use Rattle.sb_step.specs.Parameters.{AreParameters, SaysSimple, HoldsParameters, HoldsByForm, HasParameters, ParametersAreUnique}
 use Rattle.sb_step.specs.Reads.{HasNext, ReadsToken, Stands, Awaits, Reads, InList, AreInList, behind}
 use Rattle.sb_step.specs.Held.{IsParamsAnswer, HasMemory, reader_at, AwaitsByForm, SaysByForm, Gives}
 use Rattle.sb_step.proofs.ListsByLexeme.{ListOn, list_on}
@@ -64,20 +63,25 @@ stands_before input from [] are = are
 stands_before input from (t ∷ tokens) are =
     (are.0, refl, stands_before input t.end tokens are.1)
 
+-- the tokens of the lexemes that a reader stands before are those from its place on
+abbrev tokens_of : List Lexeme → List Token
+tokens_of xs = map (λ x. x.token) xs
+
+are_tokens : (at : Reading) (xs : List Lexeme) → Stands at xs
+    → AreTokensFrom at.input at.place (tokens_of xs) None × (xs ≡ lexemes at.input (tokens_of xs))
+are_tokens at [] stands = (stands, refl)
+are_tokens at (x ∷ xs) stands =
+    let later = are_tokens (behind at.input x.token) xs stands.2 in
+    ((stands.0, later.0), (λ i. stands.1 i ∷ later.1 i))
+
 -- and there are no others
-stands_once : (at : Reading) (xs ys : List Lexeme) → Stands at xs → Stands at ys → xs ≡ ys
-stands_once at [] [] a b = refl
-stands_once at [] (y ∷ ys) a b =
-    let agree = answers_agree at (Ok None) (Ok (Some y.token)) a b.0 in absurd (cc)
-stands_once at (x ∷ xs) [] a b =
-    let agree = answers_agree at (Ok (Some x.token)) (Ok None) a.0 b in absurd (cc)
-stands_once at (x ∷ xs) (y ∷ ys) a b =
-    let agree = answers_agree at (Ok (Some x.token)) (Ok (Some y.token)) a.0 b.0 in
-    let token : x.token ≡ y.token = cc in
-    let first : x ≡ y = a.1 ∙ ap (lexeme_at at.input) token ∙ sym b.1 in
-    let later = stands_once (behind at.input y.token) xs ys
-    (subst (λ t. Stands (behind at.input t) xs) token a.2) b.2 in
-    (λ i. first i ∷ later i)
+stands_once : TokensBehindAPlaceAreUnique → (at : Reading) (xs ys : List Lexeme) → Stands at xs
+    → Stands at ys → xs ≡ ys
+stands_once one_list at xs ys a b =
+    let one = are_tokens at xs a in
+    let other = are_tokens at ys b in
+    let same = one_list at.input at.place (tokens_of xs) (tokens_of ys) None None one.0 other.0 in
+    one.1 ∙ ap (lexemes at.input) same.0 ∙ sym other.1
 
 -- a record holds what its list says
 pub holds_said : (input : List ℕ) (r : Record) (s : SimpleStands input r) (ps : List Param)
@@ -171,30 +175,29 @@ list_behind input r ps h = by_from h.from h.are h.says
               says.second.first;
         }
 
-holds_once : (input : List ℕ) (r : Record) (ps qs : List Param) → HoldsParameters input r ps
+holds_once : TokensBehindAPlaceAreUnique → (input : List ℕ) (r : Record) (ps qs : List Param) → HoldsParameters input r ps
     → HoldsParameters input r qs → ps ≡ qs
-holds_once input r ps qs h k =
+holds_once one_list input r ps qs h k =
     let a = list_behind input r ps h in
     let b = list_behind input r qs k in
     let forms : form.Simple a.end ≡ form.Simple b.end = sym a.is_end ∙ b.is_end in
     let ends : a.end ≡ b.end = cc in
-    let same = stands_once (reader_at input b.end) a.xs b.xs
+    let same = stands_once one_list (reader_at input b.end) a.xs b.xs
     (subst (λ k. Stands (reader_at input k) a.xs) ends a.stands) b.stands in
     (parameters_are_unique ps qs b.xs a.rest b.rest
     (subst (λ l. AreParameters ps l a.rest) same a.says) b.says).0
 
-holds_once_by : (f : Form) (input : List ℕ) (r : Record) (ps qs : List Param)
+holds_once_by : TokensBehindAPlaceAreUnique → (f : Form) (input : List ℕ) (r : Record) (ps qs : List Param)
     → HoldsByForm f input r ps → HoldsByForm f input r qs → ps ≡ qs
-holds_once_by (form.Simple end) input r ps qs h k = holds_once input r ps qs h k
-holds_once_by form.Complex input r ps qs h k = h ∙ sym k
+holds_once_by one_list (form.Simple end) input r ps qs h k = holds_once one_list input r ps qs h k
+holds_once_by one_list form.Complex input r ps qs h k = h ∙ sym k
 
 -- the instance of a number has one list of parameters
-pub has_once : (indexed : Indexed) (n : ℕ) (ps qs : List Param) → HasParameters indexed n ps
-    → HasParameters indexed n qs → ps ≡ qs
-has_once indexed n ps qs h k =
+pub has_once : TokensBehindAPlaceAreUnique → ParametersAreUnique
+has_once one_list indexed n ps qs h k =
     let same : h.record_of ≡ k.record_of =
     same_Some h.record_of k.record_of (sym h.found ∙ k.found) in
-    holds_once_by k.record_of.form indexed.input k.record_of ps qs
+    holds_once_by one_list k.record_of.form indexed.input k.record_of ps qs
     (subst (λ r. HoldsByForm r.form indexed.input r ps) same h.holds) k.holds
 
 -- the answer
@@ -211,15 +214,15 @@ held_answers indexed is n r found (Ok ps) gives = record {
 held_answers indexed is n r found (Err (params_error.Missing m)) gives = absurd gives
 held_answers indexed is n r found (Err params_error.NoMemory) gives = tt
 
-pub parameters_pinned : (indexed : Indexed) (n : ℕ) (answer : Result (List Param) ParamsError)
+pub parameters_pinned : ParametersAreUnique → (indexed : Indexed) (n : ℕ) (answer : Result (List Param) ParamsError)
     → IsParamsAnswer indexed n answer → (ps : List Param) → HasMemory answer
     → (answer ≡ Ok ps) ↔ HasParameters indexed n ps
-parameters_pinned indexed n (Ok qs) is ps memory = (
+parameters_pinned one_list indexed n (Ok qs) is ps memory = (
   λ same. let given : qs ≡ ps = cc in subst (HasParameters indexed n) given is,
-  λ has. ap (λ l. Ok l) (has_once indexed n qs ps is has),
+  λ has. ap (λ l. Ok l) (one_list indexed n qs ps is has),
 )
-parameters_pinned indexed n (Err (params_error.Missing m)) is ps memory = (
+parameters_pinned one_list indexed n (Err (params_error.Missing m)) is ps memory = (
   λ same. absurd (cc),
   λ has. absurd (none-some has.record_of (sym is.1 ∙ has.found)),
 )
-parameters_pinned indexed n (Err params_error.NoMemory) is ps memory = absurd (memory refl)
+parameters_pinned one_list indexed n (Err params_error.NoMemory) is ps memory = absurd (memory refl)

@@ -2,9 +2,7 @@
 use Rattle.std.proofs.Common.{◌≡◌, ℕ, List, [], ◌∷◌, ◌++◌, Option, Some, None, Ok, Err, refl, sym, ap, ◌∙◌, subst, append-nil}
 use Rattle.sb_lex.specs.declared.kinds.Token.{Token}
 use Rattle.sb_lex.specs.declared.kinds.BadToken.{BadToken}
-use Rattle.sb_lex.specs.Tokens.{IsNext, IsEnd, IsBadFrom, AreTokensFrom, AreTokens}
-use Rattle.sb_lex.proofs.OneAnswer.{answers_agree}
-use Rattle.sb_lex.proofs.OneListOfTokens.{each_input_has_tokens}
+use Rattle.sb_lex.specs.Tokens.{IsNext, IsEnd, IsBadFrom, AreTokensFrom, AreTokens, TokensFollowEachPlace}
 use Rattle.sb_step.specs.declared.error.StepError.{StepError}
 use Rattle.sb_step.specs.declared.error.StepError.TheVariants as step_error
 use Rattle.sb_step.specs.declared.steps.Found.{Found}
@@ -38,44 +36,6 @@ to_more input from to [] t so_far next =
 to_more input from to (u ∷ before) t so_far next =
     (so_far.0, to_more input u.end to before t so_far.1 next)
 
--- there are tokens from the place on
-pub record Later (input : List ℕ) (to : ℕ) : Type 0 where
-  pub after : List Token
-  pub bad : Option BadToken
-  pub are : AreTokensFrom input to after bad
-
-behind_next : (input : List ℕ) (from : ℕ) (t : Token) (tokens : List Token)
-    (bad : Option BadToken) → IsNext input from t → AreTokensFrom input from tokens bad
-    → Later input t.end
-behind_next input from t [] None next are =
-    let same = answers_agree (record { input = input; place = from }) (Ok (Some t)) (Ok None) next
-    are in absurd (cc)
-behind_next input from t [] (Some b) next are =
-    let same = answers_agree (record { input = input; place = from }) (Ok (Some t)) (Err b) next
-    are in absurd (cc)
-behind_next input from t (u ∷ tokens) bad next are =
-    let same = answers_agree (record { input = input; place = from }) (Ok (Some t)) (Ok (Some u))
-    next are.0 in
-    let first : u ≡ t = cc in
-    record {
-      after = tokens;
-      bad = bad;
-      are = subst (λ v. AreTokensFrom input v.end tokens bad) first are.1;
-    }
-
-later_from : (input : List ℕ) (from to : ℕ) (before : List Token) → TokensTo input from before to
-    → Later input from → Later input to
-later_from input from to [] so_far later = subst (Later input) so_far later
-later_from input from to (t ∷ before) so_far later =
-    later_from input t.end to before so_far.1
-    (behind_next input from t later.after later.bad so_far.0 later.are)
-
-tokens_later : (input : List ℕ) (to : ℕ) (before : List Token) → TokensTo input 0 before to
-    → Later input to
-tokens_later input to before so_far =
-    let h = each_input_has_tokens input in
-    later_from input 0 to before so_far (record { after = h.0; bad = h.1; are = h.2 })
-
 -- before the first token
 pub nothing_read : (input : List ℕ) (c : Collected) → AreCollected [] c → Progress input 0 start c
 nothing_read input c empty = record {
@@ -101,18 +61,17 @@ one_more input place t s u c d p next a = record {
 }
 
 -- a token was not
-pub fault_at_token : (input : List ℕ) (place : ℕ) (t : Token) (s : State) (c : Collected)
+pub fault_at_token : TokensFollowEachPlace → (input : List ℕ) (place : ℕ) (t : Token) (s : State) (c : Collected)
     → Progress input place s c → IsNext input place t → step s (lexeme_at input t) ≡ None
     → IsFaultAt input t.start
-fault_at_token input place t s c p next none =
-    let l = tokens_later input t.end (p.before ++ t ∷ [])
-    (to_more input 0 place p.before t p.tokens next) in
+fault_at_token follow input place t s c p next none =
+    let l = follow input t.end next.token.candidate.within in
     let ran : Ran = record { state = s; founds = p.founds } in
     record {
       before = p.before;
-      after = t ∷ l.after;
-      bad = l.bad;
-      are = to_all input 0 place p.before (t ∷ l.after) l.bad p.tokens (next, l.are);
+      after = t ∷ l.0;
+      bad = l.1;
+      are = to_all input 0 place p.before (t ∷ l.0) l.1 p.tokens (next, l.2);
       at = refl;
       begins = runs_begin (lexemes input p.before) ran p.reads;
       refused = stops (lexemes input p.before) ran (lexeme_at input t) p.reads none;
@@ -202,10 +161,10 @@ pub answer_at_end : (input : List ℕ) (place : ℕ) (s : State) (c : Collected)
 answer_at_end input place s c p ends = end_answers input place s c (end_of s) refl p ends
 
 -- what is answered where a token was not accepted
-pub error_answers : (input : List ℕ) (place : ℕ) (t : Token) (s u : State) (c d : Collected)
+pub error_answers : TokensFollowEachPlace → (input : List ℕ) (place : ℕ) (t : Token) (s u : State) (c d : Collected)
     (error : StepError) → Progress input place s c → IsNext input place t
     → Accepts s u (lexeme_at input t) c d (Err error) → IsAnswer input (Err error)
-error_answers input place t s u c d (step_error.Syntax k) p next says =
-    subst (IsFaultAt input) (sym says.0) (fault_at_token input place t s c p next says.1)
-error_answers input place t s u c d (step_error.Duplicate n) p next says = absurd says
-error_answers input place t s u c d step_error.NoMemory p next says = tt
+error_answers follow input place t s u c d (step_error.Syntax k) p next says =
+    subst (IsFaultAt input) (sym says.0) (fault_at_token follow input place t s c p next says.1)
+error_answers follow input place t s u c d (step_error.Duplicate n) p next says = absurd says
+error_answers follow input place t s u c d step_error.NoMemory p next says = tt

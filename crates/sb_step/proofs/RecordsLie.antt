@@ -6,7 +6,6 @@ use Rattle.std.proofs.lemmas.Option.{same_Some, none-some}
 use Rattle.sb_lex.specs.declared.kinds.Token.{Token}
 use Rattle.sb_lex.specs.declared.kinds.BadToken.{BadToken}
 use Rattle.sb_lex.specs.Tokens.{AreTokensFrom}
-use Rattle.sb_lex.proofs.TokensHaveBytes.{next_lies}
 use Rattle.sb_step.specs.declared.file.Form.TheVariants as form
 use Rattle.sb_step.specs.declared.file.Record.{Record}
 use Rattle.sb_step.specs.Lexemes.{Lexeme, lexemes}
@@ -73,8 +72,8 @@ tokens_lie : (input : List ℕ) (from : ℕ) (tokens : List Token) (bad : Option
     → AreTokensFrom input from tokens bad → AllLie (length input) (lexemes input tokens)
 tokens_lie input from [] bad are = tt
 tokens_lie input from (t ∷ tokens) bad are =
-    let lies = next_lies (record { input = input; place = from }) t are.0 in (
-      record { ordered = omega (arith, lies.some); within = lies.within },
+    let token = are.0.token.candidate in (
+      record { ordered = token.ordered; within = token.within },
       tokens_lie input t.end tokens bad are.1,
     )
 

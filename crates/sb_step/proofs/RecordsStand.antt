@@ -6,7 +6,6 @@ use Rattle.sb_lex.specs.declared.kinds.Mark.TheVariants as mark
 use Rattle.sb_lex.specs.declared.kinds.Token.{Token}
 use Rattle.sb_lex.specs.declared.kinds.BadToken.{BadToken}
 use Rattle.sb_lex.specs.Tokens.{IsNext, AreTokensFrom, AreTokens}
-use Rattle.sb_lex.proofs.TokensHaveBytes.{next_lies}
 use Rattle.sb_step.specs.declared.file.Form.TheVariants as form
 use Rattle.sb_step.specs.declared.file.Record.{Record}
 use Rattle.sb_step.specs.Lexemes.{Lexeme, lexeme_at, lexemes, IsMark}
@@ -215,12 +214,11 @@ pub reads_on : (input : List ℕ) (r : Record) (end : ℕ) → r.form ≡ form.S
 reads_on input r end simple s =
     let b = tokens_behind input 0 s.before (s.inside ++ s.semicolon ∷ s.after) s.keyword None
     s.are in
-    let lies = next_lies (record { input = input; place = b.0 }) s.keyword b.1 in
     let same : form.Simple s.keyword.end ≡ form.Simple end = sym s.begins.form ∙ simple in
     let ends : s.keyword.end ≡ end = cc in
     record {
       is_end = ends;
-      within = omega (arith, ends, lies.within);
+      within = subst (λ k. k ≤ length input) ends b.1.token.candidate.within;
       are = subst
           (λ k. AreTokensFrom input k (s.inside ++ s.semicolon ∷ s.after) None) ends b.2;
     }

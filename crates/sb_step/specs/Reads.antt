@@ -24,9 +24,10 @@ Stands at (x ∷ xs) =
 abbrev pub HasNext : Reading → Type 0
 HasNext at = (t : Token) × IsNext at.input at.place t
 
--- the token was read
+-- the token was read, and none but it could be
 pub record ReadsToken (old new : Reading) (t : Token) : Type 0 where
   pub next : IsNext old.input old.place t
+  pub only : (u : Token) → IsNext old.input old.place u → u ≡ t
   pub moved : new ≡ behind old.input t
   pub lies : LiesBehind old t
 
