@@ -15,7 +15,7 @@ use Rattle.sb_lex.specs.Bytes.{capital_e, is_letter}
 use Rattle.sb_lex.specs.Steps.{longer, head_of, exponent_len, fraction_len, scan_number, scan_at}
 use Rattle.sb_lex.specs.Steps.{scan}
 use Rattle.sb_lex.specs.Kinds.{BlankPiece}
-use Rattle.sb_lex.proofs.PiecesJoin.{repeated_nothing}
+use Rattle.theory_bytes.proofs.RepeatsGrow.{repeated_nothing}
 use Rattle.sb_form.specs.Numbers.{IsShort, number_text}
 use Rattle.sb_form.proofs.DecimalsAreReadBack.{digits_decimal_all, digit_in_range}
 use Rattle.sb_form.proofs.TokensAtTheFront.{Piece, IsFirst}

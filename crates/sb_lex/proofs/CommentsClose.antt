@@ -2,10 +2,11 @@
 use Rattle.std.proofs.Common.{◌≡◌, ℕ, suc, ◌+◌, ◌<◌, Bool, true, false, ◌&&◌, eqb, List, [], ◌∷◌, ◌++◌, Option, Some, None, length, get_or, sym, refl, ap, ◌∙◌, subst, arith, one-add}
 use Rattle.std.specs.Prelude.{codes}
 use Rattle.std.proofs.lemmas.Bool.{cond_both, cond-false, and_parts, eqb-true, both_ways, and_right, and_from, eq-eqb, false_from_ne_true}
-use Rattle.sb_lex.specs.Sets.{Text, ◌⋅◌, Holds}
+use Rattle.theory_bytes.specs.Sets.{Text, ◌⋅◌, Holds}
 use Rattle.sb_lex.specs.Kinds.{Unclosed, IsComment}
 use Rattle.sb_lex.specs.Steps.{after, close_at, closed_len, comment_len}
-use Rattle.sb_lex.proofs.PiecesJoin.{Stands, Ends, stands_so_long, stands_joined, stands_text, around, around_append, around_length}
+use Rattle.theory_bytes.proofs.PrefixesJoin.{IsPrefix, HasPrefix, prefix_so_long, prefix_joined, prefix_text}
+use Rattle.theory_bytes.proofs.JoinedHasParts.{around, around_append, around_length}
 
 -- the text before the next `*/`
 pub record Closing (bytes : List ℕ) (n : ℕ) : Type 0 where
@@ -115,24 +116,24 @@ comment_len-comment xs rest is =
     (close_at-text t.inside rest t.is)
     ∙ omega (arith, around_length (codes "/*") (codes "*/") Unclosed xs t)
 
-comment_stands : (bs : List ℕ) (o : Option ℕ) → IsClosing o bs → 0 < closed_len o → Ends IsComment
+comment_at_front : (bs : List ℕ) (o : Option ℕ) → IsClosing o bs → 0 < closed_len o → HasPrefix IsComment
     (47 ∷ 42 ∷ bs) (closed_len o)
-comment_stands bs None c some = absurd (omega arith)
-comment_stands bs (Some n) c some =
-    let inside : Stands Unclosed bs (42 ∷ 47 ∷ c.rest) n = record
+comment_at_front bs None c some = absurd (omega arith)
+comment_at_front bs (Some n) c some =
+    let inside : IsPrefix Unclosed bs (42 ∷ 47 ∷ c.rest) n = record
     { text = c.text; joined = c.joined; long = c.long; is = c.unclosed } in
     record {
       rest = c.rest;
-      stands =
-          stands_so_long IsComment (47 ∷ 42 ∷ bs) c.rest (2 + (n + 2)) (n + 4) (omega arith)
-          (stands_joined (Text (codes "/*")) (Unclosed ⋅ Text (codes "*/")) (47 ∷ 42 ∷ bs) bs
-          c.rest 2 (n + 2) (stands_text (codes "/*") bs 2 refl)
-          (stands_joined Unclosed (Text (codes "*/")) bs (42 ∷ 47 ∷ c.rest) c.rest n 2 inside
-          (stands_text (codes "*/") c.rest 2 refl)));
+      prefix =
+          prefix_so_long IsComment (47 ∷ 42 ∷ bs) c.rest (2 + (n + 2)) (n + 4) (omega arith)
+          (prefix_joined (Text (codes "/*")) (Unclosed ⋅ Text (codes "*/")) (47 ∷ 42 ∷ bs) bs
+          c.rest 2 (n + 2) (prefix_text (codes "/*") bs 2 refl)
+          (prefix_joined Unclosed (Text (codes "*/")) bs (42 ∷ 47 ∷ c.rest) c.rest n 2 inside
+          (prefix_text (codes "*/") c.rest 2 refl)));
     }
 
 -- where a length is found, a comment so long stands there
-pub comment_found : (bytes : List ℕ) → 0 < comment_len bytes → Ends IsComment bytes
+pub comment_found : (bytes : List ℕ) → 0 < comment_len bytes → HasPrefix IsComment bytes
     (comment_len bytes)
 unfolding comment_len
 comment_found [] some = absurd (omega arith)
@@ -144,10 +145,10 @@ comment_found (x ∷ []) some = absurd
     ))
 comment_found (x ∷ y ∷ bs) some =
     let opened = eqb x 47 && eqb y 42 in
-    let P : ℕ → Type 0 = λ n. 0 < n → Ends IsComment (x ∷ y ∷ bs) n in
+    let P : ℕ → Type 0 = λ n. 0 < n → HasPrefix IsComment (x ∷ y ∷ bs) n in
     cond_both opened (closed_len (close_at bs)) 0 P
     (λ both more. let parts = and_parts (eqb x 47) (eqb y 42) both in let Q : List ℕ
-    → Type 0 = λ l. Ends IsComment l (closed_len (close_at bs)) in subst Q
+    → Type 0 = λ l. HasPrefix IsComment l (closed_len (close_at bs)) in subst Q
     (λ i. sym (eqb-true x 47 parts.0) i ∷ (sym (eqb-true y 42 parts.1) i ∷ bs))
-    (comment_stands bs (close_at bs) (closing_found bs) more))
+    (comment_at_front bs (close_at bs) (closing_found bs) more))
     (λ other none. absurd (omega arith)) some

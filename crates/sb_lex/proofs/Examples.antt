@@ -7,7 +7,7 @@ use Rattle.sb_lex.specs.declared.kinds.Kind.TheVariants as kind
 use Rattle.sb_lex.specs.declared.kinds.Mark.TheVariants as mark
 use Rattle.sb_lex.specs.declared.kinds.Word.TheVariants as word
 use Rattle.sb_lex.specs.declared.kinds.Token.{Token}
-use Rattle.sb_lex.specs.Sets.{Begins}
+use Rattle.theory_bytes.specs.Sets.{Begins}
 use Rattle.sb_lex.specs.Kinds.{BlankPiece}
 use Rattle.sb_lex.specs.Tokens.{IsCandidate, IsToken}
 use Rattle.sb_lex.specs.Steps.{scan, scan_letters, scan_exclamation, scan_name, scan_number, scan_enumeration, scan_binary, exponent_len, comment_len, piece_len}

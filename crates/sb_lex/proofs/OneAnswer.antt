@@ -1,23 +1,28 @@
 -- To a call for the next token there is one answer.
-use Rattle.std.proofs.Common.{◌≡◌, ◌≢◌, ℕ, ◌+◌, ◌-◌, ◌<◌, ◌≤◌, ◌↔◌, true, cond, ◌&&◌, eqb, leb, List, ◌∷◌, ◌++◌, Option, Some, None, Result, Ok, Err, length, take, drop, sym, refl, ap, ◌∙◌, subst, ⊎_elim, inl, inr, arith, drop_at, length-append, length-take-le, length-drop, drop-drop, take-append-drop, le_refl}
+use Rattle.std.proofs.Common.{◌≡◌, ◌≢◌, ℕ, ◌+◌, ◌-◌, ◌<◌, ◌≤◌, ◌↔◌, true, cond, ◌&&◌, eqb, leb, List, ◌∷◌, ◌++◌, Option, Some, None, Result, Ok, Err, length, take, drop, sym, refl, ap, ◌∙◌, subst, ⊎_elim, inl, inr, arith, drop_at, length-append, length-drop, drop-drop, le_refl}
 use Rattle.std.specs.Prelude.{codes, slice_range}
 use Rattle.std.proofs.lemmas.Bool.{cond_both, cond-true, cond-false, eqb-true, eq-eqb, ne_eqb, and_parts, or_cases, leb-true, cases_lt, eqb-false}
+use Rattle.std.proofs.Math.Arith.{le-zero}
 use Rattle.std.proofs.lemmas.Option.{none-some}
 use Rattle.std.proofs.lemmas.List.{drop_all}
+use Rattle.std.proofs.lemmas.List.Folds.{drop_split}
+use Rattle.theory_bytes.proofs.InsidesAreBetween.{slice_length}
 use Rattle.sb_lex.specs.declared.kinds.Kind.{Kind}
 use Rattle.sb_lex.specs.declared.kinds.Token.{Token}
 use Rattle.sb_lex.specs.declared.kinds.BadToken.{BadToken}
 use Rattle.sb_lex.specs.declared.kinds.Mark.TheVariants as mark
 use Rattle.sb_lex.specs.declared.dispatch.Head.{Head}
 use Rattle.sb_lex.specs.declared.dispatch.Head.TheVariants as head
-use Rattle.sb_lex.specs.Bytes.{begins_with, is_white}
-use Rattle.sb_lex.specs.Sets.{Begins}
+use Rattle.sb_lex.specs.Bytes.{is_white}
+use Rattle.theory_bytes.specs.Sets.{begins_with}
+use Rattle.theory_bytes.specs.Sets.{Begins}
 use Rattle.sb_lex.specs.Kinds.{IsOf, not_after, Unclosed, BlankPiece}
 use Rattle.sb_lex.specs.Tokens.{IsCandidate, IsToken, IsGap, Reading, Answers}
 use Rattle.sb_lex.specs.Steps.{Found, head_of, scan_at, scan, comment_len, piece_len}
-use Rattle.sb_lex.proofs.PiecesJoin.{text_is, around, around_append}
+use Rattle.theory_bytes.proofs.PrefixesJoin.{text_is}
+use Rattle.theory_bytes.proofs.JoinedHasParts.{around, around_append}
 use Rattle.sb_lex.proofs.GapsAgree.{piece_found, piece_len-piece, blanks_agree}
-use Rattle.sb_lex.proofs.ScannedIsToken.{Front, IsFront, HeadFits, head_fits, scan_front, le_zero}
+use Rattle.sb_lex.proofs.ScannedIsToken.{Front, IsFront, HeadFits, head_fits, scan_front}
 use Rattle.sb_lex.proofs.TokenIsScanned.{Covers, scan_covers}
 
 -- a token at a place, by its length
@@ -26,25 +31,13 @@ token_of k from n = record { kind = k; start = from; end = from + n }
 
 -- what stands at a place, and what follows it
 
-sliced : (input : List ℕ) (from to : ℕ) → from ≤ to → drop from input ≡ slice_range input from to
-    ++ drop to input
-sliced input from to ordered =
-    sym (take-append-drop (to - from) (drop from input)) ∙ ap (λ l. slice_range input from to ++ l)
-    (drop-drop (to - from) from input ∙ ap (λ k. drop k input) (omega arith))
-
--- what stands at a span is as long as the span
-pub slice_length : (input : List ℕ) (from to : ℕ) → from ≤ to → to ≤ length input
-    → length (slice_range input from to) ≡ to - from
-slice_length input from to ordered within =
-    length-take-le (to - from) (drop from input) (omega (arith, length-drop from input))
-
 front_from_candidate : (input : List ℕ) (t : Token) → IsCandidate input t
     → Front (drop t.start input) t.kind (t.end - t.start)
 front_from_candidate input t c = record {
   rest = drop t.end input;
-  stands = record {
+  prefix = record {
     text = slice_range input t.start t.end;
-    joined = sliced input t.start t.end c.ordered;
+    joined = drop_split input t.start t.end c.ordered;
     long = slice_length input t.start t.end c.ordered c.within;
     is = c.of_kind;
   };
@@ -56,10 +49,10 @@ candidate_from_front : (input : List ℕ) (from : ℕ) (k : Kind) (n : ℕ) → 
 candidate_from_front input from k n within f =
     let bytes = drop from input in
     let size : from + n - from ≡ n = omega arith in
-    let text : f.stands.text ≡ slice_range input from (from + n) =
-    text_is (IsOf k) bytes f.rest n f.stands ∙ ap (λ m. take m bytes) (sym size) in
+    let text : f.prefix.text ≡ slice_range input from (from + n) =
+    text_is (IsOf k) bytes f.rest n f.prefix ∙ ap (λ m. take m bytes) (sym size) in
     let rest : f.rest ≡ drop (from + n) input =
-    sym (drop_at f.stands.text f.rest n f.stands.long) ∙ ap (drop n) (sym f.stands.joined)
+    sym (drop_at f.prefix.text f.rest n f.prefix.long) ∙ ap (drop n) (sym f.prefix.joined)
     ∙ drop-drop n from input in
     record {
       ordered = omega arith;
@@ -67,20 +60,20 @@ candidate_from_front input from k n within f =
           omega (
             arith,
             length-drop from input,
-            ap length f.stands.joined,
+            ap length f.prefix.joined,
             length-append
-                f.stands.text f.rest,
-            f.stands.long,
+                f.prefix.text f.rest,
+            f.prefix.long,
           );
-      of_kind = subst (IsOf k) text f.stands.is;
+      of_kind = subst (IsOf k) text f.prefix.is;
       free = ap (begins_with (not_after k)) (sym rest) ∙ f.free;
     }
 
 front_covered : (bytes : List ℕ) (k : Kind) (n : ℕ) → Front bytes k n → Covers (scan bytes) k n
 front_covered bytes k n f =
-    subst (λ l. Covers (scan l) k n) (sym f.stands.joined)
-    (subst (Covers (scan (f.stands.text ++ f.rest)) k) f.stands.long
-    (scan_covers k f.stands.text f.rest f.stands.is f.free))
+    subst (λ l. Covers (scan l) k n) (sym f.prefix.joined)
+    (subst (Covers (scan (f.prefix.text ++ f.rest)) k) f.prefix.long
+    (scan_covers k f.prefix.text f.rest f.prefix.is f.free))
 
 candidate_covered : (input : List ℕ) (t : Token) → IsCandidate input t
     → Covers (scan (drop t.start input)) t.kind (t.end - t.start)
@@ -181,10 +174,10 @@ stops_at_token bytes x found =
     ⊎_elim
     (λ some.
     let e = piece_found bytes some in
-    let none : scan bytes ≡ None = ap scan e.stands.joined ∙ blank_is_no_token e.stands.text e.rest
-    e.stands.is in
+    let none : scan bytes ≡ None = ap scan e.prefix.joined ∙ blank_is_no_token e.prefix.text e.rest
+    e.prefix.is in
     absurd (none-some x (sym none ∙ found)))
-    (λ none. le_zero (piece_len bytes) none)
+    (λ none. le-zero none)
     (cases_lt 0 (piece_len bytes))
 
 stops_at_bad : (bytes : List ℕ) → (Begins BlankPiece bytes → ⊥) → piece_len bytes ≡ 0
@@ -194,12 +187,12 @@ stops_at_bad bytes no_blank =
     let e = piece_found bytes some in
     absurd (no_blank
     (record {
-      front = e.stands.text;
+      front = e.prefix.text;
       rest = e.rest;
-      joined = e.stands.joined;
-      is = e.stands.is;
+      joined = e.prefix.joined;
+      is = e.prefix.is;
     })))
-    (λ none. le_zero (piece_len bytes) none)
+    (λ none. le-zero none)
     (cases_lt 0 (piece_len bytes))
 
 -- where no length is found no piece begins
@@ -299,7 +292,7 @@ answered input from (Err bad) is =
 -- two gaps from one place end at one place
 stops_agree : (input : List ℕ) (from p q : ℕ) → Stop input from p → Stop input from q → p ≡ q
 stops_agree input from p q a b =
-    let same = sym (sliced input from p a.gap.ordered) ∙ sliced input from q b.gap.ordered in
+    let same = sym (drop_split input from p a.gap.ordered) ∙ drop_split input from q b.gap.ordered in
     let as_long = blanks_agree (slice_range input from p) (slice_range input from q) (drop p input)
     (drop q input) a.gap.blank b.gap.blank same a.stops b.stops in
     omega (

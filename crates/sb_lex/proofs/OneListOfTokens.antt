@@ -1,5 +1,6 @@
 -- Each input has one list of tokens with one end, and the calls give it.
 use Rattle.std.proofs.Common.{◌≡◌, ℕ, suc, zero, ◌+◌, ◌-◌, ◌<◌, ◌≤◌, List, [], ◌∷◌, ◌++◌, Ok, Err, Option, Some, None, length, take, drop, sym, refl, ap, ap₂, ◌∙◌, subst, ⊎_elim, arith, length-append, length-drop, drop-drop, take-add, take_at, drop_at}
+use Rattle.std.proofs.Math.Arith.{le-zero}
 use Rattle.std.proofs.lemmas.Bool.{cases_lt}
 use Rattle.std.proofs.lemmas.Option.{some_pair_parts}
 use Rattle.sb_lex.specs.declared.kinds.Token.{Token}
@@ -7,9 +8,8 @@ use Rattle.sb_lex.specs.declared.kinds.BadToken.{BadToken}
 use Rattle.sb_lex.specs.Kinds.{BlankPiece, Blank}
 use Rattle.sb_lex.specs.Steps.{Found, scan, piece_len}
 use Rattle.sb_lex.specs.Tokens.{IsNext, AreTokensFrom, Reading, Answers, moved, Calls, EachInputHasTokens, TokensAreUnique, TokensFollowEachPlace, TokensBehindAPlaceAreUnique, CallsGiveTokens, OneTokenAtAPlace}
-use Rattle.sb_lex.proofs.PiecesJoin.{repeated_cons, repeated_nothing}
+use Rattle.theory_bytes.proofs.RepeatsGrow.{repeated_cons, repeated_nothing}
 use Rattle.sb_lex.proofs.GapsAgree.{piece_found}
-use Rattle.sb_lex.proofs.ScannedIsToken.{le_zero}
 use Rattle.sb_lex.proofs.OneAnswer.{Answer, answer_by, Stop, answer_holds, answers_agree, token_found}
 use Rattle.sb_lex.proofs.TokensHaveBytes.{next_lies}
 
@@ -51,21 +51,21 @@ gap_exists zero bytes fits =
     let e = piece_found bytes some in
     absurd (omega (
       arith,
-      ap length e.stands.joined,
-      length-append e.stands.text e.rest,
-      e.stands.long,
+      ap length e.prefix.joined,
+      length-append e.prefix.text e.rest,
+      e.prefix.long,
     )))
-    (λ none. gap_stops bytes (le_zero (piece_len bytes) none))
+    (λ none. gap_stops bytes (le-zero none))
     (cases_lt 0 (piece_len bytes))
 gap_exists (suc fuel) bytes fits =
     ⊎_elim
     (λ some.
     let e = piece_found bytes some in
     let shorter : length e.rest ≤ fuel =
-    omega (arith, ap length e.stands.joined, length-append e.stands.text e.rest, e.stands.long) in
-    subst Gap (sym e.stands.joined)
-    (gap_more e.stands.text e.rest e.stands.is (gap_exists fuel e.rest shorter)))
-    (λ none. gap_stops bytes (le_zero (piece_len bytes) none))
+    omega (arith, ap length e.prefix.joined, length-append e.prefix.text e.rest, e.prefix.long) in
+    subst Gap (sym e.prefix.joined)
+    (gap_more e.prefix.text e.rest e.prefix.is (gap_exists fuel e.rest shorter)))
+    (λ none. gap_stops bytes (le-zero none))
     (cases_lt 0 (piece_len bytes))
 
 -- a gap of the bytes that are left is one of the input

@@ -2,11 +2,12 @@
 use Rattle.std.proofs.Common.{◌≡◌, ℕ, suc, true, false, cond, List, [], ◌∷◌, ◌++◌, Option, Some, None, length, sym, refl, ap, ◌∙◌, subst, ⊎_elim, inl, inr, arith, one-add}
 use Rattle.std.specs.List.{concat, AllByRecursion}
 use Rattle.std.proofs.lemmas.Bool.{cond_both, eqb-true, not-true, not_from_false}
-use Rattle.sb_lex.specs.Bytes.{is_apostrophe, begins_with}
-use Rattle.sb_lex.specs.Sets.{Repeated}
+use Rattle.sb_lex.specs.Bytes.{is_apostrophe}
+use Rattle.theory_bytes.specs.Sets.{begins_with}
+use Rattle.theory_bytes.specs.Sets.{Repeated}
 use Rattle.sb_lex.specs.Kinds.{StringPiece}
 use Rattle.sb_lex.specs.Steps.{after, string_len}
-use Rattle.sb_lex.proofs.PiecesJoin.{repeated_cons, repeated_nothing}
+use Rattle.theory_bytes.proofs.RepeatsGrow.{repeated_cons, repeated_nothing}
 use Rattle.sb_lex.proofs.StringsByRuns.{string_len-plain}
 
 -- the inside of a string, its last apostrophe and what follows

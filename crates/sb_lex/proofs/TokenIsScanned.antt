@@ -16,12 +16,13 @@ use Rattle.sb_lex.specs.declared.kinds.Mark.TheVariants as mark
 use Rattle.sb_lex.specs.declared.kinds.Word.{Word}
 use Rattle.sb_lex.specs.declared.kinds.Word.TheVariants as word
 use Rattle.sb_lex.specs.declared.dispatch.Head.TheVariants as head
-use Rattle.sb_lex.specs.Bytes.{begins_with, is_letter, is_word_byte, is_hex, is_filling, is_sign, is_apostrophe}
-use Rattle.sb_lex.specs.Sets.{Byte, Optional, Repeated}
+use Rattle.sb_lex.specs.Bytes.{is_letter, is_word_byte, is_hex, is_filling, is_sign, is_apostrophe}
+use Rattle.theory_bytes.specs.Sets.{begins_with}
+use Rattle.theory_bytes.specs.Sets.{Byte, Optional, Repeated}
 use Rattle.sb_lex.specs.Kinds.{word_text, mark_byte, Digits, Signed, Numeral, Letters, IsNumber, IsName, Exponent, StringPiece, HexDigits, IsOf, not_after}
 use Rattle.sb_lex.specs.Steps.{Found, longer, head_of, scan_words, or_keyword, scan_letters, scan_exclamation, scan_name, sign_len, exponent_len, fraction_len, scan_number, as_string, scan_enumeration, scan_binary, scan_at, scan}
-use Rattle.sb_lex.proofs.RunsAreLongest.{run_is_whole, run_is_longest}
-use Rattle.sb_lex.proofs.PiecesJoin.{around, around_append, around_length, begun, some_pass}
+use Rattle.theory_bytes.proofs.RunsAreLongest.{run_is_whole, run_is_longest}
+use Rattle.theory_bytes.proofs.JoinedHasParts.{around, around_append, around_length, begun, some_pass}
 use Rattle.sb_lex.proofs.StringsEnd.{string_len-text}
 use Rattle.sb_lex.proofs.ScannedIsToken.{filling_is_hex, letter_is_word_byte, Unsigned}
 

@@ -1,6 +1,6 @@
 -- The bytes that the grammar of tokens names, and its classes of bytes. White space is the bytes 9
 -- to 13 and 32: ISO 10303-21 allows fewer there, and this project passes over them all.
-use Rattle.std.specs.Prelude.{ℕ, Bool, false, ◌||◌, ◌==◌, List, [], ◌∷◌}
+use Rattle.std.specs.Prelude.{ℕ, Bool, ◌||◌, ◌==◌}
 use Rattle.std.specs.Int.{is_in_range}
 use Rattle.std.specs.Char.{is_ascii_digit, is_ascii_uppercase}
 
@@ -99,8 +99,3 @@ is_white b = is_in_range 9 13 b || b == 32
 -- what a string begins and ends with
 abbrev pub is_apostrophe : ℕ → Bool
 is_apostrophe b = b == apostrophe
-
--- the first byte passes the test; there is one
-abbrev pub begins_with : (ℕ → Bool) → List ℕ → Bool
-begins_with test [] = false
-begins_with test (b ∷ bs) = test b

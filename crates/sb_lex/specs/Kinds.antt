@@ -9,7 +9,7 @@ use Rattle.sb_lex.specs.declared.kinds.Mark.{Mark}
 use Rattle.sb_lex.specs.declared.kinds.Mark.TheVariants as mark
 use Rattle.sb_lex.specs.declared.kinds.Word.{Word}
 use Rattle.sb_lex.specs.declared.kinds.Word.TheVariants as word
-use Rattle.sb_lex.specs.Sets.{Text, Byte, Bytes, SomeBytes, ◌⋅◌, Optional, Repeated, Holds}
+use Rattle.theory_bytes.specs.Sets.{Text, Byte, Bytes, SomeBytes, ◌⋅◌, Optional, Repeated, Holds}
 use Rattle.sb_lex.specs.Bytes.{dollar, open_parenthesis, close_parenthesis, asterisk, comma, semicolon, equals, is_letter, is_word_byte, is_hex, is_filling, is_sign, is_white, is_apostrophe}
 
 -- the two words that stand around a text

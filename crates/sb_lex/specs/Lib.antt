@@ -1,5 +1,4 @@
 -- In reading order.
-pub mod Sets
 pub mod Bytes
 pub mod Kinds
 pub mod Tokens

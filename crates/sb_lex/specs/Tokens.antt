@@ -4,8 +4,8 @@ use Rattle.sb_lex.specs.declared.kinds.Kind.{Kind}
 use Rattle.sb_lex.specs.declared.kinds.Kind.TheVariants as kind
 use Rattle.sb_lex.specs.declared.kinds.Token.{Token}
 use Rattle.sb_lex.specs.declared.kinds.BadToken.{BadToken}
-use Rattle.sb_lex.specs.Sets.{Begins}
-use Rattle.sb_lex.specs.Bytes.{begins_with}
+use Rattle.theory_bytes.specs.Sets.{Begins}
+use Rattle.theory_bytes.specs.Sets.{begins_with}
 use Rattle.sb_lex.specs.Kinds.{IsOf, not_after, BlankPiece, Blank}
 
 -- what stands at the span is of the kind, and what may not follow it does not

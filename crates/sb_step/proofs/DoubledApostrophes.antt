@@ -4,7 +4,7 @@ use Rattle.std.proofs.Math.Seq.{drop-append_seam}
 use Rattle.std.specs.List.{AllByRecursion, concat}
 use Rattle.std.specs.Prelude.{◌==◌, not, IsTrue}
 use Rattle.sb_lex.specs.Bytes.{apostrophe}
-use Rattle.sb_lex.specs.Sets.{Repeated}
+use Rattle.theory_bytes.specs.Sets.{Repeated}
 use Rattle.sb_lex.specs.Kinds.{StringPiece}
 use Rattle.sb_step.specs.Parameters.{written, doubled}
 

@@ -15,7 +15,8 @@ use Rattle.sb_step.specs.Parameters.AreParameters.{empty, some}
 use Rattle.sb_step.specs.Parameters.AreFurther.{last, more}
 use Rattle.sb_step.specs.Reads.{AreInList}
 use Rattle.sb_step.proofs.DoubledApostrophes.{doubled_once}
-use Rattle.sb_step.proofs.InsidesOfTokens.{inside_of, inside_between}
+use Rattle.theory_bytes.specs.Insides.{inside_of}
+use Rattle.theory_bytes.proofs.InsidesAreBetween.{inside-between}
 use Rattle.sb_step.proofs.ListsByLexeme.{parameter_on, parameter_closes_none}
 use Rattle.sb_step.proofs.SaidIsParameter.{says_value, said_parameter}
 
@@ -24,7 +25,7 @@ use Rattle.sb_step.proofs.SaidIsParameter.{says_value, said_parameter}
 same_inside : (q : ℕ) (s u text : List ℕ) → Encloses (q ∷ []) s text → Encloses (q ∷ []) u text
     → s ≡ u
 same_inside q s u text a b =
-    sym (inside_between q q s) ∙ ap inside_of (sym a.whole ∙ b.whole) ∙ inside_between q q u
+    sym (inside-between q q s) ∙ ap inside_of (sym a.whole ∙ b.whole) ∙ inside-between q q u
 
 says_once : (k : Kind) (text : List ℕ) (p q : Param) → Says k text p → Says k text q → p ≡ q
 says_once kind.Integer text p q a b = a ∙ sym b

@@ -3,6 +3,7 @@ use Rattle.std.proofs.Common.{◌≡◌, ℕ, true, List, [], ◌∷◌, ◌++�
 use Rattle.std.specs.Prelude.{codes, nat_eq}
 use Rattle.std.specs.Map.{lookup}
 use Rattle.std.proofs.lemmas.Bool.{false≢true}
+use Rattle.theory_bytes.specs.Insides.{inside_of}
 use Rattle.sb_lex.specs.declared.kinds.Kind.{Kind}
 use Rattle.sb_lex.specs.declared.kinds.Kind.TheVariants as kind
 use Rattle.sb_lex.specs.declared.kinds.Mark.TheVariants as mark
@@ -26,7 +27,7 @@ use Rattle.sb_step.specs.Parameters.AreFurther.{last, more}
 use Rattle.sb_step.specs.Reads.{behind, Stands}
 use Rattle.sb_step.specs.Held.{reader_at}
 use Rattle.sb_step.proofs.DoubledApostrophes.{inside_is_written}
-use Rattle.sb_step.proofs.InsidesOfTokens.{inside_of, text_of, string_is, enumeration_is, binary_is}
+use Rattle.sb_step.proofs.InsidesOfTokens.{text_of, string_is, enumeration_is, binary_is}
 use Rattle.sb_step.proofs.RecordsStand.{instance_stands, reads_on}
 use Rattle.sb_step.proofs.ParametersOfAnInstance.{stands_before, holds_said}
 

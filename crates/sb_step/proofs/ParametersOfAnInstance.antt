@@ -11,7 +11,7 @@ use Rattle.sb_step.specs.declared.file.Form.{Form}
 use Rattle.sb_step.specs.declared.file.Form.TheVariants as form
 use Rattle.sb_step.specs.declared.file.Record.{Record}
 use Rattle.sb_step.specs.declared.param.Param.{Param}
-use Rattle.sb_step.specs.Lexemes.{Lexeme, lexeme_at, lexemes}
+use Rattle.sb_step.specs.Lexemes.{Lexeme, lexemes}
 use Rattle.sb_step.specs.Grammar.{File, ParameterList}
 use Rattle.sb_step.specs.Faults.{IsFile}
 use Rattle.sb_step.specs.Indexed.{Indexed}

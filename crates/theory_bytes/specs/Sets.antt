@@ -1,5 +1,5 @@
 -- Sets of byte strings, and how they are put together. A set is the fact of being in it.
-use Rattle.std.specs.Prelude.{◌≡◌, ℕ, ◌⊎◌, Bool, List, [], ◌∷◌, ◌++◌, IsTrue}
+use Rattle.std.specs.Prelude.{◌≡◌, ℕ, ◌⊎◌, Bool, false, List, [], ◌∷◌, ◌++◌, IsTrue}
 use Rattle.std.specs.List.{list_all, concat, AllByRecursion}
 
 -- just this text
@@ -55,3 +55,8 @@ pub record Holds (text xs : List ℕ) : Type 0 where
   pub before : List ℕ
   pub after : List ℕ
   pub found : xs ≡ before ++ (text ++ after)
+
+-- the first byte passes the test; there is one
+abbrev pub begins_with : (ℕ → Bool) → List ℕ → Bool
+begins_with test [] = false
+begins_with test (b ∷ bs) = test b

@@ -2,7 +2,7 @@
 use Rattle.std.proofs.Common.{◌≡◌, ℕ, ◌+◌, ◌≤◌, Bool, true, false, List, [], ◌∷◌, ◌++◌, length, refl, ap, ◌∙◌, ⊎_elim, arith, one-add}
 use Rattle.std.specs.List.{prefix_len, list_all}
 use Rattle.std.proofs.lemmas.Bool.{cases_Bool, and_parts, and_from}
-use Rattle.sb_lex.specs.Bytes.{begins_with}
+use Rattle.theory_bytes.specs.Sets.{begins_with}
 
 module _ (test : ℕ → Bool) where
   -- a run that is followed by another byte is just so long
