@@ -11,7 +11,7 @@ use Rattle.sb_lex.specs.declared.kinds.Kind.{Kind}
 use Rattle.sb_lex.specs.declared.kinds.Token.{Token}
 use Rattle.sb_lex.specs.Bytes.{is_white}
 use Rattle.sb_lex.specs.Kinds.{BlankPiece, Blank}
-use Rattle.sb_lex.specs.Steps.{Found, scan}
+use Rattle.sb_lex.specs.Scanning.{Found, scan}
 use Rattle.sb_lex.specs.Tokens.{IsGap, IsNext, AreTokensFrom}
 use Rattle.theory_bytes.proofs.RepeatsGrow.{repeated_cons, repeated_nothing}
 use Rattle.sb_lex.proofs.OneAnswer.{token_of, found_token}

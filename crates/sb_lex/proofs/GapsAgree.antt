@@ -8,7 +8,7 @@ use Rattle.std.proofs.lemmas.List.{append_cancel_left}
 use Rattle.sb_lex.specs.Bytes.{is_white}
 use Rattle.theory_bytes.specs.Sets.{Byte}
 use Rattle.sb_lex.specs.Kinds.{Unclosed, IsComment, BlankPiece, Blank}
-use Rattle.sb_lex.specs.Steps.{comment_len, piece_len}
+use Rattle.sb_lex.specs.Scanning.{comment_len, piece_len}
 use Rattle.theory_bytes.proofs.PrefixesJoin.{HasPrefix, prefix_as, prefix_byte, text_is}
 use Rattle.theory_bytes.proofs.JoinedHasParts.{around, around_length}
 use Rattle.theory_bytes.proofs.RepeatsGrow.{repeated_push}

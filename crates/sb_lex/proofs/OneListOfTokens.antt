@@ -6,8 +6,8 @@ use Rattle.std.proofs.lemmas.Option.{some_pair_parts}
 use Rattle.sb_lex.specs.declared.kinds.Token.{Token}
 use Rattle.sb_lex.specs.declared.kinds.BadToken.{BadToken}
 use Rattle.sb_lex.specs.Kinds.{BlankPiece, Blank}
-use Rattle.sb_lex.specs.Steps.{Found, scan, piece_len}
-use Rattle.sb_lex.specs.Tokens.{IsNext, AreTokensFrom, Reading, Answers, moved, Calls, EachInputHasTokens, TokensAreUnique, TokensFollowEachPlace, TokensBehindAPlaceAreUnique, CallsGiveTokens, OneTokenAtAPlace}
+use Rattle.sb_lex.specs.Scanning.{Scanned, scan, piece_len}
+use Rattle.sb_lex.specs.Tokens.{IsNext, AreTokensFrom, Reading, IsTokenAnswer, moved, Calls, EachInputHasTokens, TokensAreUnique, TokensFollowEachPlace, TokensBehindAPlaceAreUnique, CallsGiveTokens, OneTokenAtAPlace}
 use Rattle.theory_bytes.proofs.RepeatsGrow.{repeated_cons, repeated_nothing}
 use Rattle.sb_lex.proofs.GapsAgree.{piece_found}
 use Rattle.sb_lex.proofs.OneAnswer.{Answer, answer_by, Stop, answer_holds, answers_agree, token_found}
@@ -85,7 +85,7 @@ stop_from_gap input from within g =
 -- there is an answer
 pub record HasAnswer (at : Reading) : Type 0 where
   pub answer : Answer
-  pub holds : Answers at answer
+  pub holds : IsTokenAnswer at answer
 
 answer_exists : (input : List ℕ) (from : ℕ) → from ≤ length input
     → HasAnswer (record { input = input; place = from })
@@ -112,7 +112,7 @@ next_goes_on input from t next =
     (omega (arith, lies.behind, lies.some), lies.within)
 
 tokens_by : (fuel : ℕ) (input : List ℕ) (from : ℕ) → length input ≤ from + fuel → (answer : Answer)
-    → Answers (record { input = input; place = from }) answer → HasTokens input from
+    → IsTokenAnswer (record { input = input; place = from }) answer → HasTokens input from
 tokens_by fuel input from enough (Ok None) holds = record { tokens = []; fault = None; are = holds }
 tokens_by fuel input from enough (Err bad) holds = record
     { tokens = []; fault = Some bad; are = holds }
@@ -207,7 +207,7 @@ pub one_token_at_a_place : OneTokenAtAPlace
 one_token_at_a_place input t u is other same =
     let first = token_found input t (scan (drop t.start input)) is refl in
     let second = token_found input u (scan (drop u.start input)) other refl in
-    let found : ◌≡◌ {A = Found} (Some (t.kind, t.end - t.start)) (Some (u.kind, u.end - u.start)) =
+    let found : ◌≡◌ {A = Scanned} (Some (t.kind, t.end - t.start)) (Some (u.kind, u.end - u.start)) =
     sym first ∙ ap (λ k. scan (drop k input)) same ∙ second in
     let parts = some_pair_parts t.kind u.kind (t.end - t.start) (u.end - u.start) found in
     let ends : t.end ≡ u.end =

@@ -10,7 +10,7 @@ use Rattle.sb_lex.specs.declared.kinds.Token.{Token}
 use Rattle.sb_lex.specs.Bytes.{is_letter, is_word_byte}
 use Rattle.theory_bytes.specs.Sets.{Text, ◌⋅◌, Repeated}
 use Rattle.sb_lex.specs.Kinds.{Letters, HexDigits, StringPiece, IsOf}
-use Rattle.sb_lex.specs.Tokens.{IsNext, Reading, Answers, least_length, LiesBehind, Lies}
+use Rattle.sb_lex.specs.Tokens.{IsNext, Reading, IsTokenAnswer, least_length, LiesBehind, Lies}
 use Rattle.theory_bytes.proofs.JoinedHasParts.{around, around_length, begun, some_pass}
 use Rattle.sb_lex.proofs.OneAnswer.{Answer}
 
@@ -80,7 +80,7 @@ next_lies at t next =
     }
 
 -- where an answer lies
-pub answer_lies : (at : Reading) (answer : Answer) → Answers at answer → Lies at answer
+pub answer_lies : (at : Reading) (answer : Answer) → IsTokenAnswer at answer → Lies at answer
 answer_lies at (Ok (Some t)) next = next_lies at t next
 answer_lies at (Ok None) at_end = tt
 answer_lies at (Err bad) is = (is.gap.ordered, is.within)

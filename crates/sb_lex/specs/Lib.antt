@@ -2,4 +2,4 @@
 pub mod Bytes
 pub mod Kinds
 pub mod Tokens
-pub mod Steps
+pub mod Scanning

@@ -9,16 +9,17 @@ use Rattle.sb_lex.specs.declared.kinds.Kind.{Kind}
 use Rattle.sb_lex.specs.declared.kinds.Kind.TheVariants as kind
 use Rattle.sb_lex.specs.declared.kinds.Mark.TheVariants as mark
 use Rattle.sb_lex.specs.declared.kinds.Word.TheVariants as word
-use Rattle.sb_lex.specs.declared.dispatch.Head.{Head}
-use Rattle.sb_lex.specs.declared.dispatch.Head.TheVariants as head
+use Rattle.sb_lex.specs.declared.first_byte.Head.{Head}
+use Rattle.sb_lex.specs.declared.first_byte.Head.TheVariants as head
+use Rattle.sb_lex.specs.Kinds.{numbers_end}
 use Rattle.sb_lex.specs.Bytes.{exclamation, quote, hash, dollar, open_parenthesis, close_parenthesis, asterisk, comma, minus, point, slash, semicolon, equals, capital_e, is_letter, is_word_byte, is_hex, is_filling, is_sign, is_white, is_apostrophe}
 
 -- a kind and a length, or none
-abbrev pub Found : Type 0
-Found = Option (Kind × ℕ)
+abbrev pub Scanned : Type 0
+Scanned = Option (Kind × ℕ)
 
 -- the same kind, and so many bytes more
-abbrev pub longer : ℕ → Found → Found
+abbrev pub longer : ℕ → Scanned → Scanned
 longer n None = None
 longer n (Some x) = Some (x.0, n + x.1)
 
@@ -57,36 +58,36 @@ abbrev pub head_of : ℕ → Head
 head_of = first_head heads
 
 -- one of the two words
-abbrev pub scan_words : List ℕ → Found
+abbrev pub scan_words : List ℕ → Scanned
 scan_words rest =
     if starts_with nat_eq rest (codes "ISO-10303-21") then Some (kind.Word word.First, 12)
     else if starts_with nat_eq rest (codes "END-ISO-10303-21") then Some (kind.Word word.Last, 16)
     else None
 
 -- the word that was found, or a keyword so long
-abbrev pub or_keyword : ℕ → Found → Found
+abbrev pub or_keyword : ℕ → Scanned → Scanned
 or_keyword n None = Some (kind.Keyword, n)
 or_keyword n (Some x) = Some x
 
 -- a letter is at the front
-unfoldable pub scan_letters : List ℕ → Found
+unfoldable pub scan_letters : List ℕ → Scanned
 scan_letters rest =
     let n = prefix_len is_word_byte rest in
     if slice_index rest n == minus then or_keyword n (scan_words rest) else Some (kind.Keyword, n)
 
 -- a `!` is at the front
-unfoldable pub scan_exclamation : List ℕ → Found
+unfoldable pub scan_exclamation : List ℕ → Scanned
 scan_exclamation rest =
     if is_letter (slice_index rest 1) then Some
     (kind.Keyword, 1 + prefix_len is_word_byte (drop 1 rest))
     else None
 
 -- a `#` is at the front
-unfoldable pub scan_name : List ℕ → Found
+unfoldable pub scan_name : List ℕ → Scanned
 scan_name rest =
     let n = prefix_len is_ascii_digit (drop 1 rest) in
     let number = digits_value 10 (take n (drop 1 rest)) in
-    if nat_lt 0 number && nat_lt number (2 ^ 32) then Some (kind.Name number, 1 + n) else None
+    if nat_lt 0 number && nat_lt number numbers_end then Some (kind.Name number, 1 + n) else None
 
 -- an optional sign
 abbrev pub sign_len : List ℕ → ℕ
@@ -105,8 +106,8 @@ fraction_len rest =
     let n = prefix_len is_ascii_digit rest in n + exponent_len (drop n rest)
 
 -- an integer or a real without a sign
-unfoldable pub scan_number : List ℕ → Found
-scan_number rest =
+unfoldable pub scan_unsigned : List ℕ → Scanned
+scan_unsigned rest =
     let n = prefix_len is_ascii_digit rest in
     if n == 0 then None
     else if slice_index rest n == point then Some
@@ -122,29 +123,29 @@ string_len (b ∷ c ∷ bs) =
     else after 1 (string_len (c ∷ bs))
 
 -- a string, where its end was found
-abbrev pub as_string : Option ℕ → Found
+abbrev pub as_string : Option ℕ → Scanned
 as_string None = None
 as_string (Some n) = Some (kind.Str, 1 + n)
 
 -- a `.` is at the front
-unfoldable pub scan_enumeration : List ℕ → Found
+unfoldable pub scan_enumeration : List ℕ → Scanned
 scan_enumeration rest =
     let n = prefix_len is_word_byte (drop 1 rest) in
     if is_letter (slice_index rest 1) && slice_index rest (1 + n) == point
     then Some (kind.Enumeration, n + 2) else None
 
 -- a `"` is at the front
-unfoldable pub scan_binary : List ℕ → Found
+unfoldable pub scan_binary : List ℕ → Scanned
 scan_binary rest =
     let n = prefix_len is_hex (drop 1 rest) in
     if is_filling (slice_index rest 1) && slice_index rest (1 + n) == quote
     then Some (kind.Binary, n + 2) else None
 
 -- the token at the front, by its first byte
-abbrev pub scan_at : Head → List ℕ → Found
+abbrev pub scan_at : Head → List ℕ → Scanned
 scan_at head.Letter rest = scan_letters rest
-scan_at head.Digit rest = scan_number rest
-scan_at head.Sign rest = longer 1 (scan_number (drop 1 rest))
+scan_at head.Digit rest = scan_unsigned rest
+scan_at head.Sign rest = longer 1 (scan_unsigned (drop 1 rest))
 scan_at head.Exclamation rest = scan_exclamation rest
 scan_at head.Hash rest = scan_name rest
 scan_at head.Apostrophe rest = as_string (string_len (drop 1 rest))
@@ -154,7 +155,7 @@ scan_at (head.Mark m) rest = Some (kind.Mark m, 1)
 scan_at head.Other rest = None
 
 -- the token at the front
-abbrev pub scan : List ℕ → Found
+abbrev pub scan : List ℕ → Scanned
 scan rest = scan_at (head_of (slice_index rest 0)) rest
 
 -- how many bytes stand before the next `*/`

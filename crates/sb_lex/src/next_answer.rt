@@ -1,15 +1,15 @@
 // The answer to a call for the next token, as a value.
 ghost use Rattle.std.specs.Prelude.{◌≤◌, length};
-ghost use Rattle.sb_lex.specs.Tokens.{Answers, Lies};
+ghost use Rattle.sb_lex.specs.Tokens.{IsTokenAnswer, Lies};
 
-use crate::dispatch::token_at;
+use crate::blanks::blank_len;
+use crate::first_byte::token_at;
 use crate::kinds::{BadToken, Token};
-use crate::spaces::blank_len;
 
 #[inline]
 pub(crate) fn answer_from(bytes: &[u8], place: usize) -> Result<Option<Token>, BadToken>
     requires { place ≤ length bytes.now }
-    ensures answer { Answers (record { input = bytes.now; place = place }) result }
+    ensures answer { IsTokenAnswer (record { input = bytes.now; place = place }) result }
     ensures lies { Lies (record { input = bytes.now; place = place }) result }
 {
     let start = place + blank_len(&bytes[place..]);

@@ -1,7 +1,7 @@
 // White space and comments.
 ghost use Rattle.std.specs.Prelude.{◌≡◌, ◌≤◌, ◌+◌, length, take, drop, IfSome};
 ghost use Rattle.sb_lex.specs.Kinds.{Blank};
-ghost use Rattle.sb_lex.specs.Steps as spec;
+ghost use Rattle.sb_lex.specs.Scanning as spec;
 
 use crate::classes::{byte_at, is_white};
 
@@ -35,7 +35,7 @@ fn piece_len(rest: &[u8]) -> usize
 }
 
 #[inline]
-#[tactic(auto, unfolding(crate::specs::Steps::comment_len))]
+#[tactic(auto, unfolding(crate::specs::Scanning::comment_len))]
 fn comment_len(rest: &[u8]) -> usize
     ensures len { result ≡ spec.comment_len rest.now }
     ensures within { result ≤ length rest.now }

@@ -1,5 +1,5 @@
-use crate::answers::answer_from;
 use crate::kinds::{BadToken, Token};
+use crate::next_answer::answer_from;
 use std::marker::Model;
 
 /// Reads the tokens of an input, one after another. It takes no memory.
@@ -23,7 +23,7 @@ impl<'a> Model for Lexer<'a> {
 impl<'a> Lexer<'a> {
     ghost use Rattle.std.specs.Prelude.{◌≡◌, ◌≤◌, ◌↔◌, ℕ, length};
     ghost use Rattle.sb_lex.specs.declared.kinds.Token.{Token};
-    ghost use Rattle.sb_lex.specs.Tokens.{Answers, IsNext, IsEnd, IsBadFrom, Lies, moved};
+    ghost use Rattle.sb_lex.specs.Tokens.{IsTokenAnswer, IsNext, IsEnd, IsBadFrom, Lies, moved};
 
     /// A reader that stands at the first byte.
     pub fn new(bytes: &'a [u8]) -> Lexer<'a>
@@ -52,7 +52,7 @@ impl<'a> Lexer<'a> {
     ///
     /// Source: ISO 10303-21, with this project's leniencies, which `specs/Kinds.antt` states.
     pub fn next(&mut self) -> Result<Option<Token>, BadToken>
-        ensures answer { Answers self.old result }
+        ensures answer { IsTokenAnswer self.old result }
         ensures token { (t : Token) → (result ≡ Ok (Some t))
             ↔ IsNext self.old.input self.old.place t }
         ensures none { (result ≡ Ok None) ↔ IsEnd self.old.input self.old.place }

@@ -2,7 +2,8 @@ use Rattle.std.proofs.Common.{◌≡◌, ◌+◌, ◌*◌, ℕ, true, min, get_o
 use Rattle.std.specs.Char.{is_ascii_digit, digit_value}
 use Rattle.std.proofs.lemmas.List.Sums.{prefix_len-drop_yes}
 use Rattle.std.proofs.lemmas.Int.Digits.{digits_value_more}
-use Rattle.sb_lex.proofs.names.number.Goals as goal
+use Rattle.sb_lex.specs.Kinds.{numbers_end}
+use Rattle.sb_lex.proofs.names.leading_digits.Goals as goal
 
 -- a number that no longer grows is the number held back at the end
 held_back : (number digit limit : ℕ) → min (min number limit * 10 + digit) limit ≡ min
@@ -25,7 +26,7 @@ digits-preserved c =
       );
       value =
           c.grown-number.ensures
-          ∙ ap (λ n. min (n * 10 + digit_value (get_or bytes len 0)) 4294967296)
-          c.digits.invariant.value ∙ held_back _ _ 4294967296 ∙ ap (λ n. min n 4294967296)
+          ∙ ap (λ n. min (n * 10 + digit_value (get_or bytes len 0)) numbers_end)
+          c.digits.invariant.value ∙ held_back _ _ numbers_end ∙ ap (λ n. min n numbers_end)
           (sym (digits_value_more 10 bytes len (omega arith)));
     }

@@ -1,8 +1,8 @@
 use Rattle.std.proofs.Common.{◌∙◌, ap, arith, length-drop}
 use Rattle.std.proofs.lemmas.List.{take_rest}
-use Rattle.sb_lex.specs.Steps.{piece_len}
+use Rattle.sb_lex.specs.Scanning.{piece_len}
 use Rattle.sb_lex.proofs.GapsAgree.{blank_more}
-use Rattle.sb_lex.proofs.spaces.blank_len.Goals as goal
+use Rattle.sb_lex.proofs.blanks.blank_len.Goals as goal
 
 pub pieces-preserved : goal.pieces-preserved
 pieces-preserved c =

@@ -1,6 +1,6 @@
 use Rattle.std.proofs.Common.{◌≤◌, ◌-◌, length, take}
 use Rattle.sb_lex.specs.Kinds.{Blank}
-use Rattle.sb_lex.proofs.spaces.blank_len.Given as goal
+use Rattle.sb_lex.proofs.blanks.blank_len.Given as goal
 
 abbrev pub invariant-pieces : goal.invariant-pieces
 invariant-pieces l = record {

@@ -1,11 +1,11 @@
 // The token at the front, by its first byte.
 ghost use Rattle.std.specs.Prelude.{◌≡◌, ◌<◌, ◌≤◌, ◌≢◌, length, slice_index, IfSome};
-ghost use Rattle.sb_lex.specs.Steps as spec;
+ghost use Rattle.sb_lex.specs.Scanning as spec;
 
 use crate::classes::byte_at;
 use crate::kinds::{Kind, Mark};
 use crate::names::{exclamation, letters, name};
-use crate::numbers::number;
+use crate::numbers::unsigned;
 use crate::quoted::{binary, enumeration, string_len};
 
 /// What a token may be that begins with a byte.
@@ -56,7 +56,7 @@ pub(crate) fn token_at(rest: &[u8]) -> Option<(Kind, usize)>
 {
     match head_of(rest[0]) {
         Head::Letter => letters(rest),
-        Head::Digit => number(rest),
+        Head::Digit => unsigned(rest),
         Head::Sign => signed(rest),
         Head::Exclamation => exclamation(rest),
         Head::Hash => name(rest),
@@ -73,7 +73,7 @@ fn signed(rest: &[u8]) -> Option<(Kind, usize)>
     ensures found { result ≡ spec.scan_at Head.Sign rest.now }
     ensures within { IfSome result (λ x. x.1 ≤ length rest.now) }
 {
-    match number(&rest[1..]) {
+    match unsigned(&rest[1..]) {
         Some((kind, len)) => Some((kind, 1 + len)),
         None => None,
     }

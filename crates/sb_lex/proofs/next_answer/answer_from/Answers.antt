@@ -1,13 +1,13 @@
 use Rattle.std.proofs.Common.{◌≡◌, ◌+◌, ◌-◌, Ok, Err, Some, None, length, take, drop, sym, ap, ◌∙◌, subst, eqb}
 use Rattle.std.proofs.lemmas.Bool.{cond-false, ne_eqb}
 use Rattle.std.proofs.lemmas.List.{take_rest}
-use Rattle.sb_lex.specs.Tokens.{Answers}
-use Rattle.sb_lex.specs.Steps.{scan}
+use Rattle.sb_lex.specs.Tokens.{IsTokenAnswer}
+use Rattle.sb_lex.specs.Scanning.{scan}
 use Rattle.sb_lex.proofs.OneAnswer.{Stop, answer_holds}
 use Rattle.sb_lex.proofs.OneListOfTokens.{Gap, stop_from_gap}
 use Rattle.sb_lex.proofs.TokensHaveBytes.{next_lies}
-use Rattle.sb_lex.proofs.answers.answer_from.Goals as goal
-use Rattle.sb_lex.proofs.answers.answer_from.Goals.{After-token_at}
+use Rattle.sb_lex.proofs.next_answer.answer_from.Goals as goal
+use Rattle.sb_lex.proofs.next_answer.answer_from.Goals.{After-token_at}
 
 -- the gap that was passed over, in the bytes that were left
 stop_behind : (c : After-token_at) → Stop c.args.bytes.now c.args.place
@@ -46,6 +46,6 @@ returns-in-None-clause-answer c =
     let place = c.args.place + c.blank_len.result in
     let holds = answer_holds c.args.bytes.now c.args.place place None (stop_behind at)
     (sym (found at) ∙ c.in-None.is) in
-    subst (Answers (record { input = c.args.bytes.now; place = c.args.place }))
+    subst (IsTokenAnswer (record { input = c.args.bytes.now; place = c.args.place }))
     (cond-false (eqb place (length c.args.bytes.now)) (Ok None) (Err (record { 0 = place }))
     (ne_eqb place (length c.args.bytes.now) c.if-start-bytes.false)) holds
