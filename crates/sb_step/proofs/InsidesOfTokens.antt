@@ -1,6 +1,7 @@
 -- What the inside of a string, an enumeration or a binary says is what its token says.
 use Rattle.std.proofs.Common.{◌≡◌, ℕ, ◌≤◌, List, [], ◌∷◌, ◌++◌, length, refl, sym, ap, ◌∙◌, subst, length-append, arith}
 use Rattle.std.specs.Prelude.{codes, slice_range}
+use Rattle.sb_lex.specs.Bytes as byte
 use Rattle.sb_lex.specs.declared.kinds.Token.{Token}
 use Rattle.sb_lex.specs.declared.kinds.Kind.TheVariants as kind
 use Rattle.theory_bytes.specs.Sets.{Text, ◌⋅◌, Repeated}
@@ -36,16 +37,16 @@ enclosed q P text t =
     }
 
 module _ (input : List ℕ) (t : Token) (token : IsToken input t) where
-  pub string_is : t.kind ≡ kind.Str → IsEnclosed 39 (Repeated StringPiece) (text_of input t)
-  string_is is = enclosed 39 (Repeated StringPiece) (text_of input t)
+  pub string_is : t.kind ≡ kind.Str → IsEnclosed byte.apostrophe (Repeated StringPiece) (text_of input t)
+  string_is is = enclosed byte.apostrophe (Repeated StringPiece) (text_of input t)
       (subst (λ k. IsOf k (text_of input t)) is token.candidate.of_kind)
 
-  pub enumeration_is : t.kind ≡ kind.Enumeration → IsEnclosed 46 Letters (text_of input t)
-  enumeration_is is = enclosed 46 Letters (text_of input t)
+  pub enumeration_is : t.kind ≡ kind.Enumeration → IsEnclosed byte.point Letters (text_of input t)
+  enumeration_is is = enclosed byte.point Letters (text_of input t)
       (subst (λ k. IsOf k (text_of input t)) is token.candidate.of_kind)
 
-  pub binary_is : t.kind ≡ kind.Binary → IsEnclosed 34 HexDigits (text_of input t)
-  binary_is is = enclosed 34 HexDigits (text_of input t)
+  pub binary_is : t.kind ≡ kind.Binary → IsEnclosed byte.quote HexDigits (text_of input t)
+  binary_is is = enclosed byte.quote HexDigits (text_of input t)
       (subst (λ k. IsOf k (text_of input t)) is token.candidate.of_kind)
 
   -- the inside of a string is some text with its apostrophes doubled

@@ -6,7 +6,7 @@ use Rattle.sb_step.specs.declared.file.Record.{Record}
 use Rattle.sb_step.specs.Faults.{FilesAreUnique, FaultsAreUnique, NoFileHasAFault}
 use Rattle.sb_step.specs.Numbers.{AreApart, IsLeastTwice}
 use Rattle.sb_step.specs.Indexed.{Indexed}
-use Rattle.sb_step.specs.Answers.{IsAnswer, IsInTime}
+use Rattle.sb_step.specs.IndexAnswers.{IsAnswer, IsInTime}
 
 -- no number is the least of those used twice where none is used twice
 apart_or_doubled : (n : ℕ) (instances : List (ℕ × Record)) → AreApart instances

@@ -9,7 +9,7 @@ use Rattle.sb_lex.specs.Tokens.{AreTokens, EachInputHasTokens, TokensAreUnique}
 use Rattle.sb_step.specs.Lexemes.{Lexeme, lexeme_at, lexemes}
 use Rattle.sb_step.specs.Grammar.{File, IsText}
 use Rattle.sb_step.specs.Faults.{IsFile, BeginsText, place_of, GoesOn, IsFaultAt, EachIsFileOrFault, FilesAreUnique, FaultsAreUnique, NoFileHasAFault}
-use Rattle.sb_step.specs.Steps.{State, Turn, step, start, end_of, file_of, Ran, and_ran, run}
+use Rattle.sb_step.specs.Turns.{State, Turn, next_turn, start, end_of, file_of, Ran, and_ran, run}
 use Rattle.sb_step.proofs.TextsEnd.{text_ends, ends_text, begun_runs, runs_begin}
 
 -- runs, one lexeme further
@@ -17,53 +17,53 @@ use Rattle.sb_step.proofs.TextsEnd.{text_ends, ends_text, begun_runs, runs_begin
 -- a run, and one lexeme more
 abbrev pub ran_then : Ran → Option Turn → Option Ran
 ran_then r None = None
-ran_then r (Some t) = Some (record { state = t.state; founds = r.founds ++ t.found ∷ [] })
+ran_then r (Some t) = Some (record { state = t.state; events = r.events ++ t.event ∷ [] })
 
-abbrev pub then_step : Option Ran → Lexeme → Option Ran
-then_step None x = None
-then_step (Some r) x = ran_then r (step r.state x)
+abbrev pub then_turn : Option Ran → Lexeme → Option Ran
+then_turn None x = None
+then_turn (Some r) x = ran_then r (next_turn r.state x)
 
-one_step : (s : State) (x : Lexeme) (found : Option Turn)
-    → option_and_then (λ t. and_ran t.found (Some (record { state = t.state; founds = [] }))) found
-    ≡ ran_then (record { state = s; founds = [] }) found
-one_step s x None = refl
-one_step s x (Some t) = refl
+one_turn : (s : State) (x : Lexeme) (found : Option Turn)
+    → option_and_then (λ t. and_ran t.event (Some (record { state = t.state; events = [] }))) found
+    ≡ ran_then (record { state = s; events = [] }) found
+one_turn s x None = refl
+one_turn s x (Some t) = refl
 
-and_then_step : (t : Turn) (found : Option Ran) (x : Lexeme)
-    → and_ran t.found (then_step found x) ≡ then_step (and_ran t.found found) x
-and_then_step t None x = refl
-and_then_step t (Some r) x = and_ran_then (step r.state x)
+and_then_turn : (t : Turn) (found : Option Ran) (x : Lexeme)
+    → and_ran t.event (then_turn found x) ≡ then_turn (and_ran t.event found) x
+and_then_turn t None x = refl
+and_then_turn t (Some r) x = and_ran_then (next_turn r.state x)
   where
-    and_ran_then : (found : Option Turn) → and_ran t.found (ran_then r found)
-        ≡ ran_then (record { state = r.state; founds = t.found ∷ r.founds }) found
+    and_ran_then : (found : Option Turn) → and_ran t.event (ran_then r found)
+        ≡ ran_then (record { state = r.state; events = t.event ∷ r.events }) found
     and_ran_then None = refl
     and_ran_then (Some u) = refl
 
 pub run-more : (ts : List Lexeme) (s : State) (x : Lexeme) → run (ts ++ x ∷ []) s
-    ≡ then_step (run ts s) x
-run-more [] s x = one_step s x (step s x)
-run-more (t ∷ ts) s x = by (λ u. run-more ts u x) (step s t)
+    ≡ then_turn (run ts s) x
+run-more [] s x = one_turn s x (next_turn s x)
+run-more (t ∷ ts) s x = by (λ u. run-more ts u x) (next_turn s t)
   where
-    by : ((u : State) → run (ts ++ x ∷ []) u ≡ then_step (run ts u) x) → (found : Option Turn)
-        → option_and_then (λ u. and_ran u.found (run (ts ++ x ∷ []) u.state)) found
-        ≡ then_step (option_and_then (λ u. and_ran u.found (run ts u.state)) found) x
+    by : ((u : State) → run (ts ++ x ∷ []) u ≡ then_turn (run ts u) x) → (found : Option Turn)
+        → option_and_then (λ u. and_ran u.event (run (ts ++ x ∷ []) u.state)) found
+        ≡ then_turn (option_and_then (λ u. and_ran u.event (run ts u.state)) found) x
     by later None = refl
-    by later (Some u) = ap (and_ran u.found) (later u.state) ∙ and_then_step u (run ts u.state) x
+    by later (Some u) = ap (and_ran u.event) (later u.state) ∙ and_then_turn u (run ts u.state) x
 
 -- where the machine stops, no text goes on
 pub stops : (ts : List Lexeme) (ran : Ran) (x : Lexeme) → run ts start ≡ Some ran
-    → step ran.state x ≡ None → BeginsText (ts ++ x ∷ []) → ⊥
+    → next_turn ran.state x ≡ None → BeginsText (ts ++ x ∷ []) → ⊥
 stops ts ran x is none begins =
     let r = begun_runs (ts ++ x ∷ []) begins in
-    none-some r.0 (sym (run-more ts start x ∙ ap (λ o. then_step o x) is
+    none-some r.0 (sym (run-more ts start x ∙ ap (λ o. then_turn o x) is
     ∙ ap (ran_then ran) none) ∙ r.1)
 
 -- where it goes on, some text does
 pub goes_on : (ts : List Lexeme) (ran : Ran) (x : Lexeme) (turn : Turn) → run ts start ≡ Some ran
-    → step ran.state x ≡ Some turn → run (ts ++ x ∷ []) start
-    ≡ Some (record { state = turn.state; founds = ran.founds ++ turn.found ∷ [] })
+    → next_turn ran.state x ≡ Some turn → run (ts ++ x ∷ []) start
+    ≡ Some (record { state = turn.state; events = ran.events ++ turn.event ∷ [] })
 goes_on ts ran x turn is on =
-    run-more ts start x ∙ ap (λ o. then_step o x) is ∙ ap (ran_then ran) on
+    run-more ts start x ∙ ap (λ o. then_turn o x) is ∙ ap (ran_then ran) on
 
 -- where it has not come to its end, no text has ended
 pub no_end : (ts : List Lexeme) (ran : Ran) → run ts start ≡ Some ran → end_of ran.state ≡ None
@@ -114,7 +114,7 @@ decide input before [] None ran are is = at_end (end_of ran.state) refl
       },
     )
     at_end (Some k) ends = inl (
-      file_of ran.founds k,
+      file_of ran.events k,
       record {
         tokens = before;
         are = subst (λ ts. AreTokens input ts None) (append-nil before) are;
@@ -124,10 +124,10 @@ decide input before [] None ran are is = at_end (end_of ran.state) refl
 decide input before (t ∷ after) bad ran are is =
     at_token (λ r reads. decide input (before ++ t ∷ []) after bad r
     (subst (λ ts. AreTokens input ts bad) (sym (append_assoc before (t ∷ []) after)) are) reads)
-    (step ran.state (lexeme_at input t)) refl
+    (next_turn ran.state (lexeme_at input t)) refl
   where
     at_token : ((r : Ran) → run (lexemes input (before ++ t ∷ [])) start ≡ Some r
-        → FileOrFault input) → (found : Option Turn) → step ran.state (lexeme_at input t) ≡ found
+        → FileOrFault input) → (found : Option Turn) → next_turn ran.state (lexeme_at input t) ≡ found
         → FileOrFault input
     at_token further None none = inr (
       t.start,
@@ -142,7 +142,7 @@ decide input before (t ∷ after) bad ran are is =
       },
     )
     at_token further (Some turn) on =
-        further (record { state = turn.state; founds = ran.founds ++ turn.found ∷ [] })
+        further (record { state = turn.state; events = ran.events ++ turn.event ∷ [] })
         (ap (λ l. run l start) (lexemes-more input before t)
         ∙ goes_on (lexemes input before) ran (lexeme_at input t) turn is on)
 
@@ -150,7 +150,7 @@ decide input before (t ∷ after) bad ran are is =
 pub each_is_file_or_fault : EachInputHasTokens → EachIsFileOrFault
 each_is_file_or_fault has_tokens input =
     let h = has_tokens input in
-    decide input [] h.0 h.1 (record { state = start; founds = [] }) h.2 refl
+    decide input [] h.0 h.1 (record { state = start; events = [] }) h.2 refl
 
 -- there is one
 
@@ -164,7 +164,7 @@ files_are_unique one_list input file other is also =
     let ran : e.ran ≡ o.ran = same_Some e.ran o.ran (sym e.is ∙ o.is) in
     let place : e.place ≡ o.place =
     same_Some e.place o.place (sym e.ends ∙ ap (λ r. end_of r.state) ran ∙ o.ends) in
-    e.whole ∙ ap₂ (λ r k. file_of r.founds k) ran place ∙ sym o.whole
+    e.whole ∙ ap₂ (λ r k. file_of r.events k) ran place ∙ sym o.whole
 
 -- one list ends where another goes on
 pub record GoesFurther (front back longer : List Token) : Type 0 where

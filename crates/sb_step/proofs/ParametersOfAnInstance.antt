@@ -16,8 +16,8 @@ use Rattle.sb_step.specs.Grammar.{File, ParameterList}
 use Rattle.sb_step.specs.Faults.{IsFile}
 use Rattle.sb_step.specs.Indexed.{Indexed}
 use Rattle.sb_step.specs.Parameters.{AreParameters, SaysSimple, HoldsParameters, HoldsByForm, HasParameters, ParametersAreUnique}
-use Rattle.sb_step.specs.Reads.{HasNext, ReadsToken, Stands, Awaits, Reads, InList, AreInList, behind}
-use Rattle.sb_step.specs.Held.{IsParamsAnswer, HasMemory, reader_at, AwaitsByForm, SaysByForm, Gives}
+use Rattle.sb_step.specs.Readers.{HasNext, ReadsToken, AreAhead, Awaits, CarriesOver, InList, AreInList, behind}
+use Rattle.sb_step.specs.ParamsAnswers.{IsParamsAnswer, HasMemory, reader_at, AwaitsByForm, SaysByForm, Gives}
 use Rattle.sb_step.proofs.ListsByLexeme.{ListOn, list_on}
 use Rattle.sb_step.proofs.ParametersAreRead.{passes, first_has_next}
 use Rattle.sb_step.proofs.ParametersByToken.{said_behind}
@@ -27,57 +27,57 @@ use Rattle.sb_step.proofs.RecordsStand.{SimpleStands, instance_stands, reads_on,
 -- a list is read from its parenthesis on
 
 pub list_has_first : (a : Reading) → Awaits ParameterList a → HasNext a
-list_has_first a w = by_first w.xs (list_on w.is) w.stands
+list_has_first a w = by_first w.xs (list_on w.is) w.ahead
   where
-    by_first : (xs : List Lexeme) → ListOn w.rest xs → Stands a xs → HasNext a
-    by_first [] on stands = absurd on
-    by_first (x ∷ xs) on stands = first_has_next a x xs stands
+    by_first : (xs : List Lexeme) → ListOn w.rest xs → AreAhead a xs → HasNext a
+    by_first [] on ahead = absurd on
+    by_first (x ∷ xs) on ahead = first_has_next a x xs ahead
 
 module _ (a b : Reading) (t : Token) (read : ReadsToken a b t) where
   pub behind_parenthesis : Awaits ParameterList a → Awaits InList b
-  behind_parenthesis w = by_first w.xs (list_on w.is) w.stands
+  behind_parenthesis w = by_first w.xs (list_on w.is) w.ahead
     where
-      by_first : (xs : List Lexeme) → ListOn w.rest xs → Stands a xs → Awaits InList b
-      by_first [] on stands = absurd on
-      by_first (x ∷ xs) on stands = record {
+      by_first : (xs : List Lexeme) → ListOn w.rest xs → AreAhead a xs → Awaits InList b
+      by_first [] on ahead = absurd on
+      by_first (x ∷ xs) on ahead = record {
         xs = xs;
         rest = w.rest;
-        stands = (passes a b t read x xs stands).stands;
+        ahead = (passes a b t read x xs ahead).ahead;
         is = on.1;
       }
 
-  pub list_said : (c : Reading) (ps : List Param) → Reads InList (AreInList ps) b c
-      → (xs rest : List Lexeme) → Stands a xs → ParameterList xs rest → AreParameters ps xs rest
-  list_said c ps reads xs rest stands l = by_first xs (list_on l) stands
+  pub list_said : (c : Reading) (ps : List Param) → CarriesOver InList (AreInList ps) b c
+      → (xs rest : List Lexeme) → AreAhead a xs → ParameterList xs rest → AreParameters ps xs rest
+  list_said c ps reads xs rest ahead l = by_first xs (list_on l) ahead
     where
-      by_first : (xs : List Lexeme) → ListOn rest xs → Stands a xs → AreParameters ps xs rest
-      by_first [] on stands = absurd on
-      by_first (x ∷ xs) on stands =
-          let p = passes a b t read x xs stands in
-          said_behind x ps xs rest on.0 (reads.leads xs rest p.stands on.1).0
+      by_first : (xs : List Lexeme) → ListOn rest xs → AreAhead a xs → AreParameters ps xs rest
+      by_first [] on ahead = absurd on
+      by_first (x ∷ xs) on ahead =
+          let p = passes a b t read x xs ahead in
+          said_behind x ps xs rest on.0 (reads.leads xs rest p.ahead on.1).0
 
 -- the lexemes of the tokens from a place on are those that a reader stands before there
-pub stands_before : (input : List ℕ) (from : ℕ) (tokens : List Token)
-    → AreTokensFrom input from tokens None → Stands (reader_at input from) (lexemes input tokens)
-stands_before input from [] are = are
-stands_before input from (t ∷ tokens) are =
-    (are.0, refl, stands_before input t.end tokens are.1)
+pub tokens_ahead : (input : List ℕ) (from : ℕ) (tokens : List Token)
+    → AreTokensFrom input from tokens None → AreAhead (reader_at input from) (lexemes input tokens)
+tokens_ahead input from [] are = are
+tokens_ahead input from (t ∷ tokens) are =
+    (are.0, refl, tokens_ahead input t.end tokens are.1)
 
 -- the tokens of the lexemes that a reader stands before are those from its place on
 abbrev tokens_of : List Lexeme → List Token
 tokens_of xs = map (λ x. x.token) xs
 
-are_tokens : (at : Reading) (xs : List Lexeme) → Stands at xs
+are_tokens : (at : Reading) (xs : List Lexeme) → AreAhead at xs
     → AreTokensFrom at.input at.place (tokens_of xs) None × (xs ≡ lexemes at.input (tokens_of xs))
-are_tokens at [] stands = (stands, refl)
-are_tokens at (x ∷ xs) stands =
-    let later = are_tokens (behind at.input x.token) xs stands.2 in
-    ((stands.0, later.0), (λ i. stands.1 i ∷ later.1 i))
+are_tokens at [] ahead = (ahead, refl)
+are_tokens at (x ∷ xs) ahead =
+    let later = are_tokens (behind at.input x.token) xs ahead.2 in
+    ((ahead.0, later.0), (λ i. ahead.1 i ∷ later.1 i))
 
 -- and there are no others
-stands_once : TokensBehindAPlaceAreUnique → (at : Reading) (xs ys : List Lexeme) → Stands at xs
-    → Stands at ys → xs ≡ ys
-stands_once one_list at xs ys a b =
+ahead_once : TokensBehindAPlaceAreUnique → (at : Reading) (xs ys : List Lexeme) → AreAhead at xs
+    → AreAhead at ys → xs ≡ ys
+ahead_once one_list at xs ys a b =
     let one = are_tokens at xs a in
     let other = are_tokens at ys b in
     let same = one_list at.input at.place (tokens_of xs) (tokens_of ys) None None one.0 other.0 in
@@ -119,7 +119,7 @@ module _ (input : List ℕ) (f : File) (is : IsFile input f) (test : ℕ → Boo
         awaits = record {
           xs = lexemes input (s.inside ++ s.semicolon ∷ s.after);
           rest = lexemes input (s.semicolon ∷ s.after);
-          stands = stands_before input end (s.inside ++ s.semicolon ∷ s.after) o.are;
+          ahead = tokens_ahead input end (s.inside ++ s.semicolon ∷ s.after) o.are;
           is = s.list;
         };
       }
@@ -137,7 +137,7 @@ module _ (input : List ℕ) (f : File) (is : IsFile input f) (test : ℕ → Boo
       holds_said input r s ps
       (says (lexemes input (s.inside ++ s.semicolon ∷ s.after))
       (lexemes input (s.semicolon ∷ s.after))
-      (stands_before input end (s.inside ++ s.semicolon ∷ s.after) o.are) s.list)
+      (tokens_ahead input end (s.inside ++ s.semicolon ∷ s.after) o.are) s.list)
   holds_by ps form.Complex complex says = says
 
   -- and what it says is what the instance holds
@@ -153,7 +153,7 @@ record ListBehind (input : List ℕ) (r : Record) (ps : List Param) : Type 0 whe
   is_end : r.form ≡ form.Simple end
   xs : List Lexeme
   rest : List Lexeme
-  stands : Stands (reader_at input end) xs
+  ahead : AreAhead (reader_at input end) xs
   says : AreParameters ps xs rest
 
 list_behind : (input : List ℕ) (r : Record) (ps : List Param) → HoldsParameters input r ps
@@ -170,7 +170,7 @@ list_behind input r ps h = by_from h.from h.are h.says
           is_end = says.first.0.form;
           xs = lexemes input from;
           rest = says.second.middle;
-          stands = stands_before input keyword.end from b.2;
+          ahead = tokens_ahead input keyword.end from b.2;
           says = subst (λ l. AreParameters ps l says.second.middle) says.first.1
               says.second.first;
         }
@@ -182,8 +182,8 @@ holds_once one_list input r ps qs h k =
     let b = list_behind input r qs k in
     let forms : form.Simple a.end ≡ form.Simple b.end = sym a.is_end ∙ b.is_end in
     let ends : a.end ≡ b.end = cc in
-    let same = stands_once one_list (reader_at input b.end) a.xs b.xs
-    (subst (λ k. Stands (reader_at input k) a.xs) ends a.stands) b.stands in
+    let same = ahead_once one_list (reader_at input b.end) a.xs b.xs
+    (subst (λ k. AreAhead (reader_at input k) a.xs) ends a.ahead) b.ahead in
     (parameters_are_unique ps qs b.xs a.rest b.rest
     (subst (λ l. AreParameters ps l a.rest) same a.says) b.says).0
 
@@ -202,17 +202,17 @@ has_once one_list indexed n ps qs h k =
 
 -- the answer
 
-pub held_answers : (indexed : Indexed) (is : IsFile indexed.input indexed.file) (n : ℕ)
+pub params_answered : (indexed : Indexed) (is : IsFile indexed.input indexed.file) (n : ℕ)
     (r : Record) (found : lookup (nat_eq n) indexed.file.instances ≡ Some r)
     (answer : Result (List Param) ParamsError) → Gives (SaysByForm indexed.input r.form) answer
     → IsParamsAnswer indexed n answer
-held_answers indexed is n r found (Ok ps) gives = record {
+params_answered indexed is n r found (Ok ps) gives = record {
   record_of = r;
   found = found;
   holds = instance_holds indexed.input indexed.file is (nat_eq n) r found ps gives;
 }
-held_answers indexed is n r found (Err (params_error.Missing m)) gives = absurd gives
-held_answers indexed is n r found (Err params_error.NoMemory) gives = tt
+params_answered indexed is n r found (Err (params_error.Missing m)) gives = absurd gives
+params_answered indexed is n r found (Err params_error.NoMemory) gives = tt
 
 pub parameters_pinned : ParametersAreUnique → (indexed : Indexed) (n : ℕ) (answer : Result (List Param) ParamsError)
     → IsParamsAnswer indexed n answer → (ps : List Param) → HasMemory answer

@@ -5,14 +5,14 @@ use Rattle.sb_lex.specs.declared.kinds.BadToken.{BadToken}
 use Rattle.sb_lex.specs.Tokens.{IsNext, IsEnd, IsBadFrom, AreTokensFrom, AreTokens, TokensFollowEachPlace}
 use Rattle.sb_step.specs.declared.error.StepError.{StepError}
 use Rattle.sb_step.specs.declared.error.StepError.TheVariants as step_error
-use Rattle.sb_step.specs.declared.steps.Found.{Found}
+use Rattle.sb_step.specs.declared.states.Event.{Event}
 use Rattle.sb_step.specs.declared.collected.Collected.{Collected}
 use Rattle.sb_step.specs.Lexemes.{lexeme_at, lexemes}
 use Rattle.sb_step.specs.Faults.{IsFile, IsFaultAt}
 use Rattle.sb_step.specs.Numbers.{numbers_of, AreApart, IsGreatest}
-use Rattle.sb_step.specs.Answers.{IsAnswer}
-use Rattle.sb_step.specs.Steps.{State, step, start, end_of, file_of, instances_of, Ran, run}
-use Rattle.sb_step.specs.Kept.{IsDoubled, NumbersAreKept}
+use Rattle.sb_step.specs.IndexAnswers.{IsAnswer}
+use Rattle.sb_step.specs.Turns.{State, next_turn, start, end_of, file_of, instances_of, Ran, run}
+use Rattle.sb_step.specs.StoredInstances.{IsDoubled, NumbersAreStored}
 use Rattle.sb_step.specs.Collects.{AreCollected}
 use Rattle.sb_step.specs.Progress.{TokensTo, Progress, Accepted, Accepts, by_doubled, finished}
 use Rattle.sb_step.proofs.TextsEnd.{ends_text, runs_begin}
@@ -40,7 +40,7 @@ to_more input from to (u ∷ before) t so_far next =
 pub nothing_read : (input : List ℕ) (c : Collected) → AreCollected [] c → Progress input 0 start c
 nothing_read input c empty = record {
   before = [];
-  founds = [];
+  events = [];
   tokens = refl;
   reads = refl;
   collected = empty;
@@ -52,21 +52,21 @@ pub one_more : (input : List ℕ) (place : ℕ) (t : Token) (s u : State) (c d :
     → Accepted s u (lexeme_at input t) c d → Progress input t.end u d
 one_more input place t s u c d p next a = record {
   before = p.before ++ t ∷ [];
-  founds = p.founds ++ a.found ∷ [];
+  events = p.events ++ a.event ∷ [];
   tokens = to_more input 0 place p.before t p.tokens next;
   reads = ap (λ l. run l start) (lexemes-more input p.before t)
-      ∙ goes_on (lexemes input p.before) (record { state = s; founds = p.founds })
-      (lexeme_at input t) (record { state = u; found = a.found }) p.reads a.steps;
-  collected = a.collects p.founds p.collected;
+      ∙ goes_on (lexemes input p.before) (record { state = s; events = p.events })
+      (lexeme_at input t) (record { state = u; event = a.event }) p.reads a.turns;
+  collected = a.collects p.events p.collected;
 }
 
 -- a token was not
 pub fault_at_token : TokensFollowEachPlace → (input : List ℕ) (place : ℕ) (t : Token) (s : State) (c : Collected)
-    → Progress input place s c → IsNext input place t → step s (lexeme_at input t) ≡ None
+    → Progress input place s c → IsNext input place t → next_turn s (lexeme_at input t) ≡ None
     → IsFaultAt input t.start
 fault_at_token follow input place t s c p next none =
     let l = follow input t.end next.token.candidate.within in
-    let ran : Ran = record { state = s; founds = p.founds } in
+    let ran : Ran = record { state = s; events = p.events } in
     record {
       before = p.before;
       after = t ∷ l.0;
@@ -86,15 +86,15 @@ fault_at_bad input place bad s c p is = record {
   bad = Some (record { 0 = bad });
   are = to_all input 0 place p.before [] (Some (record { 0 = bad })) p.tokens is;
   at = refl;
-  begins = runs_begin (lexemes input p.before) (record { state = s; founds = p.founds }) p.reads;
+  begins = runs_begin (lexemes input p.before) (record { state = s; events = p.events }) p.reads;
   refused = λ goes. goes;
 }
 
 -- the end of the input
 
 -- the file of what was found, whose instances are in the map only if their numbers are apart
-kept_answers : (input : List ℕ) (c : Collected) (founds : List Found) (k : ℕ) (doubled : Option ℕ)
-    → c.instances.doubled ≡ doubled → AreCollected founds c → IsFile input (file_of founds k)
+stored_answers : (input : List ℕ) (c : Collected) (events : List Event) (k : ℕ) (doubled : Option ℕ)
+    → c.instances.doubled ≡ doubled → AreCollected events c → IsFile input (file_of events k)
     → IsAnswer input (by_doubled doubled (record {
       input = input;
       file = record {
@@ -103,13 +103,13 @@ kept_answers : (input : List ℕ) (c : Collected) (founds : List Found) (k : ℕ
         data_end = k;
       };
     }))
-kept_answers input c founds k (Some n) was are is = record {
-  file = file_of founds k;
+stored_answers input c events k (Some n) was are is = record {
+  file = file_of events k;
   is = is;
-  least = subst (λ d. IsDoubled d (instances_of founds)) was are.instances.doubled;
+  least = subst (λ d. IsDoubled d (instances_of events)) was are.instances.doubled;
 }
-kept_answers input c founds k None was are is =
-    let apart = subst (λ d. IsDoubled d (instances_of founds)) was are.instances.doubled in
+stored_answers input c events k None was are is =
+    let apart = subst (λ d. IsDoubled d (instances_of events)) was are.instances.doubled in
     let entries = are.instances.entries was in
     record {
       input_is = refl;
@@ -131,21 +131,21 @@ end_answers input place s c None none p ends = record {
   bad = None;
   are = to_all input 0 place p.before [] None p.tokens ends;
   at = refl;
-  begins = runs_begin (lexemes input p.before) (record { state = s; founds = p.founds }) p.reads;
-  refused = no_end (lexemes input p.before) (record { state = s; founds = p.founds }) p.reads none;
+  begins = runs_begin (lexemes input p.before) (record { state = s; events = p.events }) p.reads;
+  refused = no_end (lexemes input p.before) (record { state = s; events = p.events }) p.reads none;
 }
 end_answers input place s c (Some k) ended p ends =
-    kept_answers input c p.founds k c.instances.doubled refl p.collected (record {
+    stored_answers input c p.events k c.instances.doubled refl p.collected (record {
       tokens = p.before;
       are = subst (λ ts. AreTokens input ts None) (append-nil p.before)
           (to_all input 0 place p.before [] None p.tokens ends);
-      text = ends_text (lexemes input p.before) (record { state = s; founds = p.founds }) k
+      text = ends_text (lexemes input p.before) (record { state = s; events = p.events }) k
           p.reads ended;
     })
 
 -- the numbers are those of the map, as long as none was used twice
 pub numbers_at_end : (input : List ℕ) (place : ℕ) (s : State) (c : Collected)
-    → Progress input place s c → NumbersAreKept c.instances
+    → Progress input place s c → NumbersAreStored c.instances
 numbers_at_end input place s c p =
     let kept = p.collected.instances in
     record {

@@ -14,7 +14,7 @@ use Rattle.sb_step.specs.Grammar.{File, IsSimple, IsRecord, IsInstance, BeginsSi
 use Rattle.sb_step.specs.Faults.{IsFile}
 use Rattle.sb_step.specs.Spans.{RecordLies}
 use Rattle.sb_step.proofs.KindsSay.{choice}
-use Rattle.sb_step.proofs.BehindRules.{Passes, Parts, one_leaves, simple_leaves, instance_leaves, each_gives, parts_of}
+use Rattle.sb_step.proofs.BehindRules.{HoldsOfTails, Parts, one_leaves, simple_leaves, instance_leaves, each_gives, parts_of}
 
 -- the lexeme's token lies in an input so long
 pub record LexemeLies (size : ℕ) (x : Lexeme) : Type 0 where
@@ -25,7 +25,7 @@ abbrev pub AllLie : ℕ → List Lexeme → Type 0
 AllLie size xs = AllByRecursion (LexemeLies size) xs
 
 module _ (size : ℕ) where
-  tail_lies : Passes (AllLie size)
+  tail_lies : HoldsOfTails (AllLie size)
   tail_lies x xs lie = lie.1
 
   -- the keyword of an instance's record lies there

@@ -14,7 +14,7 @@ use Rattle.sb_step.specs.Grammar.{File, ParameterList, IsSimple, IsRecord, IsIns
 use Rattle.sb_step.specs.Faults.{IsFile}
 use Rattle.sb_step.proofs.KindsSay.{choice}
 use Rattle.sb_step.proofs.OnlyOnePasses.{IsAmong}
-use Rattle.sb_step.proofs.BehindRules.{Passes, one_leaves, list_leaves, simple_leaves, instance_leaves, item_stands, parts_of}
+use Rattle.sb_step.proofs.BehindRules.{HoldsOfTails, one_leaves, list_leaves, simple_leaves, instance_leaves, item_place, parts_of}
 
 -- the lexemes are those of the tokens from some token on
 pub record IsTail (input : List ℕ) (tokens : List Token) (xs : List Lexeme) : Type 0 where
@@ -65,7 +65,7 @@ has_first : (input : List ℕ) (tokens : List Token) (x : Lexeme) (xs : List Lex
     → IsTail input tokens (x ∷ xs) → HasFirst input tokens x xs
 has_first input tokens x xs t = first_of_tail input tokens x xs t.before t.from t.joined t.are
 
-tail_passes : (input : List ℕ) (tokens : List Token) → Passes (IsTail input tokens)
+tail_passes : (input : List ℕ) (tokens : List Token) → HoldsOfTails (IsTail input tokens)
 tail_passes input tokens x xs t =
     let f = has_first input tokens x xs t in
     record {
@@ -130,7 +130,7 @@ entity_stands input f is front back r header =
     let tail = tail_passes input is.tokens in
     let p = parts_of Holds tail f (lexemes input is.tokens) is.text.sections
     (all_stand input is.tokens) in
-    let s = item_stands Holds tail IsSimple (simple_leaves Holds tail) front back r p.header_at
+    let s = item_place Holds tail IsSimple (simple_leaves Holds tail) front back r p.header_at
     p.header_rest
     (subst (λ rs. Each IsSimple rs p.header_at p.header_rest) header p.header)
     p.header_holds in
@@ -182,7 +182,7 @@ instance_stands input f is test r found end simple =
     let p = parts_of Holds tail f (lexemes input is.tokens) is.text.sections
     (all_stand input is.tokens) in
     let a = found_among test f.instances r found in
-    let s = item_stands Holds tail IsInstance (instance_leaves Holds tail) a.1.front a.1.back
+    let s = item_place Holds tail IsInstance (instance_leaves Holds tail) a.1.front a.1.back
     (a.0, r) p.instances_at p.instances_rest
     (subst (λ each. Each IsInstance each p.instances_at p.instances_rest) a.1.joined p.instances)
     p.instances_hold in

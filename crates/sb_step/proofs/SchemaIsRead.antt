@@ -5,6 +5,7 @@ use Rattle.std.specs.List.{filter}
 use Rattle.std.proofs.lemmas.Bool.{false≢true, and_parts, and_from}
 use Rattle.theory_bytes.proofs.InsidesAreBetween.{slice_inside}
 use Rattle.std.proofs.lemmas.Option.{same_Some, none-some}
+use Rattle.sb_lex.specs.Bytes as byte
 use Rattle.sb_lex.specs.declared.kinds.Kind.{Kind}
 use Rattle.sb_lex.specs.declared.kinds.Kind.TheVariants as kind
 use Rattle.sb_lex.specs.declared.kinds.Mark.TheVariants as mark
@@ -18,7 +19,7 @@ use Rattle.sb_step.specs.Rules.{One, ◌⋅◌}
 use Rattle.sb_step.specs.Grammar.{File}
 use Rattle.sb_step.specs.Indexed.{Indexed}
 use Rattle.sb_step.specs.Schema.{is_schema, IsString, OneString, HasOneString, IsSchema, HasNoSchema}
-use Rattle.sb_step.specs.SchemaSteps.{only_of, first_of, behind_first, opens, closes, both_open, both_close, inside_of, inside, text_in}
+use Rattle.sb_step.specs.SchemaReading.{only_of, first_of, behind_first, opens, closes, both_open, both_close, inside_of, inside, text_in}
 use Rattle.sb_step.specs.Faults.{IsFile}
 use Rattle.sb_step.proofs.OnlyOnePasses.{passes_among, only_of-says}
 use Rattle.sb_step.proofs.KindsSay.{open_says, close_says, choice}
@@ -37,7 +38,7 @@ string_says input t kind.Str text c is read =
     s.joined ∙ ap (λ l. l ++ s.back) s.first
     ∙ ap (λ l. codes "'" ++ l) (s.second.joined ∙ ap (λ l. mid ++ l) s.second.second) in
     let same : mid ≡ text =
-    sym (slice_inside input t.start t.end 39 39 mid c.ordered c.within whole)
+    sym (slice_inside input t.start t.end byte.apostrophe byte.apostrophe mid c.ordered c.within whole)
     ∙ same_Some (slice_range input (t.start + 1) (t.end - 1)) text read in
     record {
       string = is;
@@ -49,7 +50,7 @@ said_string : (input : List ℕ) (t : Token) (text : List ℕ) → IsCandidate i
     → IsString text (lexeme_at input t) → inside input (Some t) ≡ Some text
 said_string input t text c is =
     ap (λ k. inside_of k t.start t.end input) is.string
-    ∙ ap Some (slice_inside input t.start t.end 39 39 text c.ordered c.within is.spelled)
+    ∙ ap Some (slice_inside input t.start t.end byte.apostrophe byte.apostrophe text c.ordered c.within is.spelled)
 
 -- one token of the list
 

@@ -1,9 +1,9 @@
 // A whole text, token by token.
 ghost use Rattle.std.specs.Prelude.{◌≡◌, ◌↔◌, ℕ, [], Ok, Err};
-ghost use Rattle.sb_step.specs.Answers.{IsAnswer, IsInTime, IsIndexed, HasDoubled};
+ghost use Rattle.sb_step.specs.IndexAnswers.{IsAnswer, IsInTime, IsIndexed, HasDoubled};
 ghost use Rattle.sb_step.specs.Faults.{IsFaultAt};
 ghost use Rattle.sb_step.specs.Indexed.{Indexed};
-ghost use Rattle.sb_step.specs.Kept.{NumbersAreKept};
+ghost use Rattle.sb_step.specs.StoredInstances.{NumbersAreStored};
 ghost use Rattle.sb_step.specs.Collects.{AreCollected};
 ghost use Rattle.sb_step.specs.Machines.{state_of};
 ghost use Rattle.sb_step.specs.Progress as spec;
@@ -87,7 +87,7 @@ fn accept(
         (record { token = token; text = text.now }) collected.old collected.new result }
 {
     match machine.advance(token, text) {
-        Some(found) => match collected.add(found) {
+        Some(event) => match collected.add(event) {
             Ok(()) => Ok(()),
             Err(_) => Err(StepError::NoMemory),
         },
@@ -101,7 +101,7 @@ fn finish<'a>(
     collected: Collected,
 ) -> Result<StepFile<'a>, StepError>
     requires answer { IsAnswer bytes.now (spec.finished bytes.now end collected) }
-    requires numbers { NumbersAreKept collected.instances }
+    requires numbers { NumbersAreStored collected.instances }
     ensures { IsAnswer bytes.now result }
 {
     let Collected { header, instances } = collected;

@@ -3,7 +3,7 @@ ghost use Rattle.std.specs.Prelude.{◌≡◌, ◌↔◌, ℕ, nat_eq, List, Ok,
 ghost use Rattle.std.specs.Map.{lookup};
 ghost use Rattle.sb_step.specs.declared.param.Param.{Param};
 ghost use Rattle.sb_step.specs.Parameters.{HasParameters};
-ghost use Rattle.sb_step.specs.Held.{IsParamsAnswer, HasMemory, AwaitsByForm, SaysByForm, AwaitsList, ListSays, Gives};
+ghost use Rattle.sb_step.specs.ParamsAnswers.{IsParamsAnswer, HasMemory, AwaitsByForm, SaysByForm, AwaitsList, ListSays, Gives};
 
 use crate::error::ParamsError;
 use crate::file::Form;

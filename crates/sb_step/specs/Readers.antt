@@ -14,11 +14,11 @@ abbrev pub behind : List ℕ → Token → Reading
 behind input t = record { input = input; place = t.end }
 
 -- the reader stands before these lexemes, behind which its input ends
-abbrev pub Stands : Reading → List Lexeme → Type 0
-Stands at [] = IsEnd at.input at.place
-Stands at (x ∷ xs) =
+abbrev pub AreAhead : Reading → List Lexeme → Type 0
+AreAhead at [] = IsEnd at.input at.place
+AreAhead at (x ∷ xs) =
     IsNext at.input at.place x.token × (x ≡ lexeme_at at.input x.token)
-    × Stands (behind at.input x.token) xs
+    × AreAhead (behind at.input x.token) xs
 
 -- there is a token to be read
 abbrev pub HasNext : Reading → Type 0
@@ -35,7 +35,7 @@ pub record ReadsToken (old new : Reading) (t : Token) : Type 0 where
 pub record Awaits (P : Rule) (at : Reading) : Type 0 where
   pub xs : List Lexeme
   pub rest : List Lexeme
-  pub stands : Stands at xs
+  pub ahead : AreAhead at xs
   pub is : P xs rest
 
 -- it has moved on in its input
@@ -45,9 +45,9 @@ pub record Onward (old new : Reading) : Type 0 where
 
 -- where it stood before what the first rule describes, the second describes that too, and it stands
 -- behind it now
-pub record Reads (P Q : Rule) (old new : Reading) : Type 0 where
+pub record CarriesOver (P Q : Rule) (old new : Reading) : Type 0 where
   pub onward : Onward old new
-  pub leads : (xs rest : List Lexeme) → Stands old xs → P xs rest → Q xs rest × Stands new rest
+  pub leads : (xs rest : List Lexeme) → AreAhead old xs → P xs rest → Q xs rest × AreAhead new rest
 
 -- the rule, where this lexeme was read already
 abbrev pub Behind : Lexeme → Rule → Rule
@@ -65,7 +65,7 @@ AreInList (p ∷ ps) xs rest = Joined (IsParameter p) (AreFurther ps) xs rest
 -- behind a parameter of a list, the token was read with which its list goes on or ends
 pub record NextItem (x : Lexeme) (new : Reading) (xs rest : List Lexeme) : Type 0 where
   pub ys : List Lexeme
-  pub stands : Stands new ys
+  pub ahead : AreAhead new ys
   pub in_list : InList (x ∷ ys) rest
   pub says : (ps : List Param) → AreInList ps (x ∷ ys) rest → AreFurther ps xs rest
 
@@ -74,5 +74,5 @@ pub record ReadsItem (old new : Reading) (t : Token) : Type 0 where
   pub further : old.place < new.place
   pub within : new.place ≤ length old.input
   pub token : IsToken old.input t
-  pub leads : (xs rest : List Lexeme) → Stands old xs → MoreParameters xs rest
+  pub leads : (xs rest : List Lexeme) → AreAhead old xs → MoreParameters xs rest
       → NextItem (lexeme_at old.input t) new xs rest

@@ -7,9 +7,9 @@ use Rattle.std.proofs.lemmas.Option.{none-some}
 use Rattle.indexmap.specs.IndexMap.{get}
 use Rattle.sb_step.specs.declared.file.Record.{Record}
 use Rattle.sb_step.specs.declared.instances.Instances.{Instances}
-use Rattle.sb_step.specs.Steps.{least_of}
+use Rattle.sb_step.specs.Turns.{least_of}
 use Rattle.sb_step.specs.Numbers.{numbers_of, uses, IsUsedTwice, IsLeastTwice, IsGreatest}
-use Rattle.sb_step.specs.Kept.{IsDoubled, AreKept}
+use Rattle.sb_step.specs.StoredInstances.{IsDoubled, AreStored}
 use Rattle.sb_step.proofs.OneUseMore.{here_more, there_more, never_less, greatest_more}
 
 module _ (instances : List (ℕ × Record)) (n : ℕ) (r : Record) where
@@ -74,7 +74,7 @@ module _ (instances : List (ℕ × Record)) (n : ℕ) (r : Record) where
       (cases_Bool (ltb d n))
 
   -- which numbers are there
-  known_more : (old new : Instances) → AreKept instances old
+  known_more : (old new : Instances) → AreStored instances old
       → is_some (get nat_eq new.records n) ≡ true
       → ((q : ℕ) → eqb n q ≡ false → get nat_eq new.records q ≡ get nat_eq old.records q)
       → (q : ℕ) → is_some (get nat_eq new.records q) ≡ nat_lt 0
@@ -88,13 +88,13 @@ module _ (instances : List (ℕ × Record)) (n : ℕ) (r : Record) where
       ∙ ap (λ k. nat_lt 0 k) (sym (there_more q instances (n, r) other)))
       (cases_Bool (eqb n q))
 
-  none_used : (old : Instances) → AreKept instances old → get nat_eq old.records n ≡ None
+  none_used : (old : Instances) → AreStored instances old → get nat_eq old.records n ≡ None
       → uses n instances ≡ 0
   none_used old kept none =
       let low = ltb-false 0 (uses n instances) (sym (kept.known n) ∙ ap is_some none) in
       omega (arith, low)
 
-  one_used : (old : Instances) (x : Record) → AreKept instances old
+  one_used : (old : Instances) (x : Record) → AreStored instances old
       → get nat_eq old.records n ≡ Some x → 0 < uses n instances
   one_used old x kept there =
       ltb-true 0 (uses n instances) (sym (kept.known n) ∙ ap is_some there)
@@ -110,13 +110,13 @@ module _ (instances : List (ℕ × Record)) (n : ℕ) (r : Record) where
       ap (λ l. l ++ n ∷ []) are ∙ sym (map-append (λ i. i.0) instances ((n, r) ∷ []))
 
   -- a first use is kept
-  pub kept_first : (old new : Instances) → AreKept instances old
+  pub stored_first : (old new : Instances) → AreStored instances old
       → get nat_eq old.records n ≡ None → is_some (get nat_eq new.records n) ≡ true
       → ((q : ℕ) → eqb n q ≡ false → get nat_eq new.records q ≡ get nat_eq old.records q)
       → new.records.entries ≡ old.records.entries ++ (n, r) ∷ [] → new.doubled ≡ old.doubled
       → Numbered old new
-      → AreKept (instances ++ (n, r) ∷ []) new
-  kept_first old new kept none there others entries doubled numbered = record {
+      → AreStored (instances ++ (n, r) ∷ []) new
+  stored_first old new kept none there others entries doubled numbered = record {
     numbers = numbered.numbers
         ∙ numbers_more old.numbers.items kept.numbers;
     greatest = subst (λ g. IsGreatest g (instances ++ (n, r) ∷ [])) (sym numbered.greatest)
@@ -129,11 +129,11 @@ module _ (instances : List (ℕ × Record)) (n : ℕ) (r : Record) where
   }
 
   -- a further use is noted
-  pub kept_further : (old new : Instances) (x : Record) → AreKept instances old
+  pub stored_further : (old new : Instances) (x : Record) → AreStored instances old
       → get nat_eq old.records n ≡ Some x → is_some (get nat_eq new.records n) ≡ true
       → ((q : ℕ) → eqb n q ≡ false → get nat_eq new.records q ≡ get nat_eq old.records q)
-      → new.doubled ≡ Some (least_of old.doubled n) → Numbered old new → AreKept (instances ++ (n, r) ∷ []) new
-  kept_further old new x kept found there others doubled numbered = record {
+      → new.doubled ≡ Some (least_of old.doubled n) → Numbered old new → AreStored (instances ++ (n, r) ∷ []) new
+  stored_further old new x kept found there others doubled numbered = record {
     numbers = numbered.numbers
         ∙ numbers_more old.numbers.items kept.numbers;
     greatest = subst (λ g. IsGreatest g (instances ++ (n, r) ∷ [])) (sym numbered.greatest)

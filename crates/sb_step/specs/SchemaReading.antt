@@ -12,8 +12,8 @@ only_of (x ∷ []) = Some x
 only_of _ = None
 
 -- the tokens from the reader on
-abbrev pub StandsBefore : Reading → List Token → Type 0
-StandsBefore at tokens = AreTokensFrom at.input at.place tokens None
+abbrev pub TokensAhead : Reading → List Token → Type 0
+TokensAhead at tokens = AreTokensFrom at.input at.place tokens None
 
 -- the first, if there is one
 abbrev pub first_of : List Token → Option Token

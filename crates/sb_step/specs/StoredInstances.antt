@@ -12,7 +12,7 @@ IsDoubled (Some n) instances = IsLeastTwice n instances
 
 -- The map has each number, and the instances themselves as long as their numbers are apart. The
 -- numbers are those of all instances, and so is the greatest.
-pub record AreKept (instances : List (ℕ × Record)) (kept : Instances) : Type 0 where
+pub record AreStored (instances : List (ℕ × Record)) (kept : Instances) : Type 0 where
   pub numbers : kept.numbers.items ≡ numbers_of instances
   pub greatest : IsGreatest kept.greatest instances
   pub known : (n : ℕ) → is_some (get nat_eq kept.records n) ≡ nat_lt 0 (uses n instances)
@@ -20,6 +20,6 @@ pub record AreKept (instances : List (ℕ × Record)) (kept : Instances) : Type 
   pub entries : kept.doubled ≡ None → kept.records.entries ≡ instances
 
 -- the numbers and the greatest are those of the map, as long as none was used twice
-pub record NumbersAreKept (kept : Instances) : Type 0 where
+pub record NumbersAreStored (kept : Instances) : Type 0 where
   pub numbers : kept.doubled ≡ None → kept.numbers.items ≡ numbers_of kept.records.entries
   pub greatest : kept.doubled ≡ None → IsGreatest kept.greatest kept.records.entries

@@ -18,7 +18,7 @@ pub(crate) struct Part {
 
 /// What is wanted next where no parameter list is open.
 #[derive(Clone, Copy)]
-pub(crate) enum Outside {
+pub(crate) enum Section {
     Begin,
     BeginSemicolon,
     Header,
@@ -47,7 +47,7 @@ pub(crate) enum Outside {
 
 /// Whose parenthesis is open: that of a list, or that of a typed parameter.
 #[derive(Clone, Copy)]
-pub(crate) enum Frame {
+pub(crate) enum Bracket {
     List,
     Typed,
 }
@@ -66,7 +66,7 @@ pub(crate) enum Want {
 
 /// What was found at a token.
 #[derive(Clone, Copy)]
-pub(crate) enum Found {
+pub(crate) enum Event {
     Nothing,
     Entity(Record),
     Instance(u32, Record),
@@ -75,8 +75,8 @@ pub(crate) enum Found {
 /// What follows a token outside of parameter lists.
 #[derive(Clone, Copy)]
 pub(crate) struct Move {
-    pub outside: Outside,
-    /// The token opens a parameter list, behind which `outside` is wanted.
+    pub section: Section,
+    /// The token opens a parameter list, behind which `section` is wanted.
     pub opens: bool,
-    pub found: Found,
+    pub event: Event,
 }

@@ -11,7 +11,7 @@ use Rattle.sb_step.specs.Lexemes.{Lexeme}
 use Rattle.sb_step.specs.Grammar.{ParameterList}
 use Rattle.sb_step.specs.Indexed.{Indexed}
 use Rattle.sb_step.specs.Parameters.{AreParameters, HasParameters}
-use Rattle.sb_step.specs.Reads.{Stands, Awaits}
+use Rattle.sb_step.specs.Readers.{AreAhead, Awaits}
 
 -- the answer is so; want of memory may come at any time
 abbrev pub IsParamsAnswer : Indexed → ℕ → Result (List Param) ParamsError → Type 0
@@ -36,7 +36,7 @@ pub record AwaitsList (input : List ℕ) (place : ℕ) : Type 0 where
 -- what it says
 abbrev pub ListSays : List ℕ → ℕ → List Param → Type 0
 ListSays input place ps =
-    (xs rest : List Lexeme) → Stands (reader_at input place) xs → ParameterList xs rest
+    (xs rest : List Lexeme) → AreAhead (reader_at input place) xs → ParameterList xs rest
     → AreParameters ps xs rest
 
 -- where a record is simple, its list stands behind its keyword

@@ -14,7 +14,7 @@ pub record IsIndexed (input : List ℕ) (indexed : Indexed) : Type 0 where
   pub apart : AreApart indexed.file.instances
 
 -- a file that was indexed, the numbers of its instances in file order, and the greatest
-pub record Keeps (numbers : List ℕ) (greatest : ℕ) (indexed : Indexed) : Type 0 where
+pub record IsStored (numbers : List ℕ) (greatest : ℕ) (indexed : Indexed) : Type 0 where
   pub is : IsIndexed indexed.input indexed
   pub numbers_are : numbers ≡ numbers_of indexed.file.instances
   pub greatest_is : IsGreatest greatest indexed.file.instances
