@@ -129,31 +129,40 @@ module _ (Holds : List Lexeme → Type 0) (tail : HoldsOfTails Holds) where
 
   pub parts_of : (f : File) (xs : List Lexeme) → Sections f xs [] → Holds xs → Parts f
   parts_of f xs s h =
-      let s1 = s.second in
-      let s2 = s1.second in
-      let s3 = s2.second in
-      let s4 = s3.second in
-      let s5 = s4.second in
-      let s6 = s5.second in
-      let s7 = s6.second in
-      let s8 = s7.second in
-      let s9 = s8.second in
-      let h1 = one_leaves _ xs s.middle s.first h in
-      let h2 = one_leaves _ s.middle s1.middle s1.first h1 in
-      let h3 = one_leaves _ s1.middle s2.middle s2.first h2 in
-      let h4 = one_leaves _ s2.middle s3.middle s3.first h3 in
-      let header = entities_each f.header s3.middle s4.middle s4.first in
-      let h5 = each_leaves IsSimple simple_leaves f.header s3.middle s4.middle header h4 in
-      let h6 = one_leaves _ s4.middle s5.middle s5.first h5 in
-      let h7 = one_leaves _ s5.middle s6.middle s6.first h6 in
-      let h8 = one_leaves _ s6.middle s7.middle s7.first h7 in
+      let begin_semicolon = s.second in
+      let header_word = begin_semicolon.second in
+      let header_semicolon = header_word.second in
+      let entities = header_semicolon.second in
+      let header_end = entities.second in
+      let end_semicolon = header_end.second in
+      let data_word = end_semicolon.second in
+      let data_semicolon = data_word.second in
+      let instances = data_semicolon.second in
+      let each_entity = entities_each f.header header_semicolon.middle entities.middle
+      entities.first in
+      let at_begin_semicolon = one_leaves _ xs s.middle s.first h in
+      let at_header_word = one_leaves _ s.middle begin_semicolon.middle begin_semicolon.first
+      at_begin_semicolon in
+      let at_header_semicolon = one_leaves _ begin_semicolon.middle header_word.middle
+      header_word.first at_header_word in
+      let at_entities = one_leaves _ header_word.middle header_semicolon.middle
+      header_semicolon.first at_header_semicolon in
+      let at_header_end = each_leaves IsSimple simple_leaves f.header header_semicolon.middle
+      entities.middle each_entity at_entities in
+      let at_end_semicolon = one_leaves _ entities.middle header_end.middle header_end.first
+      at_header_end in
+      let at_data_word = one_leaves _ header_end.middle end_semicolon.middle end_semicolon.first
+      at_end_semicolon in
+      let at_data_semicolon = one_leaves _ end_semicolon.middle data_word.middle data_word.first
+      at_data_word in
       record {
-        header_at = s3.middle;
-        header_rest = s4.middle;
-        header = header;
-        header_holds = h4;
-        instances_at = s8.middle;
-        instances_rest = s9.middle;
-        instances = s9.first;
-        instances_hold = one_leaves _ s7.middle s8.middle s8.first h8;
+        header_at = header_semicolon.middle;
+        header_rest = entities.middle;
+        header = each_entity;
+        header_holds = at_entities;
+        instances_at = data_semicolon.middle;
+        instances_rest = instances.middle;
+        instances = instances.first;
+        instances_hold = one_leaves _ data_word.middle data_semicolon.middle data_semicolon.first
+            at_data_semicolon;
       }

@@ -110,7 +110,7 @@ module _ (bytes : List ℕ) (x : Lexeme) (keyword : IsKeyword x) (a : Reading)
       by_first [] ahead t = absurd t
       by_first (y ∷ ys) ahead t = (y.token, ahead.0)
 
-  module _ (b : Reading) (t1 : Token) (opens : ReadsToken a b t1) where
+  module _ (b : Reading) (opening : Token) (opens : ReadsToken a b opening) where
     pub first_next : Awaits (Behind x Parameter) a → HasNext b
     first_next w =
         by_first w.xs w.ahead (typed_on_keyword x w.xs w.rest keyword (parameter_on w.is))
@@ -118,20 +118,20 @@ module _ (bytes : List ℕ) (x : Lexeme) (keyword : IsKeyword x) (a : Reading)
         by_first : (xs : List Lexeme) → AreAhead a xs → TypedOn w.rest xs → HasNext b
         by_first [] ahead t = absurd t
         by_first (y ∷ ys) ahead t =
-            let p = passes a b t1 opens y ys ahead in
+            let p = passes a b opening opens y ys ahead in
             parameter_has_next b ys (t.close_mark ∷ w.rest) p.ahead t.inner
 
-    module _ (c : Reading) (t2 : Token) (first : ReadsToken b c t2) where
+    module _ (c : Reading) (start : Token) (first : ReadsToken b c start) where
       b_is : b.input ≡ bytes
-      b_is = input_stays a b t1 opens ∙ input
+      b_is = input_stays a b opening opens ∙ input
 
       at_first : (y : Lexeme) (ys rest : List Lexeme) (close_mark : Lexeme)
           → IsMark mark.Open y → AreAhead b ys → Parameter ys (close_mark ∷ rest)
-          → IsMark mark.Close close_mark → AtInner c (lexeme_at bytes t2) (y ∷ ys) rest
+          → IsMark mark.Close close_mark → AtInner c (lexeme_at bytes start) (y ∷ ys) rest
       at_first y [] rest close_mark o ahead p e = absurd (parameter_on p)
       at_first y (u ∷ us) rest close_mark o ahead p e =
-          let q = passes b c t2 first u us ahead in
-          let same : u ≡ lexeme_at bytes t2 = q.is ∙ ap (λ i. lexeme_at i t2) b_is in
+          let q = passes b c start first u us ahead in
+          let same : u ≡ lexeme_at bytes start = q.is ∙ ap (λ i. lexeme_at i start) b_is in
           record {
             open_mark = y;
             zs = us;
@@ -144,44 +144,44 @@ module _ (bytes : List ℕ) (x : Lexeme) (keyword : IsKeyword x) (a : Reading)
           }
 
       at_inner_by : (xs rest : List Lexeme) → AreAhead a xs → TypedOn rest xs
-          → AtInner c (lexeme_at bytes t2) xs rest
+          → AtInner c (lexeme_at bytes start) xs rest
       at_inner_by [] rest ahead t = absurd t
       at_inner_by (y ∷ ys) rest ahead t =
-          let p = passes a b t1 opens y ys ahead in
+          let p = passes a b opening opens y ys ahead in
           at_first y ys rest t.close_mark t.opens p.ahead t.inner t.closes
 
       at_inner : (xs rest : List Lexeme) → AreAhead a xs → Parameter (x ∷ xs) rest
-          → AtInner c (lexeme_at bytes t2) xs rest
+          → AtInner c (lexeme_at bytes start) xs rest
       at_inner xs rest ahead p =
           at_inner_by xs rest ahead (typed_on_keyword x xs rest keyword (parameter_on p))
 
       pub c_is : c.input ≡ bytes
-      c_is = input_stays b c t2 first ∙ b_is
+      c_is = input_stays b c start first ∙ b_is
 
-      pub first_is : IsToken bytes t2
-      first_is = subst (λ i. IsToken i t2) b_is first.next.token
+      pub first_is : IsToken bytes start
+      first_is = subst (λ i. IsToken i start) b_is first.next.token
 
       pub less_left : 2 * (length bytes - c.place) + 1 < 2 * (length bytes - a.place)
       less_left =
           let within : c.place ≤ length bytes =
-          subst (λ i. c.place ≤ length i) b_is (stays_within b c t2 first) in
-          omega (arith, within, goes_further a b t1 opens, goes_further b c t2 first)
+          subst (λ i. c.place ≤ length i) b_is (stays_within b c start first) in
+          omega (arith, within, goes_further a b opening opens, goes_further b c start first)
 
       pub inner_awaited : Awaits (Behind x Parameter) a
-          → Awaits (Behind (lexeme_at bytes t2) Parameter) c
+          → Awaits (Behind (lexeme_at bytes start) Parameter) c
       inner_awaited w =
           let i = at_inner w.xs w.rest w.ahead w.is in
           record { xs = i.zs; rest = i.close_mark ∷ w.rest; ahead = i.ahead; is = i.inner }
 
-      module _ (d : Reading) (p : Param) (inner : CarriesOver (Behind (lexeme_at bytes t2) Parameter)
-          (Behind (lexeme_at bytes t2) (IsParameter p)) c d) where
+      module _ (d : Reading) (p : Param) (inner : CarriesOver (Behind (lexeme_at bytes start) Parameter)
+          (Behind (lexeme_at bytes start) (IsParameter p)) c d) where
         pub closes_next : Awaits (Behind x Parameter) a → HasNext d
         closes_next w =
             let i = at_inner w.xs w.rest w.ahead w.is in
             let l = inner.leads i.zs (i.close_mark ∷ w.rest) i.ahead i.inner in
             first_has_next d i.close_mark w.rest l.1
 
-        module _ (e : Reading) (t3 : Token) (closes : ReadsToken d e t3) where
+        module _ (e : Reading) (closing : Token) (closes : ReadsToken d e closing) where
           typed_leads : (xs rest : List Lexeme) → AreAhead a xs → Parameter (x ∷ xs) rest
               → IsParameter (param.Typed x.text p) (x ∷ xs) rest × AreAhead e rest
           typed_leads xs rest ahead q =
@@ -189,7 +189,7 @@ module _ (bytes : List ℕ) (x : Lexeme) (keyword : IsKeyword x) (a : Reading)
               let l = inner.leads i.zs (i.close_mark ∷ rest) i.ahead i.inner in (
                 subst (λ ys. IsParameter (param.Typed x.text p) (x ∷ ys) rest) (sym i.are)
                     (typed keyword i.opens l.0 i.closes),
-                (passes d e t3 closes i.close_mark rest l.1).ahead,
+                (passes d e closing closes i.close_mark rest l.1).ahead,
               )
 
           pub reads_typed : (name : List ℕ) (boxed : Param) → name ≡ x.text → boxed ≡ p
@@ -197,13 +197,13 @@ module _ (bytes : List ℕ) (x : Lexeme) (keyword : IsKeyword x) (a : Reading)
           reads_typed name boxed named same = record {
             onward = record {
               input_is =
-                  input_stays d e t3 closes ∙ inner.onward.input_is ∙ c_is ∙ sym input;
+                  input_stays d e closing closes ∙ inner.onward.input_is ∙ c_is ∙ sym input;
               place = omega (
                 arith,
-                goes_further a b t1 opens,
-                goes_further b c t2 first,
+                goes_further a b opening opens,
+                goes_further b c start first,
                 inner.onward.place,
-                goes_further d e t3 closes,
+                goes_further d e closing closes,
               );
             };
             leads = λ xs rest ahead q.

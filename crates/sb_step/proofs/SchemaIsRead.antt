@@ -114,61 +114,61 @@ module _ (input : List ℕ) where
       → text_in input tokens ≡ Some text
       → (rest : List Lexeme) × ListOfOne text (lexemes input tokens) rest
   list_from_text text tokens are read =
-      let t1 = behind_first tokens in
-      let t2 = behind_first t1 in
-      let t3 = behind_first t2 in
-      let t4 = behind_first t3 in
+      let second = behind_first tokens in
+      let string = behind_first second in
+      let closing = behind_first string in
+      let last = behind_first closing in
       ⊎_elim
       (λ passed.
-      let both = and_parts (both_open tokens) (both_close t3) passed.0 in
-      let opened = and_parts (opens (first_of tokens)) (opens (first_of t1)) both.0 in
-      let closed = and_parts (closes (first_of t3)) (closes (first_of t4)) both.1 in (
-        lexemes input (behind_first t4),
+      let both = and_parts (both_open tokens) (both_close closing) passed.0 in
+      let opened = and_parts (opens (first_of tokens)) (opens (first_of second)) both.0 in
+      let closed = and_parts (closes (first_of closing)) (closes (first_of last)) both.1 in (
+        lexemes input (behind_first last),
         record {
-          middle = lexemes input t1;
+          middle = lexemes input second;
           first = opens_one tokens opened.0;
           second = record {
-            middle = lexemes input t2;
-            first = opens_one t1 opened.1;
+            middle = lexemes input string;
+            first = opens_one second opened.1;
             second = record {
-              middle = lexemes input t3;
-              first = string_one text t2 (some_behind t1 (some_behind tokens are)) passed.1;
+              middle = lexemes input closing;
+              first = string_one text string (some_behind second (some_behind tokens are)) passed.1;
               second = record {
-                middle = lexemes input t4;
-                first = closes_one t3 closed.0;
-                second = closes_one t4 closed.1;
+                middle = lexemes input last;
+                first = closes_one closing closed.0;
+                second = closes_one last closed.1;
               };
             };
           };
         },
       ))
       (λ other. absurd (none-some text other.1))
-      (choice (both_open tokens && both_close t3) (inside input (first_of t2)) None text read)
+      (choice (both_open tokens && both_close closing) (inside input (first_of string)) None text read)
 
   text_from_list : (text : List ℕ) (tokens : List Token) (rest : List Lexeme) → AreSome tokens
       → ListOfOne text (lexemes input tokens) rest → text_in input tokens ≡ Some text
   text_from_list text tokens rest are l =
-      let t1 = behind_first tokens in
-      let t2 = behind_first t1 in
-      let t3 = behind_first t2 in
-      let t4 = behind_first t3 in
-      let l1 = l.second in
-      let l2 = l1.second in
-      let l3 = l2.second in
-      let r1 = one_opens tokens l.middle l.first in
-      let r2 = one_opens t1 l1.middle
-      (subst (λ xs. One (IsMark mark.Open) xs l1.middle) r1.1 l1.first) in
-      let r3 = one_string text t2 l2.middle (some_behind t1 (some_behind tokens are))
-      (subst (λ xs. One (IsString text) xs l2.middle) r2.1 l2.first) in
-      let r4 = one_closes t3 l3.middle
-      (subst (λ xs. One (IsMark mark.Close) xs l3.middle) r3.1 l3.first) in
-      let r5 = one_closes t4 rest
-      (subst (λ xs. One (IsMark mark.Close) xs rest) r4.1 l3.second) in
-      let passed : (both_open tokens && both_close t3) ≡ true =
-      and_from (both_open tokens) (both_close t3)
-      (and_from (opens (first_of tokens)) (opens (first_of t1)) r1.0 r2.0)
-      (and_from (closes (first_of t3)) (closes (first_of t4)) r4.0 r5.0) in
-      ap (λ b. cond b (inside input (first_of t2)) None) passed ∙ r3.0
+      let second = behind_first tokens in
+      let string = behind_first second in
+      let closing = behind_first string in
+      let last = behind_first closing in
+      let from_second = l.second in
+      let from_string = from_second.second in
+      let from_closing = from_string.second in
+      let first_opens = one_opens tokens l.middle l.first in
+      let second_opens = one_opens second from_second.middle
+      (subst (λ xs. One (IsMark mark.Open) xs from_second.middle) first_opens.1 from_second.first) in
+      let string_is = one_string text string from_string.middle (some_behind second (some_behind tokens are))
+      (subst (λ xs. One (IsString text) xs from_string.middle) second_opens.1 from_string.first) in
+      let first_closes = one_closes closing from_closing.middle
+      (subst (λ xs. One (IsMark mark.Close) xs from_closing.middle) string_is.1 from_closing.first) in
+      let second_closes = one_closes last rest
+      (subst (λ xs. One (IsMark mark.Close) xs rest) first_closes.1 from_closing.second) in
+      let passed : (both_open tokens && both_close closing) ≡ true =
+      and_from (both_open tokens) (both_close closing)
+      (and_from (opens (first_of tokens)) (opens (first_of second)) first_opens.0 second_opens.0)
+      (and_from (closes (first_of closing)) (closes (first_of last)) first_closes.0 second_closes.0) in
+      ap (λ b. cond b (inside input (first_of string)) None) passed ∙ string_is.0
 
 -- the schema
 
@@ -235,8 +235,8 @@ module _ (indexed : Indexed) (is : IsFile indexed.input indexed.file) (r : Recor
   schema_is_found h =
       let both : h.entity ∷ [] ≡ r ∷ [] = sym h.only ∙ only in
       let same : h.entity ≡ r = cc in
-      let h2 = subst (λ e. HasOneString indexed.input e text) same h.string in
-      stands_as_found h2.before h2.from h2.rest h2.are h2.stands
+      let one = subst (λ e. HasOneString indexed.input e text) same h.string in
+      stands_as_found one.before one.from one.rest one.are one.stands
 
   pub found_exactly : (found ≡ Some text) ↔ IsSchema indexed text
   found_exactly = (found_is_schema, schema_is_found)

@@ -1,12 +1,14 @@
 -- A text has the sections of the grammar exactly where it goes on so from its beginning.
 use Rattle.std.proofs.Common.{ℕ, List, [], ◌∷◌, refl, subst, inl, inr}
+use Rattle.std.specs.Prelude.{codes}
 use Rattle.sb_lex.specs.declared.kinds.Mark.TheVariants as mark
+use Rattle.sb_lex.specs.declared.kinds.Word.TheVariants as word
 use Rattle.sb_step.specs.declared.file.Record.{Record}
 use Rattle.sb_step.specs.declared.states.Section.TheVariants as section
-use Rattle.sb_step.specs.Lexemes.{Lexeme, IsKeyword, IsName, IsMark}
+use Rattle.sb_step.specs.Lexemes.{Lexeme, IsWord, IsThe, IsKeyword, IsName, IsMark}
 use Rattle.sb_step.specs.Rules.{Rule, One, ◌⋅◌, Many, Each, SomeOf}
-use Rattle.sb_step.specs.Grammar.{File, ParameterList, SemicolonAt, BeginsSimple, BeginsComplex, IsSimple, InnerRecord, IsComplex, IsRecord, IsInstance, Sections}
-use Rattle.sb_step.proofs.Continuations.{Rest, Then, After, AtEnd, AtRecordEnd, AtSimple, AtNextRecord, AtFirstRecord, AtComplex, AtBody, AtEquals, AtEndOfData, AtInstances, AtEndOfHeader, AtEntities, AtFirstEntity, Follows}
+use Rattle.sb_step.specs.Grammar.{Semicolon, EndOfData, File, ParameterList, SemicolonAt, BeginsSimple, BeginsComplex, IsSimple, InnerRecord, IsComplex, IsRecord, IsInstance, Sections}
+use Rattle.sb_step.proofs.Continuations.{Rest, Then, After, AtEnd, AtLastWord, AtLastSemicolon, AtData, AtRecordEnd, AtSimple, AtNextRecord, AtFirstRecord, AtComplex, AtBody, AtEquals, AtEndOfData, AtInstances, AtEndOfHeader, AtEntities, AtFirstEntity, Follows}
 
 -- rules and what follows them
 
@@ -39,6 +41,21 @@ join P Q K L (x ∷ xs) on t =
       first = record { middle = xs; first = (t.0, refl); second = a.first };
       second = a.second;
     }
+
+-- one lexeme, a semicolon and a further rule
+split_closed : (P : Lexeme → Type 0) (Q : Rule) (K L : Rest) (xs : List Lexeme)
+    → ((ys : List Lexeme) → After Q K ys → L ys) → After (One P ⋅ Semicolon ⋅ Q) K xs
+    → Then P (Then (IsMark mark.Semicolon) L) xs
+split_closed P Q K L xs on a =
+    split P (Semicolon ⋅ Q) K (Then (IsMark mark.Semicolon) L) xs
+    (λ ys b. split (IsMark mark.Semicolon) Q K L ys on b) a
+
+join_closed : (P : Lexeme → Type 0) (Q : Rule) (K L : Rest) (xs : List Lexeme)
+    → ((ys : List Lexeme) → L ys → After Q K ys) → Then P (Then (IsMark mark.Semicolon) L) xs
+    → After (One P ⋅ Semicolon ⋅ Q) K xs
+join_closed P Q K L xs on t =
+    join P (Semicolon ⋅ Q) K (Then (IsMark mark.Semicolon) L) xs
+    (λ ys b. join (IsMark mark.Semicolon) Q K L ys on b) t
 
 -- two rules
 split_rules : (P Q : Rule) (K L : Rest) (xs : List Lexeme)
@@ -215,34 +232,71 @@ some_entities_from (r ∷ later) K xs t =
     let a = entities_from (r ∷ later) K xs t in
     record { middle = a.middle; first = a.first; second = a.second }
 
-sections_to : (f : File) (xs : List Lexeme) → After (Sections f) AtEnd xs
-    → Follows section.Begin f xs
-sections_to f xs a =
-    split _ _ AtEnd _ xs (λ x1 a1. split _ _ AtEnd _ x1 (λ x2 a2. split _ _ AtEnd _ x2
-    (λ x3 a3. split _ _ AtEnd _ x3
-    (λ x4 a4. some_entities_to f.header (AtEndOfHeader f.instances f.data_end) x4
-    (split_rules (SomeOf IsSimple f.header) _ AtEnd (AtEndOfHeader f.instances f.data_end) x4
-    (λ x5 a5. split _ _ AtEnd _ x5 (λ x6 a6. split _ _ AtEnd _ x6 (λ x7 a7. split _ _ AtEnd _ x7
-    (λ x8 a8. split _ _ AtEnd _ x8
-    (λ x9 a9. instances_to f.instances f.data_end x9
-    (split_rules (Each IsInstance f.instances) _ AtEnd (AtEndOfData f.data_end) x9
-    (λ y1 b1. split _ _ AtEnd _ y1 (λ y2 b2. split _ _ AtEnd _ y2 (λ y3 b3. split _ _ AtEnd _ y3
-    (λ y4 b4. after_one _ AtEnd y4 b4) b3) b2) b1) a9)) a8) a7) a6) a5) a4)) a3) a2) a1) a
+-- the last word and its semicolon
+abbrev LastWord : Rule
+LastWord = One (IsWord word.Last) ⋅ Semicolon
 
-sections_from : (f : File) (xs : List Lexeme) → Follows section.Begin f xs
-    → After (Sections f) AtEnd xs
-sections_from f xs a =
-    join _ _ AtEnd _ xs (λ x1 a1. join _ _ AtEnd _ x1 (λ x2 a2. join _ _ AtEnd _ x2
-    (λ x3 a3. join _ _ AtEnd _ x3
-    (λ x4 a4. join_rules (SomeOf IsSimple f.header) _ AtEnd
-    (AtEndOfHeader f.instances f.data_end) x4
-    (λ x5 a5. join _ _ AtEnd _ x5 (λ x6 a6. join _ _ AtEnd _ x6 (λ x7 a7. join _ _ AtEnd _ x7
-    (λ x8 a8. join _ _ AtEnd _ x8
-    (λ x9 a9. join_rules (Each IsInstance f.instances) _ AtEnd (AtEndOfData f.data_end) x9
-    (λ y1 b1. join _ _ AtEnd _ y1 (λ y2 b2. join _ _ AtEnd _ y2 (λ y3 b3. join _ _ AtEnd _ y3
-    (λ y4 b4. one_after _ AtEnd y4 b4) b3) b2) b1)
-    (instances_from f.instances f.data_end x9 a9)) a8) a7) a6) a5)
-    (some_entities_from f.header (AtEndOfHeader f.instances f.data_end) x4 a4)) a3) a2) a1) a
+-- from the end of the data on
+abbrev DataEnd : ℕ → Rule
+DataEnd k = EndOfData k ⋅ Semicolon ⋅ LastWord
+
+-- from the end of the header on
+abbrev HeaderEnd : List (ℕ × Record) → ℕ → Rule
+HeaderEnd instances k =
+    One (IsThe (codes "ENDSEC")) ⋅ Semicolon
+    ⋅ One (IsThe (codes "DATA")) ⋅ Semicolon ⋅ Each IsInstance instances ⋅ DataEnd k
+
+data_end_to : (k : ℕ) (xs : List Lexeme) → After (DataEnd k) AtEnd xs → AtEndOfData k xs
+data_end_to k xs a =
+    split_closed _ LastWord AtEnd AtLastWord xs
+    (λ ys b. split (IsWord word.Last) Semicolon AtEnd AtLastSemicolon ys
+    (λ zs c. after_one (IsMark mark.Semicolon) AtEnd zs c) b) a
+
+data_end_from : (k : ℕ) (xs : List Lexeme) → AtEndOfData k xs → After (DataEnd k) AtEnd xs
+data_end_from k xs t =
+    join_closed _ LastWord AtEnd AtLastWord xs
+    (λ ys b. join (IsWord word.Last) Semicolon AtEnd AtLastSemicolon ys
+    (λ zs c. one_after (IsMark mark.Semicolon) AtEnd zs c) b) t
+
+module _ (instances : List (ℕ × Record)) (k : ℕ) where
+  header_end_to : (xs : List Lexeme) → After (HeaderEnd instances k) AtEnd xs
+      → AtEndOfHeader instances k xs
+  header_end_to xs a =
+      split_closed (IsThe (codes "ENDSEC")) _ AtEnd (AtData instances k) xs
+      (λ ys b. split_closed (IsThe (codes "DATA")) _ AtEnd (AtInstances instances k) ys
+      (λ zs c. instances_to instances k zs
+      (split_rules (Each IsInstance instances) (DataEnd k) AtEnd (AtEndOfData k) zs
+      (data_end_to k) c)) b) a
+
+  header_end_from : (xs : List Lexeme) → AtEndOfHeader instances k xs
+      → After (HeaderEnd instances k) AtEnd xs
+  header_end_from xs t =
+      join_closed (IsThe (codes "ENDSEC")) _ AtEnd (AtData instances k) xs
+      (λ ys b. join_closed (IsThe (codes "DATA")) _ AtEnd (AtInstances instances k) ys
+      (λ zs c. join_rules (Each IsInstance instances) (DataEnd k) AtEnd (AtEndOfData k) zs
+      (data_end_from k) (instances_from instances k zs c)) b) t
+
+module _ (f : File) where
+  abbrev AtHeaderEnd : Rest
+  AtHeaderEnd = AtEndOfHeader f.instances f.data_end
+
+  sections_to : (xs : List Lexeme) → After (Sections f) AtEnd xs → Follows section.Begin f xs
+  sections_to xs a =
+      split_closed (IsWord word.First) _ AtEnd _ xs
+      (λ ys b. split_closed (IsThe (codes "HEADER")) _ AtEnd (AtFirstEntity f.header AtHeaderEnd)
+      ys
+      (λ zs c. some_entities_to f.header AtHeaderEnd zs
+      (split_rules (SomeOf IsSimple f.header) (HeaderEnd f.instances f.data_end) AtEnd AtHeaderEnd
+      zs (header_end_to f.instances f.data_end) c)) b) a
+
+  sections_from : (xs : List Lexeme) → Follows section.Begin f xs → After (Sections f) AtEnd xs
+  sections_from xs t =
+      join_closed (IsWord word.First) _ AtEnd _ xs
+      (λ ys b. join_closed (IsThe (codes "HEADER")) _ AtEnd (AtFirstEntity f.header AtHeaderEnd)
+      ys
+      (λ zs c. join_rules (SomeOf IsSimple f.header) (HeaderEnd f.instances f.data_end) AtEnd
+      AtHeaderEnd zs (header_end_from f.instances f.data_end)
+      (some_entities_from f.header AtHeaderEnd zs c)) b) t
 
 -- the sections of the grammar are followed from the beginning
 pub follows_sections : (f : File) (xs : List Lexeme) → Sections f xs [] → Follows section.Begin f xs
