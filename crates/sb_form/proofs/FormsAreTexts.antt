@@ -7,8 +7,8 @@ use Rattle.sb_step.specs.Lexemes.{Lexeme}
 use Rattle.sb_step.specs.Grammar.{File, IsText}
 use Rattle.sb_step.specs.Faults.{IsFile}
 use Rattle.sb_step.specs.Numbers.{AreApart}
-use Rattle.sb_step.specs.Turns.{start, end_of, file_of, instances_of, Ran, run}
-use Rattle.sb_step.proofs.TextsEnd.{ends_text}
+use Rattle.sb_step.specs.Index.Turns.{start, end_of, file_of, instances_of, Ran, run}
+use Rattle.sb_step.proofs.Texts.TextsEnd.{ends_text}
 use Rattle.sb_form.specs.FirstForm.{before_place, before_sizes, before_height, behind_height}
 use Rattle.sb_form.specs.FirstForm.{IsFormOf}
 use Rattle.sb_form.specs.AsText.{FormsAreTexts}

@@ -189,13 +189,13 @@ lexeme_from_first input bytes from p ends first =
     λ i. record { token = token_at from p; text = text i }
 
 -- the input from a place on has the tokens of the pieces, and what is white behind them
-pub record Reads (input : List ℕ) (from : ℕ) (ps : List Piece) : Type 0 where
+pub record ReadsPieces (input : List ℕ) (from : ℕ) (ps : List Piece) : Type 0 where
   pub tokens : AreTokensFrom input from (tokens_at from ps) None
   pub texts : lexemes input (tokens_at from ps) ≡ lexemes_at from ps
 
 pub lead_reads : (ps : List Piece) (input bytes rest : List ℕ) (from : ℕ)
     → EndsWith input from bytes → Lead ps bytes rest → prefix_len is_white rest ≡ length rest
-    → Reads input from ps
+    → ReadsPieces input from ps
 lead_reads [] input bytes rest from ends lead white =
     let here = ends.are ∙ lead in
     let all : from + length rest ≡ length input =

@@ -2,8 +2,8 @@
 use Rattle.std.specs.Prelude.{◌≡◌, ℕ, ◌+◌, ◌≤◌, ◌⊎◌, List, [], ◌∷◌, ◌++◌, codes}
 use Rattle.sb_lex.specs.declared.kinds.Mark.TheVariants as mark
 use Rattle.sb_lex.specs.declared.kinds.Word.TheVariants as word
-use Rattle.sb_step.specs.declared.file.Form.TheVariants as form
-use Rattle.sb_step.specs.declared.file.Record.{Record}
+use Rattle.sb_step.specs.declared.step_file.records.Form.TheVariants as form
+use Rattle.sb_step.specs.declared.step_file.records.Record.{Record}
 use Rattle.sb_step.specs.Lexemes.{Lexeme, IsWord, IsKeyword, IsThe, IsName, IsMark, IsValue, opened, closed}
 use Rattle.sb_step.specs.Rules.{Rule, One, ◌⋅◌, Many, Each, SomeOf}
 

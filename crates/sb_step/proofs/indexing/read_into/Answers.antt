@@ -1,10 +1,10 @@
 use Rattle.std.proofs.Common.{◌≡◌, Ok, Err, Some, None, sym, ap, ◌∙◌, subst}
 use Rattle.sb_lex.specs.Tokens.{IsTokenAnswer, IsNext, moved}
 use Rattle.sb_step.specs.IndexAnswers.{IsAnswer}
-use Rattle.sb_step.specs.Turns.{start}
-use Rattle.sb_step.specs.Machines.{state_of}
-use Rattle.sb_step.specs.Progress.{Progress, finished}
-use Rattle.sb_step.proofs.ReadingGoesOn.{nothing_read, one_more, fault_at_bad, answer_at_end, numbers_at_end, error_answers}
+use Rattle.sb_step.specs.Index.Turns.{start}
+use Rattle.sb_step.specs.Index.Machines.{state_of}
+use Rattle.sb_step.specs.Index.Progress.{Progress, finished}
+use Rattle.sb_step.proofs.Collecting.ReadingGoesOn.{nothing_read, one_more, fault_at_bad, answer_at_end, numbers_at_end, error_answers}
 use Rattle.sb_step.proofs.indexing.read_into.Goals as goal
 
 pub tokens-init : goal.tokens-init

@@ -1,4 +1,4 @@
-use Rattle.sb_step.proofs.ParametersOfAnInstance.{parameters_pinned}
+use Rattle.sb_step.proofs.ParameterLists.ParametersOfAnInstance.{parameters_pinned}
 use Rattle.sb_step.proofs.parameters.params.Goals as goal
 
 pub returns-clause-parameters : goal.returns-clause-parameters
