@@ -1,8 +1,6 @@
 -- What is computed at the front of bytes, white space and a token again and again, is read as these
 -- tokens wherever an input ends with these bytes.
-use Rattle.std.proofs.Common.{◌≡◌, ℕ, zero, suc, ◌+◌, ◌-◌, ◌≤◌, Bool, true, false, cond, List, []}
-use Rattle.std.proofs.Common.{◌∷◌, ◌++◌, Option, Some, None, length, take, drop, sym, refl, ap, ap₂}
-use Rattle.std.proofs.Common.{◌∙◌, subst, inl, arith, length-drop, drop-drop, one-add}
+use Rattle.std.proofs.Common.{◌≡◌, ℕ, zero, suc, ◌+◌, ◌-◌, ◌≤◌, Bool, true, false, cond, List, [], ◌∷◌, ◌++◌, Option, Some, None, length, take, drop, sym, refl, ap, ap₂, ◌∙◌, subst, inl, arith, length-drop, drop-drop, one-add}
 use Rattle.std.specs.Prelude.{slice_range}
 use Rattle.std.specs.List.{prefix_len}
 use Rattle.std.proofs.lemmas.List.Sums.{prefix_len-le-length}

@@ -100,7 +100,8 @@ greatest_depth = 64
 
 -- at no place are more parentheses open than may be
 abbrev pub IsShallow : List Lexeme → Type 0
-IsShallow xs = (front back : List Lexeme) → xs ≡ front ++ back → opened front ≤ closed front + greatest_depth
+IsShallow xs = (front back : List Lexeme) → xs ≡ front ++ back
+    → opened front ≤ closed front + greatest_depth
 
 -- a text of the grammar, and the file that it describes
 pub record IsText (xs : List Lexeme) (file : File) : Type 0 where

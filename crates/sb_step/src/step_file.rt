@@ -74,8 +74,8 @@ impl<'a> StepFile<'a> {
         keyword_at(self.bytes, *record)
     }
 
-    /// The schema that the header names, as it stands between its apostrophes: the one string of the
-    /// one FILE_SCHEMA.
+    /// The schema that the header names, as it stands between its apostrophes: the one string of
+    /// the one FILE_SCHEMA.
     ///
     /// - `Some(text)`: exactly where one entity of the header, and no second, is a FILE_SCHEMA, its
     ///   list has one parameter, and this is a list of one string, the text in apostrophes.

@@ -7,9 +7,8 @@ use Rattle.std.proofs.lemmas.Option.{none-some}
 use Rattle.indexmap.specs.IndexMap.{get}
 use Rattle.sb_step.specs.declared.step_file.records.Record.{Record}
 use Rattle.sb_step.specs.declared.indexing.instances.Instances.{Instances}
-use Rattle.sb_step.specs.Index.StoredInstances.{least_of}
+use Rattle.sb_step.specs.Index.StoredInstances.{least_of, IsDoubled, AreStored}
 use Rattle.sb_step.specs.Numbers.{numbers_of, uses, IsUsedTwice, IsLeastTwice, IsGreatest}
-use Rattle.sb_step.specs.Index.StoredInstances.{IsDoubled, AreStored}
 use Rattle.sb_step.proofs.Collecting.OneUseMore.{here_more, there_more, never_less, greatest_more}
 
 module _ (instances : List (ℕ × Record)) (n : ℕ) (r : Record) where
@@ -132,7 +131,8 @@ module _ (instances : List (ℕ × Record)) (n : ℕ) (r : Record) where
   pub stored_further : (old new : Instances) (x : Record) → AreStored instances old
       → get nat_eq old.records n ≡ Some x → is_some (get nat_eq new.records n) ≡ true
       → ((q : ℕ) → eqb n q ≡ false → get nat_eq new.records q ≡ get nat_eq old.records q)
-      → new.doubled ≡ Some (least_of old.doubled n) → Numbered old new → AreStored (instances ++ (n, r) ∷ []) new
+      → new.doubled ≡ Some (least_of old.doubled n) → Numbered old new
+      → AreStored (instances ++ (n, r) ∷ []) new
   stored_further old new x kept found there others doubled numbered = record {
     numbers = numbered.numbers
         ∙ numbers_more old.numbers.items kept.numbers;

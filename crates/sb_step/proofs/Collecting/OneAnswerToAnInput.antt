@@ -21,7 +21,8 @@ least_is_one m n instances one two =
     let above = two.least m one.twice in
     omega (arith, below, above)
 
-module _ (one_file : FilesAreUnique) (one_fault : FaultsAreUnique) (not_both : NoFileHasAFault) where
+module _ (one_file : FilesAreUnique) (one_fault : FaultsAreUnique)
+    (not_both : NoFileHasAFault) where
   -- two answers are one
   pub answers_are_one : (input : List ℕ) (a b : Result Indexed StepError) → IsInTime a → IsInTime b
       → IsAnswer input a → IsAnswer input b → a ≡ b
@@ -55,7 +56,8 @@ module _ (one_file : FilesAreUnique) (one_fault : FaultsAreUnique) (not_both : N
       ap (λ p. Err (step_error.Duplicate p)) (least_is_one n m two.file.instances
       (subst (λ g. IsLeastTwice n g.instances)
       (one_file input one.file two.file one.is two.is) one.least) two.least)
-  answers_are_one input (Err (step_error.Duplicate n)) (Err step_error.NoMemory) early soon one two =
+  answers_are_one input (Err (step_error.Duplicate n))
+  (Err step_error.NoMemory) early soon one two =
       absurd (soon refl)
   answers_are_one input (Err step_error.NoMemory) b early soon one two = absurd (early refl)
 

@@ -61,7 +61,8 @@ one_more input place t s u c d p next a = record {
 }
 
 -- a token was not
-pub fault_at_token : TokensFollowEachPlace → (input : List ℕ) (place : ℕ) (t : Token) (s : State) (c : Collected)
+pub fault_at_token : TokensFollowEachPlace
+    → (input : List ℕ) (place : ℕ) (t : Token) (s : State) (c : Collected)
     → Progress input place s c → IsNext input place t → next_turn s (lexeme_at input t) ≡ None
     → IsFaultAt input t.start
 fault_at_token follow input place t s c p next none =
@@ -161,7 +162,8 @@ pub answer_at_end : (input : List ℕ) (place : ℕ) (s : State) (c : Collected)
 answer_at_end input place s c p ends = end_answers input place s c (end_of s) refl p ends
 
 -- what is answered where a token was not accepted
-pub error_answers : TokensFollowEachPlace → (input : List ℕ) (place : ℕ) (t : Token) (s u : State) (c d : Collected)
+pub error_answers : TokensFollowEachPlace
+    → (input : List ℕ) (place : ℕ) (t : Token) (s u : State) (c d : Collected)
     (error : StepError) → Progress input place s c → IsNext input place t
     → Accepts s u (lexeme_at input t) c d (Err error) → IsAnswer input (Err error)
 error_answers follow input place t s u c d (step_error.Syntax k) p next says =

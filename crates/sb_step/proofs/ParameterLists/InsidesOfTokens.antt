@@ -37,7 +37,8 @@ enclosed q P text t =
     }
 
 module _ (input : List ℕ) (t : Token) (token : IsToken input t) where
-  pub string_is : t.kind ≡ kind.Str → IsEnclosed byte.apostrophe (Repeated StringPiece) (text_of input t)
+  pub string_is : t.kind ≡ kind.Str → IsEnclosed byte.apostrophe (Repeated StringPiece)
+      (text_of input t)
   string_is is = enclosed byte.apostrophe (Repeated StringPiece) (text_of input t)
       (subst (λ k. IsOf k (text_of input t)) is token.candidate.of_kind)
 

@@ -173,7 +173,8 @@ module _ (bytes : List ℕ) (x : Lexeme) (keyword : IsKeyword x) (a : Reading)
           let i = at_inner w.xs w.rest w.ahead w.is in
           record { xs = i.zs; rest = i.close_mark ∷ w.rest; ahead = i.ahead; is = i.inner }
 
-      module _ (d : Reading) (p : Param) (inner : CarriesOver (Behind (lexeme_at bytes start) Parameter)
+      module _ (d : Reading) (p : Param) (inner : CarriesOver (Behind
+          (lexeme_at bytes start) Parameter)
           (Behind (lexeme_at bytes start) (IsParameter p)) c d) where
         pub closes_next : Awaits (Behind x Parameter) a → HasNext d
         closes_next w =
@@ -193,7 +194,8 @@ module _ (bytes : List ℕ) (x : Lexeme) (keyword : IsKeyword x) (a : Reading)
               )
 
           pub reads_typed : (name : List ℕ) (boxed : Param) → name ≡ x.text → boxed ≡ p
-              → CarriesOver (Behind x Parameter) (Behind x (IsParameter (param.Typed name boxed))) a e
+              → CarriesOver (Behind x Parameter) (Behind x (IsParameter
+              (param.Typed name boxed))) a e
           reads_typed name boxed named same = record {
             onward = record {
               input_is =

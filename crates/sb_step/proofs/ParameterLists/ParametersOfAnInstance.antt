@@ -175,7 +175,8 @@ list_behind input r ps h = by_from h.from h.are h.says
               says.second.first;
         }
 
-holds_once : TokensBehindAPlaceAreUnique → (input : List ℕ) (r : Record) (ps qs : List Param) → HoldsParameters input r ps
+holds_once : TokensBehindAPlaceAreUnique → (input : List ℕ) (r : Record) (ps qs : List Param)
+    → HoldsParameters input r ps
     → HoldsParameters input r qs → ps ≡ qs
 holds_once one_list input r ps qs h k =
     let a = list_behind input r ps h in
@@ -187,7 +188,8 @@ holds_once one_list input r ps qs h k =
     (parameters_are_unique ps qs b.xs a.rest b.rest
     (subst (λ l. AreParameters ps l a.rest) same a.says) b.says).0
 
-holds_once_by : TokensBehindAPlaceAreUnique → (f : Form) (input : List ℕ) (r : Record) (ps qs : List Param)
+holds_once_by : TokensBehindAPlaceAreUnique
+    → (f : Form) (input : List ℕ) (r : Record) (ps qs : List Param)
     → HoldsByForm f input r ps → HoldsByForm f input r qs → ps ≡ qs
 holds_once_by one_list (form.Simple end) input r ps qs h k = holds_once one_list input r ps qs h k
 holds_once_by one_list form.Complex input r ps qs h k = h ∙ sym k
@@ -214,7 +216,8 @@ params_answered indexed is n r found (Ok ps) gives = record {
 params_answered indexed is n r found (Err (params_error.Missing m)) gives = absurd gives
 params_answered indexed is n r found (Err params_error.NoMemory) gives = tt
 
-pub parameters_pinned : ParametersAreUnique → (indexed : Indexed) (n : ℕ) (answer : Result (List Param) ParamsError)
+pub parameters_pinned : ParametersAreUnique
+    → (indexed : Indexed) (n : ℕ) (answer : Result (List Param) ParamsError)
     → IsParamsAnswer indexed n answer → (ps : List Param) → HasMemory answer
     → (answer ≡ Ok ps) ↔ HasParameters indexed n ps
 parameters_pinned one_list indexed n (Ok qs) is ps memory = (

@@ -19,7 +19,8 @@ abbrev pub Leaves : (List Lexeme → Type 0) → Rule → Type 0
 Leaves Holds P = (xs rest : List Lexeme) → P xs rest → Holds xs → Holds rest
 
 -- where an item of a list of records stands
-pub record ItemPlace {A : Type 0} (Holds : List Lexeme → Type 0) (P : A → Rule) (a : A) : Type 0 where
+pub record ItemPlace {A : Type 0} (Holds : List Lexeme → Type 0) (P : A
+    → Rule) (a : A) : Type 0 where
   pub at : List Lexeme
   pub rest : List Lexeme
   pub is : P a at rest

@@ -38,7 +38,8 @@ string_says input t kind.Str text c is read =
     s.joined ∙ ap (λ l. l ++ s.back) s.first
     ∙ ap (λ l. codes "'" ++ l) (s.second.joined ∙ ap (λ l. mid ++ l) s.second.second) in
     let same : mid ≡ text =
-    sym (slice_inside input t.start t.end byte.apostrophe byte.apostrophe mid c.ordered c.within whole)
+    sym (slice_inside input t.start t.end byte.apostrophe byte.apostrophe mid c.ordered c.within
+    whole)
     ∙ same_Some (slice_range input (t.start + 1) (t.end - 1)) text read in
     record {
       string = is;
@@ -50,7 +51,8 @@ said_string : (input : List ℕ) (t : Token) (text : List ℕ) → IsCandidate i
     → IsString text (lexeme_at input t) → inside input (Some t) ≡ Some text
 said_string input t text c is =
     ap (λ k. inside_of k t.start t.end input) is.string
-    ∙ ap Some (slice_inside input t.start t.end byte.apostrophe byte.apostrophe text c.ordered c.within is.spelled)
+    ∙ ap Some (slice_inside input t.start t.end byte.apostrophe byte.apostrophe text c.ordered
+    c.within is.spelled)
 
 -- one token of the list
 
@@ -143,7 +145,8 @@ module _ (input : List ℕ) where
         },
       ))
       (λ other. absurd (none-some text other.1))
-      (choice (both_open tokens && both_close closing) (inside input (first_of string)) None text read)
+      (choice (both_open tokens && both_close closing) (inside input
+      (first_of string)) None text read)
 
   text_from_list : (text : List ℕ) (tokens : List Token) (rest : List Lexeme) → AreSome tokens
       → ListOfOne text (lexemes input tokens) rest → text_in input tokens ≡ Some text
@@ -157,17 +160,21 @@ module _ (input : List ℕ) where
       let from_closing = from_string.second in
       let first_opens = one_opens tokens l.middle l.first in
       let second_opens = one_opens second from_second.middle
-      (subst (λ xs. One (IsMark mark.Open) xs from_second.middle) first_opens.1 from_second.first) in
-      let string_is = one_string text string from_string.middle (some_behind second (some_behind tokens are))
+      (subst (λ xs. One (IsMark mark.Open) xs from_second.middle) first_opens.1
+      from_second.first) in
+      let string_is = one_string text string from_string.middle (some_behind second
+      (some_behind tokens are))
       (subst (λ xs. One (IsString text) xs from_string.middle) second_opens.1 from_string.first) in
       let first_closes = one_closes closing from_closing.middle
-      (subst (λ xs. One (IsMark mark.Close) xs from_closing.middle) string_is.1 from_closing.first) in
+      (subst (λ xs. One (IsMark mark.Close) xs from_closing.middle) string_is.1
+      from_closing.first) in
       let second_closes = one_closes last rest
       (subst (λ xs. One (IsMark mark.Close) xs rest) first_closes.1 from_closing.second) in
       let passed : (both_open tokens && both_close closing) ≡ true =
       and_from (both_open tokens) (both_close closing)
       (and_from (opens (first_of tokens)) (opens (first_of second)) first_opens.0 second_opens.0)
-      (and_from (closes (first_of closing)) (closes (first_of last)) first_closes.0 second_closes.0) in
+      (and_from (closes (first_of closing)) (closes
+      (first_of last)) first_closes.0 second_closes.0) in
       ap (λ b. cond b (inside input (first_of string)) None) passed ∙ string_is.0
 
 -- the schema

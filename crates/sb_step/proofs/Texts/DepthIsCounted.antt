@@ -153,7 +153,8 @@ section_counts (section.LastSemicolon k) x turn is =
     (λ t. counts_at 0 0 _ _ (semicolon_says x.token.kind t) refl) is
 section_counts (section.End k) x turn is = absurd (none-some turn is)
 
-one_fits : (complex begins : Bool) → length (cond begins begun plain).brackets ≤ cond complex (greatest_depth - 1) greatest_depth
+one_fits : (complex begins : Bool) → length (cond begins begun plain).brackets ≤ cond complex
+    (greatest_depth - 1) greatest_depth
 one_fits true true = omega arith
 one_fits true false = omega arith
 one_fits false true = omega arith

@@ -293,7 +293,8 @@ next_goes room bracket.Typed fs K x xs c =
     close_goes room bracket.Typed fs K x want.Next xs
     (ap (by_want want.Next room (bracket.Typed ∷ fs)) c.0) c.1
 
-comma_came : (f : Bracket) (fs : List Bracket) (K : Rest) (x : Lexeme) (xs : List Lexeme) (nest : Nest)
+comma_came : (f : Bracket) (fs : List Bracket) (K : Rest) (x : Lexeme) (xs : List Lexeme)
+    (nest : Nest)
     → comma (f ∷ fs) x.token.kind ≡ Some nest → Wanted nest.brackets nest.want K xs
     → Closing (f ∷ fs) K (x ∷ xs)
 comma_came bracket.List fs K x xs nest is goes =

@@ -127,7 +127,8 @@ decide input before (t ∷ after) bad ran are is =
     (next_turn ran.state (lexeme_at input t)) refl
   where
     at_token : ((r : Ran) → run (lexemes input (before ++ t ∷ [])) start ≡ Some r
-        → FileOrFault input) → (found : Option Turn) → next_turn ran.state (lexeme_at input t) ≡ found
+        → FileOrFault input) → (found : Option Turn)
+        → next_turn ran.state (lexeme_at input t) ≡ found
         → FileOrFault input
     at_token further None none = inr (
       t.start,

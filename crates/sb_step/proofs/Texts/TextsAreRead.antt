@@ -41,7 +41,8 @@ shallow_later d e x xs counts shallow front back same =
     shallow (x ∷ front) back (ap (λ l. x ∷ l) same) in
     omega (arith, here, counts, opened-more x front, closed-more x front)
 
-shallow_before : (d e : ℕ) (x : Lexeme) (xs : List Lexeme) → d ≤ greatest_depth → Counts d x.token.kind e
+shallow_before : (d e : ℕ) (x : Lexeme) (xs : List Lexeme) → d ≤ greatest_depth
+    → Counts d x.token.kind e
     → Shallow e xs → Shallow d (x ∷ xs)
 shallow_before d e x xs low counts shallow [] back same = omega arith
 shallow_before d e x xs low counts shallow (y ∷ front) back same =
@@ -132,7 +133,8 @@ room_next o d x (y ∷ ys) shallow keyword opening =
     ))
     (cases_Bool (is_complex o))
 
-room_for : (o : Section) (f : Bracket) (fs : List Bracket) (w : Want) (x : Lexeme) (xs : List Lexeme)
+room_for : (o : Section) (f : Bracket) (fs : List Bracket) (w : Want) (x : Lexeme)
+    (xs : List Lexeme)
     → Shallow (depth (state_at o (f ∷ fs) w)) (x ∷ xs)
     → RoomFor w (room_of o) (length (f ∷ fs)) x xs
 room_for o f fs want.First x xs shallow = record {
@@ -198,7 +200,8 @@ within_brackets (f ∷ fs) want.Parameter = omega arith
 within_brackets (f ∷ fs) want.Next = omega arith
 within_brackets (f ∷ fs) want.Open = omega arith
 
-low_by : (complex : Bool) (d n : ℕ) → d ≤ n → n ≤ cond complex (greatest_depth - 1) greatest_depth → cond complex 1 0 + d ≤ greatest_depth
+low_by : (complex : Bool) (d n : ℕ) → d ≤ n → n ≤ cond complex (greatest_depth - 1) greatest_depth
+    → cond complex 1 0 + d ≤ greatest_depth
 low_by true d n deep fit = omega arith
 low_by false d n deep fit = omega arith
 
@@ -325,7 +328,8 @@ runs_before [] s xs ran later fit is reads =
     (same_Some _ ran is) (λ on. on) reads
 runs_before (x ∷ ts) s xs ran later fit is reads =
     let o = ran_on s x ts ran (next_turn s x) refl is in
-    subst (λ r. Continues r.state later xs → Continues s (prepend_all r.events later) (x ∷ ts ++ xs))
+    subst (λ r. Continues r.state later xs
+    → Continues s (prepend_all r.events later) (x ∷ ts ++ xs))
     (sym o.whole)
     (λ on. reads_before s x (ts ++ xs) o.turn (prepend_all o.after.events later) fit o.is
     (runs_before ts o.turn.state xs o.after later (turn_counts s x o.turn fit o.is).fits

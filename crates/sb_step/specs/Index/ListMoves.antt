@@ -37,7 +37,8 @@ is_list (bracket.Typed ∷ fs) = false
 -- a comma goes on with a list, and with nothing else
 abbrev pub comma : List Bracket → Kind → Option Nest
 comma fs k =
-    if is_list fs && is_comma k then Some (record { brackets = fs; want = want.Parameter }) else None
+    if is_list fs && is_comma k then Some (record { brackets = fs; want = want.Parameter }) else
+    None
 
 -- without the innermost
 abbrev pub shut : List Bracket → Nest
@@ -71,7 +72,8 @@ by_want want.Next room fs k = if is_close k then Some (shut fs) else comma fs k
 by_want want.Open room fs k =
     if is_open k then Some (record { brackets = fs; want = want.Parameter }) else None
 
--- what a function that changes the open parentheses answers: what is wanted then, if the kind may stand there
+-- what a function that changes the open parentheses answers: what is wanted then, if the kind may
+-- stand there
 abbrev pub MovesTo : Option Nest → List Bracket → Option Want → Type 0
 MovesTo found fs None = found ≡ None
 MovesTo found fs (Some w) = found ≡ Some (record { brackets = fs; want = w })

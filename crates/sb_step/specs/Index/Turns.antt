@@ -1,5 +1,5 @@
--- The grammar as a machine that reads one lexeme after another. The proofs join this to the grammar:
--- the machine goes on exactly where some text does.
+-- The grammar as a machine that reads one lexeme after another. The proofs join this to the
+-- grammar: the machine goes on exactly where some text does.
 use Rattle.std.specs.Prelude.{◌≡◌, ◌-◌, ℕ, Bool, true, false, if◌then◌else◌, List, [], ◌∷◌, Option, Some, None, option_and_then}
 use Rattle.sb_lex.specs.declared.kinds.Kind.{Kind}
 use Rattle.sb_step.specs.declared.step_file.records.Record.{Record}

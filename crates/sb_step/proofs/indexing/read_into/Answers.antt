@@ -49,7 +49,8 @@ returns-in-Err-accept c =
     subst (λ i. IsNext i place c.in-Ok-Some.token) invariant.input_is
     (subst (λ o. IsTokenAnswer c.tokens.lexer (Ok o)) c.in-Ok-Some.field-0-is
     c.in-Ok-Some.ensures.answer) in
-    error_answers c.tokens_are_one_list.ensures.exist_from input place c.in-Ok-Some.token (state_of c.tokens.machine)
+    error_answers c.tokens_are_one_list.ensures.exist_from input place c.in-Ok-Some.token
+    (state_of c.tokens.machine)
     (state_of c.accept.new.machine) c.tokens.collected c.accept.new.collected
     c.in-Err-accept.error invariant.progress next c.in-Err-accept.ensures
 
