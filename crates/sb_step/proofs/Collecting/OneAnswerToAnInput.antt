@@ -56,9 +56,8 @@ module _ (one_file : FilesAreUnique) (one_fault : FaultsAreUnique)
       ap (λ p. Err (step_error.Duplicate p)) (least_is_one n m two.file.instances
       (subst (λ g. IsLeastTwice n g.instances)
       (one_file input one.file two.file one.is two.is) one.least) two.least)
-  answers_are_one input (Err (step_error.Duplicate n))
-  (Err step_error.NoMemory) early soon one two =
-      absurd (soon refl)
+  answers_are_one input (Err (step_error.Duplicate n)) (Err step_error.NoMemory) early soon one
+      two = absurd (soon refl)
   answers_are_one input (Err step_error.NoMemory) b early soon one two = absurd (early refl)
 
   -- an answer that is so is the answer exactly where it is so

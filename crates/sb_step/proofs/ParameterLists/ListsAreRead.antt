@@ -10,7 +10,7 @@ use Rattle.sb_step.specs.Grammar.{Parameter, MoreParameters}
 use Rattle.sb_step.specs.Params.Parameters.{IsParameter}
 use Rattle.sb_step.specs.Params.Readers.{HasNext, ReadsToken, AreAhead, Awaits, CarriesOver, Behind, InList, AreInList, NextItem, ReadsItem}
 use Rattle.sb_step.proofs.Texts.ListsByLexeme.{parameter_on, parameter_closes_none}
-use Rattle.sb_step.proofs.ParameterLists.ParametersAreRead.{passes, input_stays, goes_further, stays_within}
+use Rattle.sb_step.proofs.ParameterLists.ParametersAreRead.{awaits_token, passes, input_stays, goes_further, stays_within}
 
 -- where the reader stands behind a token that ends the list or begins its next parameter, and what
 -- the items so far say with those that follow
@@ -34,12 +34,11 @@ pub record ReadSoFar (bytes : List ℕ) (entry now : Reading) (items : List Para
 
 -- there is a token behind the parenthesis
 pub list_has_next : (at : Reading) → Awaits InList at → HasNext at
-list_has_next at w = by_first w.xs w.ahead w.is
+list_has_next at w = awaits_token InList nothing_in_list at w
   where
-    by_first : (xs : List Lexeme) → AreAhead at xs → InList xs w.rest → HasNext at
-    by_first [] ahead (inl c) = absurd c
-    by_first [] ahead (inr j) = absurd (parameter_on j.first)
-    by_first (x ∷ xs) ahead in_list = (x.token, ahead.0)
+    nothing_in_list : (rest : List Lexeme) → InList [] rest → ⊥
+    nothing_in_list rest (inl c) = c
+    nothing_in_list rest (inr j) = parameter_on j.first
 
 module _ (bytes : List ℕ) (entry now : Reading) (t : Token) (read : ReadsToken entry now t)
     (entry_is : entry.input ≡ bytes) where

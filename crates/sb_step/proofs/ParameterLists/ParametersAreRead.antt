@@ -7,6 +7,7 @@ use Rattle.sb_lex.specs.Tokens.{IsToken, Reading}
 use Rattle.sb_step.specs.declared.parameters.param.Param.{Param}
 use Rattle.sb_step.specs.Lexemes.{Lexeme, lexeme_at, is_close, IsMark}
 use Rattle.sb_step.specs.KindTests.{is_comma}
+use Rattle.sb_step.specs.Rules.{Rule}
 use Rattle.sb_step.specs.Grammar.{Parameter, MoreParameters}
 use Rattle.sb_step.specs.Params.Parameters.{AreFurther}
 use Rattle.sb_step.specs.Params.Parameters.AreFurther.{last, more}
@@ -43,12 +44,23 @@ module _ (a b : Reading) (t : Token) (read : ReadsToken a b t) where
   pub stays_within : b.place ≤ length a.input
   stays_within = omega (arith, place_is, read.lies.within)
 
--- where a parameter begins there is a token
-pub parameter_has_next : (at : Reading) (xs rest : List Lexeme) → AreAhead at xs → Parameter xs rest
-    → HasNext at
-parameter_has_next at [] rest ahead p = absurd (parameter_on p)
-parameter_has_next at (x ∷ xs) rest ahead p = (x.token, ahead.0)
+-- where a rule is awaited that never describes nothing, there is a token
+pub awaits_token : (P : Rule) → ((rest : List Lexeme) → P [] rest → ⊥) → (at : Reading)
+    → Awaits P at → HasNext at
+awaits_token P never at w = by_first w.xs w.ahead w.is
+  where
+    by_first : (xs : List Lexeme) → AreAhead at xs → P xs w.rest → HasNext at
+    by_first [] ahead is = absurd (never w.rest is)
+    by_first (x ∷ xs) ahead is = (x.token, ahead.0)
 
+-- where a parameter begins there is a token
+pub parameter_has_next : (at : Reading) (xs rest : List Lexeme) → AreAhead at xs
+    → Parameter xs rest → HasNext at
+parameter_has_next at xs rest ahead p =
+    awaits_token Parameter (λ rest q. parameter_on q) at
+    (record { xs = xs; rest = rest; ahead = ahead; is = p })
+
+-- the first of the lexemes ahead is a token
 pub first_has_next : (at : Reading) (x : Lexeme) (xs : List Lexeme) → AreAhead at (x ∷ xs)
     → HasNext at
 first_has_next at x xs ahead = (x.token, ahead.0)
@@ -59,12 +71,9 @@ kind_of : (x : Lexeme) (input : List ℕ) (t : Token) → x ≡ lexeme_at input 
     → x.token.kind ≡ t.kind
 kind_of x input t same = ap (λ y. y.token.kind) same
 
+-- behind a parameter of a list there is a token
 pub more_has_next : (at : Reading) → Awaits MoreParameters at → HasNext at
-more_has_next at w = by_first w.xs (more_on w.is) w.ahead
-  where
-    by_first : (xs : List Lexeme) → MoreOn w.rest xs → AreAhead at xs → HasNext at
-    by_first [] on ahead = absurd on
-    by_first (x ∷ xs) on ahead = (x.token, ahead.0)
+more_has_next at w = awaits_token MoreParameters (λ rest m. more_on m) at w
 
 module _ (a b : Reading) (t : Token) (read : ReadsToken a b t) where
   -- behind a comma there is a token

@@ -14,7 +14,7 @@ use Rattle.sb_step.specs.Params.Parameters.IsParameter.{value, list, typed}
 use Rattle.sb_step.specs.Params.Parameters.AreParameters.{empty, some}
 use Rattle.sb_step.specs.Params.Readers.{HasNext, ReadsToken, AreAhead, Awaits, CarriesOver, Behind, InList, AreInList}
 use Rattle.sb_step.proofs.Texts.ListsByLexeme.{ParameterOn, TypedOn, parameter_on}
-use Rattle.sb_step.proofs.ParameterLists.ParametersAreRead.{passes, input_stays, goes_further, stays_within, parameter_has_next, first_has_next}
+use Rattle.sb_step.proofs.ParameterLists.ParametersAreRead.{awaits_token, passes, input_stays, goes_further, stays_within, parameter_has_next, first_has_next}
 
 -- a list
 
@@ -104,11 +104,9 @@ pub record AtInner (now : Reading) (z : Lexeme) (xs rest : List Lexeme) : Type 0
 module _ (bytes : List ℕ) (x : Lexeme) (keyword : IsKeyword x) (a : Reading)
     (input : a.input ≡ bytes) where
   pub opens_next : Awaits (Behind x Parameter) a → HasNext a
-  opens_next w = by_first w.xs w.ahead (typed_on_keyword x w.xs w.rest keyword (parameter_on w.is))
-    where
-      by_first : (xs : List Lexeme) → AreAhead a xs → TypedOn w.rest xs → HasNext a
-      by_first [] ahead t = absurd t
-      by_first (y ∷ ys) ahead t = (y.token, ahead.0)
+  opens_next w =
+      awaits_token (Behind x Parameter)
+      (λ rest p. typed_on_keyword x [] rest keyword (parameter_on p)) a w
 
   module _ (b : Reading) (opening : Token) (opens : ReadsToken a b opening) where
     pub first_next : Awaits (Behind x Parameter) a → HasNext b

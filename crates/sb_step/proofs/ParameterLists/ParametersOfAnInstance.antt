@@ -19,19 +19,16 @@ use Rattle.sb_step.specs.Params.Parameters.{AreParameters, SaysSimple, HoldsPara
 use Rattle.sb_step.specs.Params.Readers.{HasNext, ReadsToken, AreAhead, Awaits, CarriesOver, InList, AreInList, behind}
 use Rattle.sb_step.specs.Params.ParamsAnswers.{IsParamsAnswer, HasMemory, reader_at, AwaitsByForm, SaysByForm, Gives}
 use Rattle.sb_step.proofs.Texts.ListsByLexeme.{ListOn, list_on}
-use Rattle.sb_step.proofs.ParameterLists.ParametersAreRead.{passes, first_has_next}
+use Rattle.sb_step.proofs.ParameterLists.ParametersAreRead.{awaits_token, passes}
 use Rattle.sb_step.proofs.ParameterLists.ParametersByToken.{said_behind}
 use Rattle.sb_step.proofs.ParameterLists.ParametersAreUnique.{parameters_are_unique}
 use Rattle.sb_step.proofs.Records.RecordsStand.{SimpleStands, instance_stands, reads_on, tokens_behind}
 
 -- a list is read from its parenthesis on
 
+-- there is a token where a list is awaited
 pub list_has_first : (a : Reading) → Awaits ParameterList a → HasNext a
-list_has_first a w = by_first w.xs (list_on w.is) w.ahead
-  where
-    by_first : (xs : List Lexeme) → ListOn w.rest xs → AreAhead a xs → HasNext a
-    by_first [] on ahead = absurd on
-    by_first (x ∷ xs) on ahead = first_has_next a x xs ahead
+list_has_first a w = awaits_token ParameterList (λ rest l. list_on l) a w
 
 module _ (a b : Reading) (t : Token) (read : ReadsToken a b t) where
   pub behind_parenthesis : Awaits ParameterList a → Awaits InList b

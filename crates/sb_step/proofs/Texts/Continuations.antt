@@ -99,10 +99,18 @@ AtEquals r K = Then (IsMark mark.Equals) (AtBody r K)
 abbrev pub AtEndOfData : ℕ → Rest
 AtEndOfData k = Then (λ x. IsThe (codes "ENDSEC") x × (x.token.start ≡ k)) AtEndSemicolon
 
+-- one of each item of the list, and then the rest
+abbrev pub AtEach : {A : Type 0} → (A → Rest → Rest) → List A → Rest → Rest
+AtEach At [] K = K
+AtEach At (a ∷ later) K = At a (AtEach At later K)
+
+-- a name, `=` and a record
+abbrev pub AtInstance : ℕ × Record → Rest → Rest
+AtInstance i K = Then (IsName i.0) (AtEquals i.1 K)
+
 -- the instances that are still to come
 abbrev pub AtInstances : List (ℕ × Record) → ℕ → Rest
-AtInstances [] k = AtEndOfData k
-AtInstances (i ∷ later) k = Then (IsName i.0) (AtEquals i.1 (AtInstances later k))
+AtInstances instances k = AtEach AtInstance instances (AtEndOfData k)
 
 abbrev pub AtData : List (ℕ × Record) → ℕ → Rest
 AtData instances k =
@@ -115,8 +123,7 @@ AtEndOfHeader instances k =
 
 -- the entities that are still to come
 abbrev pub AtEntities : List Record → Rest → Rest
-AtEntities [] K = K
-AtEntities (r ∷ later) K = AtSimple r (AtEntities later K)
+AtEntities = AtEach AtSimple
 
 -- one at least
 abbrev pub AtFirstEntity : List Record → Rest → Rest

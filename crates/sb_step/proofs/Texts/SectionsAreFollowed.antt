@@ -8,7 +8,7 @@ use Rattle.sb_step.specs.declared.indexing.states.Section.TheVariants as section
 use Rattle.sb_step.specs.Lexemes.{Lexeme, IsWord, IsThe, IsKeyword, IsName, IsMark}
 use Rattle.sb_step.specs.Rules.{Rule, One, ◌⋅◌, Many, Each, SomeOf}
 use Rattle.sb_step.specs.Grammar.{Semicolon, EndOfData, File, ParameterList, SemicolonAt, BeginsSimple, BeginsComplex, IsSimple, InnerRecord, IsComplex, IsRecord, IsInstance, Sections}
-use Rattle.sb_step.proofs.Texts.Continuations.{Rest, Then, After, AtEnd, AtLastWord, AtLastSemicolon, AtData, AtRecordEnd, AtSimple, AtNextRecord, AtFirstRecord, AtComplex, AtBody, AtEquals, AtEndOfData, AtInstances, AtEndOfHeader, AtEntities, AtFirstEntity, Follows}
+use Rattle.sb_step.proofs.Texts.Continuations.{Rest, Then, After, AtEnd, AtLastWord, AtLastSemicolon, AtData, AtRecordEnd, AtSimple, AtNextRecord, AtFirstRecord, AtComplex, AtBody, AtEquals, AtEndOfData, AtEach, AtInstance, AtInstances, AtEndOfHeader, AtEntities, AtFirstEntity, Follows}
 
 -- rules and what follows them
 
@@ -157,14 +157,14 @@ body_from r K xs (inr c) =
     record { middle = a.middle; first = inr a.first; second = a.second }
 
 instance_to : (i : ℕ × Record) (K : Rest) (xs : List Lexeme) → After (IsInstance i) K xs
-    → Then (IsName i.0) (AtEquals i.1 K) xs
+    → AtInstance i K xs
 instance_to i K xs a =
     split (IsName i.0) _ K (AtEquals i.1 K) xs
     (λ ys b. split (IsMark mark.Equals) (IsRecord i.1) K (AtBody i.1 K) ys
     (λ zs c. body_to_by i.1 K zs c.middle c.first c.second) b) a
 
-instance_from : (i : ℕ × Record) (K : Rest) (xs : List Lexeme)
-    → Then (IsName i.0) (AtEquals i.1 K) xs → After (IsInstance i) K xs
+instance_from : (i : ℕ × Record) (K : Rest) (xs : List Lexeme) → AtInstance i K xs
+    → After (IsInstance i) K xs
 instance_from i K xs t =
     join (IsName i.0) _ K (AtEquals i.1 K) xs
     (λ ys b. join (IsMark mark.Equals) (IsRecord i.1) K (AtBody i.1 K) ys
@@ -172,64 +172,45 @@ instance_from i K xs t =
 
 -- sections
 
-instances_to : (instances : List (ℕ × Record)) (k : ℕ) (xs : List Lexeme)
-    → After (Each IsInstance instances) (AtEndOfData k) xs → AtInstances instances k xs
-instances_to [] k xs a = subst (AtEndOfData k) a.first a.second
-instances_to (i ∷ later) k xs a =
-    instance_to i (AtInstances later k) xs (record {
-      middle = a.first.middle;
-      first = a.first.first;
-      second = instances_to later k a.first.middle
-          (record { middle = a.middle; first = a.first.second; second = a.second });
-    })
+-- one of each item, where one is followed
+module _ {A : Type 0} (P : A → Rule) (At : A → Rest → Rest) where
+  each_to : ((a : A) (K : Rest) (xs : List Lexeme) → After (P a) K xs → At a K xs)
+      → (items : List A) (K : Rest) (xs : List Lexeme) → After (Each P items) K xs
+      → AtEach At items K xs
+  each_to to [] K xs a = subst K a.first a.second
+  each_to to (i ∷ later) K xs a =
+      to i (AtEach At later K) xs (record {
+        middle = a.first.middle;
+        first = a.first.first;
+        second = each_to to later K a.first.middle
+            (record { middle = a.middle; first = a.first.second; second = a.second });
+      })
 
-instances_from : (instances : List (ℕ × Record)) (k : ℕ) (xs : List Lexeme)
-    → AtInstances instances k xs → After (Each IsInstance instances) (AtEndOfData k) xs
-instances_from [] k xs t = record { middle = xs; first = refl; second = t }
-instances_from (i ∷ later) k xs t =
-    let a = instance_from i (AtInstances later k) xs t in
-    let b = instances_from later k a.middle a.second in
-    record {
-      middle = b.middle;
-      first = record { middle = a.middle; first = a.first; second = b.first };
-      second = b.second;
-    }
-
-entities_to : (h : List Record) (K : Rest) (xs : List Lexeme) → After (Each IsSimple h) K xs
-    → AtEntities h K xs
-entities_to [] K xs a = subst K a.first a.second
-entities_to (r ∷ later) K xs a =
-    simple_to r (AtEntities later K) xs (record {
-      middle = a.first.middle;
-      first = a.first.first;
-      second = entities_to later K a.first.middle
-          (record { middle = a.middle; first = a.first.second; second = a.second });
-    })
-
-entities_from : (h : List Record) (K : Rest) (xs : List Lexeme) → AtEntities h K xs
-    → After (Each IsSimple h) K xs
-entities_from [] K xs t = record { middle = xs; first = refl; second = t }
-entities_from (r ∷ later) K xs t =
-    let a = simple_from r (AtEntities later K) xs t in
-    let b = entities_from later K a.middle a.second in
-    record {
-      middle = b.middle;
-      first = record { middle = a.middle; first = a.first; second = b.first };
-      second = b.second;
-    }
+  each_from : ((a : A) (K : Rest) (xs : List Lexeme) → At a K xs → After (P a) K xs)
+      → (items : List A) (K : Rest) (xs : List Lexeme) → AtEach At items K xs
+      → After (Each P items) K xs
+  each_from from [] K xs t = record { middle = xs; first = refl; second = t }
+  each_from from (i ∷ later) K xs t =
+      let a = from i (AtEach At later K) xs t in
+      let b = each_from from later K a.middle a.second in
+      record {
+        middle = b.middle;
+        first = record { middle = a.middle; first = a.first; second = b.first };
+        second = b.second;
+      }
 
 some_entities_to : (h : List Record) (K : Rest) (xs : List Lexeme) → After (SomeOf IsSimple h) K xs
     → AtFirstEntity h K xs
 some_entities_to [] K xs a = a.first
 some_entities_to (r ∷ later) K xs a =
-    entities_to (r ∷ later) K xs
+    each_to IsSimple AtSimple simple_to (r ∷ later) K xs
     (record { middle = a.middle; first = a.first; second = a.second })
 
 some_entities_from : (h : List Record) (K : Rest) (xs : List Lexeme) → AtFirstEntity h K xs
     → After (SomeOf IsSimple h) K xs
 some_entities_from [] K xs t = absurd t
 some_entities_from (r ∷ later) K xs t =
-    let a = entities_from (r ∷ later) K xs t in
+    let a = each_from IsSimple AtSimple simple_from (r ∷ later) K xs t in
     record { middle = a.middle; first = a.first; second = a.second }
 
 -- the last word and its semicolon
@@ -264,7 +245,7 @@ module _ (instances : List (ℕ × Record)) (k : ℕ) where
   header_end_to xs a =
       split_closed (IsThe (codes "ENDSEC")) _ AtEnd (AtData instances k) xs
       (λ ys b. split_closed (IsThe (codes "DATA")) _ AtEnd (AtInstances instances k) ys
-      (λ zs c. instances_to instances k zs
+      (λ zs c. each_to IsInstance AtInstance instance_to instances (AtEndOfData k) zs
       (split_rules (Each IsInstance instances) (DataEnd k) AtEnd (AtEndOfData k) zs
       (data_end_to k) c)) b) a
 
@@ -274,7 +255,8 @@ module _ (instances : List (ℕ × Record)) (k : ℕ) where
       join_closed (IsThe (codes "ENDSEC")) _ AtEnd (AtData instances k) xs
       (λ ys b. join_closed (IsThe (codes "DATA")) _ AtEnd (AtInstances instances k) ys
       (λ zs c. join_rules (Each IsInstance instances) (DataEnd k) AtEnd (AtEndOfData k) zs
-      (data_end_from k) (instances_from instances k zs c)) b) t
+      (data_end_from k) (each_from IsInstance AtInstance instance_from instances
+      (AtEndOfData k) zs c)) b) t
 
 module _ (f : File) where
   abbrev AtHeaderEnd : Rest

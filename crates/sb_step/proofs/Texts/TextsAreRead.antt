@@ -76,30 +76,19 @@ pub record TurnedOn (s : State) (x : Lexeme) (f : File) (xs : List Lexeme) : Typ
 abbrev pub state_at : Section → List Bracket → Want → State
 state_at o fs w = record { section = o; nest = record { brackets = fs; want = w } }
 
+-- where one more parenthesis may be open in all, there is room for one
+room_by : (complex : Bool) (d : ℕ) → cond complex 1 0 + d + 1 ≤ greatest_depth
+    → d < cond complex (greatest_depth - 1) greatest_depth
+room_by true d fit = omega arith
+room_by false d fit = omega arith
+
 room_now : (o : Section) (d : ℕ) (x : Lexeme) (xs : List Lexeme)
     → Shallow (depth_without o + d) (x ∷ xs) → IsMark mark.Open x → d < room_of o
 room_now o d x xs shallow opening =
     let here = shallow (x ∷ []) xs refl in
     let one : opens x.token.kind ≡ 1 = ap opens opening in
     let none : closes x.token.kind ≡ 0 = ap closes opening in
-    ⊎_elim
-    (λ complex. omega (
-      arith,
-      here,
-      one,
-      none,
-      ap {B = ℕ} (λ b. cond b (greatest_depth - 1) greatest_depth) complex,
-      ap {B = ℕ} (λ b. cond b 1 0) complex,
-    ))
-    (λ simple. omega (
-      arith,
-      here,
-      one,
-      none,
-      ap {B = ℕ} (λ b. cond b (greatest_depth - 1) greatest_depth) simple,
-      ap {B = ℕ} (λ b. cond b 1 0) simple,
-    ))
-    (cases_Bool (is_complex o))
+    room_by (is_complex o) d (omega (arith, here, one, none))
 
 room_next : (o : Section) (d : ℕ) (x : Lexeme) (xs : List Lexeme)
     → Shallow (depth_without o + d) (x ∷ xs) → IsKeyword x → OpensNext xs → d < room_of o
@@ -110,28 +99,7 @@ room_next o d x (y ∷ ys) shallow keyword opening =
     let none_closes : closes x.token.kind ≡ 0 = ap closes keyword in
     let one : opens y.token.kind ≡ 1 = ap opens opening in
     let none : closes y.token.kind ≡ 0 = ap closes opening in
-    ⊎_elim
-    (λ complex. omega (
-      arith,
-      here,
-      none_opens,
-      none_closes,
-      one,
-      none,
-      ap {B = ℕ} (λ b. cond b (greatest_depth - 1) greatest_depth) complex,
-      ap {B = ℕ} (λ b. cond b 1 0) complex,
-    ))
-    (λ simple. omega (
-      arith,
-      here,
-      none_opens,
-      none_closes,
-      one,
-      none,
-      ap {B = ℕ} (λ b. cond b (greatest_depth - 1) greatest_depth) simple,
-      ap {B = ℕ} (λ b. cond b 1 0) simple,
-    ))
-    (cases_Bool (is_complex o))
+    room_by (is_complex o) d (omega (arith, here, none_opens, none_closes, one, none))
 
 room_for : (o : Section) (f : Bracket) (fs : List Bracket) (w : Want) (x : Lexeme)
     (xs : List Lexeme)
