@@ -19,7 +19,7 @@ use Rattle.sb_step.specs.KindTests.{is_semicolon, is_comma, is_equals, is_first,
 use Rattle.sb_step.specs.Index.SectionMoves.{section_move}
 use Rattle.sb_step.specs.Index.ListMoves.{Nest, parameter, comma, shut, by_want}
 use Rattle.sb_step.specs.Index.Turns.{plain, begun, State, Turn, is_complex, room_of, turn_section, turn_list, next_turn, next_turn_at}
-use Rattle.sb_step.proofs.KindsSay.{open_says, close_says, semicolon_says, comma_says, equals_says, first_says, last_says, keyword_says, number_says, the_says, choice}
+use Rattle.sb_step.proofs.KindsSay.{mark_says, first_says, last_says, keyword_says, number_says, the_says, choice}
 use Rattle.sb_step.proofs.Texts.TurnsByTest.{turn_of, only_gives, either_gives, named_gives}
 
 -- one parenthesis more, or none
@@ -74,14 +74,14 @@ section_counts section.Begin x turn is =
 section_counts section.BeginSemicolon x turn is =
     only_gives (CountsTurn section.BeginSemicolon x.token.kind) turn
     (is_semicolon x.token.kind) _
-    (λ t. counts_at 0 0 _ _ (semicolon_says x.token.kind t) refl) is
+    (λ t. counts_at 0 0 _ _ (mark_says mark.Semicolon x.token.kind t) refl) is
 section_counts section.Header x turn is =
     only_gives (CountsTurn section.Header x.token.kind) turn (is_the (codes "HEADER") x) _
     (λ t. counts_at 0 0 _ _ (the_says (codes "HEADER") x t).keyword refl) is
 section_counts section.HeaderSemicolon x turn is =
     only_gives (CountsTurn section.HeaderSemicolon x.token.kind) turn
     (is_semicolon x.token.kind) _
-    (λ t. counts_at 0 0 _ _ (semicolon_says x.token.kind t) refl) is
+    (λ t. counts_at 0 0 _ _ (mark_says mark.Semicolon x.token.kind t) refl) is
 section_counts section.FirstEntity x turn is =
     only_gives (CountsTurn section.FirstEntity x.token.kind) turn (is_keyword x.token.kind) _
     (λ t. counts_at 0 0 _ _ (keyword_says x.token.kind t) refl) is
@@ -92,22 +92,22 @@ section_counts section.Entities x turn is =
     (λ t. counts_at 0 0 _ _ (keyword_says x.token.kind t) refl)) is
 section_counts (section.EntityOrEnd s) x turn is =
     either_gives (CountsTurn (section.EntityOrEnd s) x.token.kind) turn (is_open x.token.kind) _ _
-    (λ t. counts_at 0 1 _ _ (open_says x.token.kind t) refl)
+    (λ t. counts_at 0 1 _ _ (mark_says mark.Open x.token.kind t) refl)
     (only_gives (CountsTurn (section.EntityOrEnd s) x.token.kind) turn
     (is_semicolon x.token.kind) _
-    (λ t. counts_at 0 0 _ _ (semicolon_says x.token.kind t) refl)) is
+    (λ t. counts_at 0 0 _ _ (mark_says mark.Semicolon x.token.kind t) refl)) is
 section_counts (section.EntityOpen s) x turn is =
     only_gives (CountsTurn (section.EntityOpen s) x.token.kind) turn (is_open x.token.kind) _
-    (λ t. counts_at 0 1 _ _ (open_says x.token.kind t) refl) is
+    (λ t. counts_at 0 1 _ _ (mark_says mark.Open x.token.kind t) refl) is
 section_counts (section.EntityEnd s) x turn is =
     only_gives (CountsTurn (section.EntityEnd s) x.token.kind) turn (is_semicolon x.token.kind) _
-    (λ t. counts_at 0 0 _ _ (semicolon_says x.token.kind t) refl) is
+    (λ t. counts_at 0 0 _ _ (mark_says mark.Semicolon x.token.kind t) refl) is
 section_counts section.Data x turn is =
     only_gives (CountsTurn section.Data x.token.kind) turn (is_the (codes "DATA") x) _
     (λ t. counts_at 0 0 _ _ (the_says (codes "DATA") x t).keyword refl) is
 section_counts section.DataSemicolon x turn is =
     only_gives (CountsTurn section.DataSemicolon x.token.kind) turn (is_semicolon x.token.kind) _
-    (λ t. counts_at 0 0 _ _ (semicolon_says x.token.kind t) refl) is
+    (λ t. counts_at 0 0 _ _ (mark_says mark.Semicolon x.token.kind t) refl) is
 section_counts section.Instances x turn is =
     either_gives (CountsTurn section.Instances x.token.kind) turn (is_the (codes "ENDSEC") x) _ _
     (λ t. counts_at 0 0 _ _ (the_says (codes "ENDSEC") x t).keyword refl)
@@ -115,42 +115,42 @@ section_counts section.Instances x turn is =
     (λ n t. name_counts n x.token.kind t)) is
 section_counts (section.Equals n) x turn is =
     only_gives (CountsTurn (section.Equals n) x.token.kind) turn (is_equals x.token.kind) _
-    (λ t. counts_at 0 0 _ _ (equals_says x.token.kind t) refl) is
+    (λ t. counts_at 0 0 _ _ (mark_says mark.Equals x.token.kind t) refl) is
 section_counts (section.Body n) x turn is =
     either_gives (CountsTurn (section.Body n) x.token.kind) turn (is_keyword x.token.kind) _ _
     (λ t. counts_at 0 0 _ _ (keyword_says x.token.kind t) refl)
     (only_gives (CountsTurn (section.Body n) x.token.kind) turn (is_open x.token.kind) _
-    (λ t. counts_at 0 1 _ _ (open_says x.token.kind t) refl)) is
+    (λ t. counts_at 0 1 _ _ (mark_says mark.Open x.token.kind t) refl)) is
 section_counts (section.SimpleOpen p) x turn is =
     only_gives (CountsTurn (section.SimpleOpen p) x.token.kind) turn (is_open x.token.kind) _
-    (λ t. counts_at 0 1 _ _ (open_says x.token.kind t) refl) is
+    (λ t. counts_at 0 1 _ _ (mark_says mark.Open x.token.kind t) refl) is
 section_counts (section.FirstRecord p) x turn is =
     only_gives (CountsTurn (section.FirstRecord p) x.token.kind) turn (is_keyword x.token.kind) _
     (λ t. counts_at 1 1 _ _ (keyword_says x.token.kind t) refl) is
 section_counts (section.RecordOpen p) x turn is =
     only_gives (CountsTurn (section.RecordOpen p) x.token.kind) turn (is_open x.token.kind) _
-    (λ t. counts_at 1 2 _ _ (open_says x.token.kind t) refl) is
+    (λ t. counts_at 1 2 _ _ (mark_says mark.Open x.token.kind t) refl) is
 section_counts (section.NextRecord p) x turn is =
     either_gives (CountsTurn (section.NextRecord p) x.token.kind) turn
     (is_keyword x.token.kind) _ _
     (λ t. counts_at 1 1 _ _ (keyword_says x.token.kind t) refl)
     (only_gives (CountsTurn (section.NextRecord p) x.token.kind) turn (is_close x.token.kind) _
-    (λ t. counts_at 1 0 _ _ (close_says x.token.kind t) refl)) is
+    (λ t. counts_at 1 0 _ _ (mark_says mark.Close x.token.kind t) refl)) is
 section_counts (section.InstanceEnd p) x turn is =
     only_gives (CountsTurn (section.InstanceEnd p) x.token.kind) turn
     (is_semicolon x.token.kind) _
-    (λ t. counts_at 0 0 _ _ (semicolon_says x.token.kind t) refl) is
+    (λ t. counts_at 0 0 _ _ (mark_says mark.Semicolon x.token.kind t) refl) is
 section_counts (section.EndSemicolon k) x turn is =
     only_gives (CountsTurn (section.EndSemicolon k) x.token.kind) turn
     (is_semicolon x.token.kind) _
-    (λ t. counts_at 0 0 _ _ (semicolon_says x.token.kind t) refl) is
+    (λ t. counts_at 0 0 _ _ (mark_says mark.Semicolon x.token.kind t) refl) is
 section_counts (section.LastWord k) x turn is =
     only_gives (CountsTurn (section.LastWord k) x.token.kind) turn (is_last x.token.kind) _
     (λ t. counts_at 0 0 _ _ (last_says x.token.kind t) refl) is
 section_counts (section.LastSemicolon k) x turn is =
     only_gives (CountsTurn (section.LastSemicolon k) x.token.kind) turn
     (is_semicolon x.token.kind) _
-    (λ t. counts_at 0 0 _ _ (semicolon_says x.token.kind t) refl) is
+    (λ t. counts_at 0 0 _ _ (mark_says mark.Semicolon x.token.kind t) refl) is
 section_counts (section.End k) x turn is = absurd (none-some turn is)
 
 one_fits : (complex begins : Bool) → length (cond begins begun plain).brackets ≤ cond complex
@@ -195,7 +195,7 @@ module _ (room : ℕ) (f : Bracket) (fs : List Bracket) (k : Kind) (nest : Nest)
       }))
       (λ others. ⊎_elim
       (λ l. let both = cond_some _ _ nest l.1 in counted (suc (length fs)) _ both.1 (record {
-        counts = counts_at (suc (length fs)) (suc (suc (length fs))) k _ (open_says k l.0)
+        counts = counts_at (suc (length fs)) (suc (suc (length fs))) k _ (mark_says mark.Open k l.0)
             (omega arith);
         fits = omega (arith, ltb-true (length (f ∷ fs)) room both.0);
       }))
@@ -226,7 +226,8 @@ comma_counts : (room : ℕ) (f : Bracket) (fs : List Bracket) (k : Kind) (nest :
 comma_counts room bracket.List fs k nest fit is =
     let both = cond_some (is_comma k) _ nest is in
     subst (CountsNest room (suc (length fs)) k) both.1 (record {
-      counts = counts_at (suc (length fs)) (suc (length fs)) k _ (comma_says k both.0) refl;
+      counts = counts_at (suc (length fs)) (suc (length fs)) k _
+          (mark_says mark.Comma k both.0) refl;
       fits = fit;
     })
 comma_counts room bracket.Typed fs k nest fit is = absurd (none-some nest is)
@@ -237,20 +238,21 @@ inside_counts : (room : ℕ) (f : Bracket) (fs : List Bracket) (w : Want) (k : K
 inside_counts room f fs want.First k nest fit is =
     ⊎_elim
     (λ c. counted room f fs k nest fit (suc (length fs)) _ (same_Some _ nest c.1)
-    (shut_counts room f fs k (close_says k c.0) fit))
+    (shut_counts room f fs k (mark_says mark.Close k c.0) fit))
     (λ p. parameter_counts room f fs k nest fit p.1)
     (choice (is_close k) _ _ nest is)
 inside_counts room f fs want.Parameter k nest fit is = parameter_counts room f fs k nest fit is
 inside_counts room f fs want.Next k nest fit is =
     ⊎_elim
     (λ c. counted room f fs k nest fit (suc (length fs)) _ (same_Some _ nest c.1)
-    (shut_counts room f fs k (close_says k c.0) fit))
+    (shut_counts room f fs k (mark_says mark.Close k c.0) fit))
     (λ p. comma_counts room f fs k nest fit p.1)
     (choice (is_close k) _ _ nest is)
 inside_counts room f fs want.Open k nest fit is =
     let both = cond_some (is_open k) _ nest is in
     subst (CountsNest room (length fs) k) both.1 (record {
-      counts = counts_at (length fs) (suc (length fs)) k _ (open_says k both.0) (omega arith);
+      counts = counts_at (length fs) (suc (length fs)) k _ (mark_says mark.Open k both.0)
+          (omega arith);
       fits = fit;
     })
 

@@ -19,7 +19,7 @@ use Rattle.sb_step.specs.Index.ListMoves.{Nest, deeper, parameter, comma, shut, 
 use Rattle.sb_step.specs.KindTests.{is_keyword, is_comma}
 use Rattle.sb_step.specs.Params.Readers.{InList}
 use Rattle.sb_step.proofs.Texts.Continuations.{Rest, Then, After, Closing, Wanted}
-use Rattle.sb_step.proofs.KindsSay.{open_says, close_says, comma_says, keyword_says, choice}
+use Rattle.sb_step.proofs.KindsSay.{mark_says, keyword_says, choice}
 
 -- the ways in which a list begins with what a rule of parameters describes
 
@@ -232,7 +232,7 @@ module _ (room : ℕ) (f : Bracket) (fs : List Bracket) (K : Rest) (x : Lexeme) 
       })
       (λ others. ⊎_elim
       (λ l. as_parameter (Closing (f ∷ fs) K) (x ∷ xs)
-      (in_list_came (Closing (f ∷ fs) K) x xs (open_says x.token.kind l.0)
+      (in_list_came (Closing (f ∷ fs) K) x xs (mark_says mark.Open x.token.kind l.0)
       (on _ (cond_some _ _ nest l.1).1)))
       (λ last_way. ⊎_elim
       (λ t. typed_came (Closing (f ∷ fs) K) x xs (keyword_says x.token.kind t.0)
@@ -303,7 +303,7 @@ comma_came bracket.List fs K x xs nest is goes =
     subst (λ n. Wanted n.brackets n.want K xs) (sym both.1) goes in
     record {
       middle = a.second.middle;
-      first = more (comma_says x.token.kind both.0) a.first a.second.first;
+      first = more (mark_says mark.Comma x.token.kind both.0) a.first a.second.first;
       second = a.second.second;
     }
 comma_came bracket.Typed fs K x xs nest is goes = absurd (none-some nest is)
@@ -334,20 +334,23 @@ pub nest_came : (room : ℕ) (f : Bracket) (fs : List Bracket) (w : Want) (K : R
     → Wanted nest.brackets nest.want K xs → Wanted (f ∷ fs) w K (x ∷ xs)
 nest_came room f fs want.First K x xs nest is goes =
     ⊎_elim
-    (λ c. inl (close_says x.token.kind c.0, close_came room f fs K x nest xs c.1 goes))
+    (λ c. inl (mark_says mark.Close x.token.kind c.0, close_came room f fs K x nest xs c.1 goes))
     (λ p. inr (parameter_came room f fs K x xs nest p.1 goes))
     (choice (is_close x.token.kind) _ _ nest is)
 nest_came room f fs want.Parameter K x xs nest is goes =
     parameter_came room f fs K x xs nest is goes
 nest_came room f fs want.Next K x xs nest is goes =
     ⊎_elim
-    (λ c. closed_came f fs K x xs (close_says x.token.kind c.0)
+    (λ c. closed_came f fs K x xs (mark_says mark.Close x.token.kind c.0)
     (close_came room f fs K x nest xs c.1 goes))
     (λ p. comma_came f fs K x xs nest p.1 goes)
     (choice (is_close x.token.kind) _ _ nest is)
 nest_came room f fs want.Open K x xs nest is goes =
-    let both = cond_some (is_open x.token.kind) _ nest is in
-    (open_says x.token.kind both.0, subst (λ n. Wanted n.brackets n.want K xs) (sym both.1) goes)
+    let both = cond_some (is_open x.token.kind) _ nest is in (
+      mark_says mark.Open x.token.kind both.0,
+      subst (λ n. Wanted n.brackets n.want K xs)
+          (sym both.1) goes,
+    )
 
 -- a parameter list begins
 

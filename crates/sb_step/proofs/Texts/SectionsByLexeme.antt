@@ -22,7 +22,7 @@ use Rattle.sb_step.specs.Grammar.{File, ParameterList, BeginsSimple, InnerRecord
 use Rattle.sb_step.specs.KindTests.{is_semicolon, is_equals, is_first, is_last, is_keyword, number_of, is_the}
 use Rattle.sb_step.specs.Index.SectionMoves.{moves, enters, finds, only, span_of, entity_of, record_of, simple_part, complex_part, names, section_move}
 use Rattle.sb_step.specs.Index.Turns.{Turn, turn_section}
-use Rattle.sb_step.proofs.KindsSay.{open_says, close_says, semicolon_says, equals_says, first_says, last_says, keyword_says, number_says, the_says, said_the}
+use Rattle.sb_step.proofs.KindsSay.{mark_says, first_says, last_says, keyword_says, number_says, the_says, said_the}
 use Rattle.sb_step.proofs.Texts.Continuations.{Rest, Then, After, Wanted, AtRecordEnd, AtNextRecord, AtEquals, AtBody, AtFirstRecord, AtInstances, AtEndOfHeader, AtEntities, AtFirstEntity, AtSimpleList, AtInnerList, IsOfSpan, IsOfPart, EntityFrom, NamedFrom, PartFrom, Past, Follows, Goes, prepend}
 use Rattle.sb_step.proofs.Texts.TurnsByTest.{turn_of, only_gives, either_gives, named_gives}
 use Rattle.sb_step.proofs.Texts.ListsByLexeme.{list_goes, list_came}
@@ -527,13 +527,13 @@ section_came section.Begin x xs later turn is =
     (λ holds goes. (first_says x.token.kind holds, goes)) is
 section_came section.BeginSemicolon x xs later turn is =
     came_only section.BeginSemicolon x xs later turn (is_semicolon x.token.kind) _
-    (λ holds goes. (semicolon_says x.token.kind holds, goes)) is
+    (λ holds goes. (mark_says mark.Semicolon x.token.kind holds, goes)) is
 section_came section.Header x xs later turn is =
     came_only section.Header x xs later turn (is_the (codes "HEADER") x) _
     (λ holds goes. (the_says (codes "HEADER") x holds, goes)) is
 section_came section.HeaderSemicolon x xs later turn is =
     came_only section.HeaderSemicolon x xs later turn (is_semicolon x.token.kind) _
-    (λ holds goes. (semicolon_says x.token.kind holds, goes)) is
+    (λ holds goes. (mark_says mark.Semicolon x.token.kind holds, goes)) is
 section_came section.FirstEntity x xs later turn is =
     came_only section.FirstEntity x xs later turn (is_keyword x.token.kind) _
     (λ holds goes. entity_came x xs later.header _ (keyword_says x.token.kind holds) goes) is
@@ -550,23 +550,25 @@ section_came section.Entities x xs later turn is =
     (entity_came x xs later.header K (keyword_says x.token.kind holds) goes))) is
 section_came (section.EntityOrEnd s) x xs later turn is =
     came_either (section.EntityOrEnd s) x xs later turn (is_open x.token.kind) _ _
-    (λ holds goes. inl (entity_list_came s later.header _ x xs (open_says x.token.kind holds)
+    (λ holds goes. inl (entity_list_came s later.header _ x xs
+    (mark_says mark.Open x.token.kind holds)
     goes))
     (came_only (section.EntityOrEnd s) x xs later turn (is_semicolon x.token.kind) _
-    (λ holds goes. inr (goes.0, (semicolon_says x.token.kind holds, goes.1)))) is
+    (λ holds goes. inr (goes.0, (mark_says mark.Semicolon x.token.kind holds, goes.1)))) is
 section_came (section.EntityOpen s) x xs later turn is =
     came_only (section.EntityOpen s) x xs later turn (is_open x.token.kind) _
-    (λ holds goes. entity_list_came s later.header _ x xs (open_says x.token.kind holds) goes) is
+    (λ holds goes. entity_list_came s later.header _ x xs
+    (mark_says mark.Open x.token.kind holds) goes) is
 section_came (section.EntityEnd s) x xs later turn is =
     came_only (section.EntityEnd s) x xs later turn (is_semicolon x.token.kind) _
     (λ holds goes.
-    (record { whole = refl }, ((semicolon_says x.token.kind holds, refl), goes))) is
+    (record { whole = refl }, ((mark_says mark.Semicolon x.token.kind holds, refl), goes))) is
 section_came section.Data x xs later turn is =
     came_only section.Data x xs later turn (is_the (codes "DATA") x) _
     (λ holds goes. (goes.0, (the_says (codes "DATA") x holds, goes.1))) is
 section_came section.DataSemicolon x xs later turn is =
     came_only section.DataSemicolon x xs later turn (is_semicolon x.token.kind) _
-    (λ holds goes. (goes.0, (semicolon_says x.token.kind holds, goes.1))) is
+    (λ holds goes. (goes.0, (mark_says mark.Semicolon x.token.kind holds, goes.1))) is
 section_came section.Instances x xs later turn is =
     came_either section.Instances x xs later turn (is_the (codes "ENDSEC") x) _ _
     (λ holds goes. subst (λ f. Past (AtInstances f.instances f.data_end) f (x ∷ xs)) (sym goes.0)
@@ -582,7 +584,7 @@ section_came (section.Equals n) x xs later turn is =
     (λ holds goes. (
       goes.0,
       equals_came n later.instances later.data_end x xs
-          (equals_says x.token.kind holds) goes.1,
+          (mark_says mark.Equals x.token.kind holds) goes.1,
     )) is
 section_came (section.Body n) x xs later turn is =
     came_either (section.Body n) x xs later turn (is_keyword x.token.kind) _ _
@@ -595,12 +597,12 @@ section_came (section.Body n) x xs later turn is =
     (λ holds goes. (
       goes.0,
       complex_came n later.instances later.data_end x xs
-          (open_says x.token.kind holds) goes.1,
+          (mark_says mark.Open x.token.kind holds) goes.1,
     ))) is
 section_came (section.SimpleOpen p) x xs later turn is =
     came_only (section.SimpleOpen p) x xs later turn (is_open x.token.kind) _
     (λ holds goes. part_list_came p AtRecordEnd later.instances later.data_end later x xs
-    (open_says x.token.kind holds) goes) is
+    (mark_says mark.Open x.token.kind holds) goes) is
 section_came (section.FirstRecord p) x xs later turn is =
     came_only (section.FirstRecord p) x xs later turn (is_keyword x.token.kind) _
     (λ holds goes. (
@@ -611,7 +613,7 @@ section_came (section.FirstRecord p) x xs later turn is =
 section_came (section.RecordOpen p) x xs later turn is =
     came_only (section.RecordOpen p) x xs later turn (is_open x.token.kind) _
     (λ holds goes. part_list_came p AtNextRecord later.instances later.data_end later x xs
-    (open_says x.token.kind holds) goes) is
+    (mark_says mark.Open x.token.kind holds) goes) is
 section_came (section.NextRecord p) x xs later turn is =
     came_either (section.NextRecord p) x xs later turn (is_keyword x.token.kind) _ _
     (λ holds goes. (
@@ -623,7 +625,7 @@ section_came (section.NextRecord p) x xs later turn is =
     (λ holds goes. (
       goes.0,
       records_closed p later.instances later.data_end x xs
-          (close_says x.token.kind holds) goes.1,
+          (mark_says mark.Close x.token.kind holds) goes.1,
     ))) is
 section_came (section.InstanceEnd p) x xs later turn is =
     came_only (section.InstanceEnd p) x xs later turn (is_semicolon x.token.kind) _
@@ -631,16 +633,16 @@ section_came (section.InstanceEnd p) x xs later turn is =
       goes.0,
       (
         record { number = refl; whole = refl },
-        ((semicolon_says x.token.kind holds, refl), goes.1),
+        ((mark_says mark.Semicolon x.token.kind holds, refl), goes.1),
       ),
     )) is
 section_came (section.EndSemicolon k) x xs later turn is =
     came_only (section.EndSemicolon k) x xs later turn (is_semicolon x.token.kind) _
-    (λ holds goes. (goes.0, (semicolon_says x.token.kind holds, goes.1))) is
+    (λ holds goes. (goes.0, (mark_says mark.Semicolon x.token.kind holds, goes.1))) is
 section_came (section.LastWord k) x xs later turn is =
     came_only (section.LastWord k) x xs later turn (is_last x.token.kind) _
     (λ holds goes. (goes.0, (last_says x.token.kind holds, goes.1))) is
 section_came (section.LastSemicolon k) x xs later turn is =
     came_only (section.LastSemicolon k) x xs later turn (is_semicolon x.token.kind) _
-    (λ holds goes. (goes.0, (semicolon_says x.token.kind holds, goes.1))) is
+    (λ holds goes. (goes.0, (mark_says mark.Semicolon x.token.kind holds, goes.1))) is
 section_came (section.End k) x xs later turn is = absurd (none-some turn is)
