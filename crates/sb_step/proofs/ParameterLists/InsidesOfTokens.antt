@@ -26,6 +26,7 @@ pub record IsEnclosed (q : ℕ) (P : List ℕ → Type 0) (text : List ℕ) : Ty
   pub whole : Encloses (q ∷ []) (inside_of text) text
   pub is : P (inside_of text)
 
+-- an inside between two equal bytes
 pub enclosed : (q : ℕ) (P : List ℕ → Type 0) (text : List ℕ)
     → (Text (q ∷ []) ⋅ P ⋅ Text (q ∷ [])) text → IsEnclosed q P text
 enclosed q P text t =

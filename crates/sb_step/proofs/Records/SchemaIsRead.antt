@@ -245,6 +245,7 @@ module _ (indexed : Indexed) (is : IsFile indexed.input indexed.file) (r : Recor
       let one = subst (λ e. HasOneString indexed.input e text) same h.string in
       stands_as_found one.before one.from one.rest one.are one.stands
 
+  -- a text is found exactly where it is the schema
   pub found_exactly : (found ≡ Some text) ↔ IsSchema indexed text
   found_exactly = (found_is_schema, schema_is_found)
 

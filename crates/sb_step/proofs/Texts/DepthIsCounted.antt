@@ -60,6 +60,7 @@ counts_at before after k q same counts = subst (λ r. Counts before r after) (sy
 
 -- outside of parameter lists
 
+-- the count goes on to that of the turn
 abbrev pub CountsTurn : Section → Kind → Turn → Type 0
 CountsTurn o k t = Counts (depth_without o + 0) k (depth t.state)
 

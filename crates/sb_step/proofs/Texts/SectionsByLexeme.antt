@@ -224,6 +224,7 @@ first_record_goes p (i ∷ later) k f x xs goes = (goes.1.0, (goes.0, goes.1.1))
 
 -- records within a complex one
 
+-- a record within a complex one, and those behind it
 abbrev pub InnerOn : List Lexeme → Lexeme → List Lexeme → Type 0
 InnerOn rest x xs = IsKeyword x × After ParameterList (λ ys. Many InnerRecord ys rest) xs
 
@@ -252,6 +253,7 @@ many_more : (xs ys rest : List Lexeme) → InnerRecord xs ys → Many InnerRecor
 many_more [] ys rest j m = absurd j.first
 many_more (x ∷ xs) ys rest j m = inr (inner_on rest ys x xs j m)
 
+-- any number of records goes on so
 pub many_on : {xs rest : List Lexeme} → Many InnerRecord xs rest → ManyOn rest xs
 many_on (none {xs = xs}) = many_none xs
 many_on (more {xs = xs} {ys = ys} {zs = zs} j m) = many_more xs ys zs j m
