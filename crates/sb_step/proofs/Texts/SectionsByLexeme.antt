@@ -5,6 +5,7 @@ use Rattle.std.specs.Str.{bytes_eq}
 use Rattle.std.proofs.lemmas.Bool.{cases_Bool}
 use Rattle.std.proofs.lemmas.Option.{none-some}
 use Rattle.sb_lex.specs.declared.kinds.Kind.TheVariants as kind
+use Rattle.sb_lex.specs.declared.kinds.Mark.{Mark}
 use Rattle.sb_lex.specs.declared.kinds.Mark.TheVariants as mark
 use Rattle.sb_step.specs.declared.step_file.records.Record.{Record}
 use Rattle.sb_step.specs.declared.indexing.states.Span.{Span}
@@ -15,7 +16,7 @@ use Rattle.sb_step.specs.declared.indexing.states.Bracket.TheVariants as bracket
 use Rattle.sb_step.specs.declared.indexing.states.Want.TheVariants as want
 use Rattle.sb_step.specs.declared.indexing.states.Event.TheVariants as event
 use Rattle.sb_step.specs.declared.indexing.states.Move.{Move}
-use Rattle.sb_step.specs.Lexemes.{Lexeme, IsKeyword, IsMark, is_open, is_close}
+use Rattle.sb_step.specs.Lexemes.{is_mark, Lexeme, IsKeyword, IsMark, is_open, is_close}
 use Rattle.sb_step.specs.Rules.{Rule, Many}
 use Rattle.sb_step.specs.Rules.Many.{none, more}
 use Rattle.sb_step.specs.Grammar.{File, ParameterList, BeginsSimple, InnerRecord}
@@ -387,6 +388,12 @@ module _ (o : Section) (x : Lexeme) (xs : List Lexeme) (later : File) (turn : Tu
       → turn_section (only b m) ≡ Some turn → Came o x xs later turn
   came_only b m came is = only_gives (Came o x xs later) turn b m came is
 
+  mark_came : (m : Mark) (move : Move) → (IsMark m x → Came o x xs later (turn_of move))
+      → turn_section (only (is_mark m x.token.kind) move) ≡ Some turn → Came o x xs later turn
+  mark_came m move came is =
+      came_only (is_mark m x.token.kind) move
+      (λ holds. came (mark_says m x.token.kind holds)) is
+
   came_either : (b : Bool) (m : Move) (other : Option Move)
       → (b ≡ true → Came o x xs later (turn_of m))
       → (turn_section other ≡ Some turn → Came o x xs later turn)
@@ -528,14 +535,14 @@ section_came section.Begin x xs later turn is =
     came_only section.Begin x xs later turn (is_first x.token.kind) _
     (λ holds goes. (first_says x.token.kind holds, goes)) is
 section_came section.BeginSemicolon x xs later turn is =
-    came_only section.BeginSemicolon x xs later turn (is_semicolon x.token.kind) _
-    (λ holds goes. (mark_says mark.Semicolon x.token.kind holds, goes)) is
+    mark_came section.BeginSemicolon x xs later turn mark.Semicolon _
+    (λ semicolon goes. (semicolon, goes)) is
 section_came section.Header x xs later turn is =
     came_only section.Header x xs later turn (is_the (codes "HEADER") x) _
     (λ holds goes. (the_says (codes "HEADER") x holds, goes)) is
 section_came section.HeaderSemicolon x xs later turn is =
-    came_only section.HeaderSemicolon x xs later turn (is_semicolon x.token.kind) _
-    (λ holds goes. (mark_says mark.Semicolon x.token.kind holds, goes)) is
+    mark_came section.HeaderSemicolon x xs later turn mark.Semicolon _
+    (λ semicolon goes. (semicolon, goes)) is
 section_came section.FirstEntity x xs later turn is =
     came_only section.FirstEntity x xs later turn (is_keyword x.token.kind) _
     (λ holds goes. entity_came x xs later.header _ (keyword_says x.token.kind holds) goes) is
@@ -555,22 +562,20 @@ section_came (section.EntityOrEnd s) x xs later turn is =
     (λ holds goes. inl (entity_list_came s later.header _ x xs
     (mark_says mark.Open x.token.kind holds)
     goes))
-    (came_only (section.EntityOrEnd s) x xs later turn (is_semicolon x.token.kind) _
-    (λ holds goes. inr (goes.0, (mark_says mark.Semicolon x.token.kind holds, goes.1)))) is
+    (mark_came (section.EntityOrEnd s) x xs later turn mark.Semicolon _
+    (λ semicolon goes. inr (goes.0, (semicolon, goes.1)))) is
 section_came (section.EntityOpen s) x xs later turn is =
-    came_only (section.EntityOpen s) x xs later turn (is_open x.token.kind) _
-    (λ holds goes. entity_list_came s later.header _ x xs
-    (mark_says mark.Open x.token.kind holds) goes) is
+    mark_came (section.EntityOpen s) x xs later turn mark.Open _
+    (λ opens goes. entity_list_came s later.header _ x xs opens goes) is
 section_came (section.EntityEnd s) x xs later turn is =
-    came_only (section.EntityEnd s) x xs later turn (is_semicolon x.token.kind) _
-    (λ holds goes.
-    (record { whole = refl }, ((mark_says mark.Semicolon x.token.kind holds, refl), goes))) is
+    mark_came (section.EntityEnd s) x xs later turn mark.Semicolon _
+    (λ semicolon goes. (record { whole = refl }, ((semicolon, refl), goes))) is
 section_came section.Data x xs later turn is =
     came_only section.Data x xs later turn (is_the (codes "DATA") x) _
     (λ holds goes. (goes.0, (the_says (codes "DATA") x holds, goes.1))) is
 section_came section.DataSemicolon x xs later turn is =
-    came_only section.DataSemicolon x xs later turn (is_semicolon x.token.kind) _
-    (λ holds goes. (goes.0, (mark_says mark.Semicolon x.token.kind holds, goes.1))) is
+    mark_came section.DataSemicolon x xs later turn mark.Semicolon _
+    (λ semicolon goes. (goes.0, (semicolon, goes.1))) is
 section_came section.Instances x xs later turn is =
     came_either section.Instances x xs later turn (is_the (codes "ENDSEC") x) _ _
     (λ holds goes. subst (λ f. Past (AtInstances f.instances f.data_end) f (x ∷ xs)) (sym goes.0)
@@ -582,12 +587,8 @@ section_came section.Instances x xs later turn is =
           (number_says x.token.kind n found) goes.1,
     ))) is
 section_came (section.Equals n) x xs later turn is =
-    came_only (section.Equals n) x xs later turn (is_equals x.token.kind) _
-    (λ holds goes. (
-      goes.0,
-      equals_came n later.instances later.data_end x xs
-          (mark_says mark.Equals x.token.kind holds) goes.1,
-    )) is
+    mark_came (section.Equals n) x xs later turn mark.Equals _
+    (λ equals goes. (goes.0, equals_came n later.instances later.data_end x xs equals goes.1)) is
 section_came (section.Body n) x xs later turn is =
     came_either (section.Body n) x xs later turn (is_keyword x.token.kind) _ _
     (λ holds goes. (
@@ -595,16 +596,12 @@ section_came (section.Body n) x xs later turn is =
       simple_came n later.instances later.data_end x xs
           (keyword_says x.token.kind holds) goes.1,
     ))
-    (came_only (section.Body n) x xs later turn (is_open x.token.kind) _
-    (λ holds goes. (
-      goes.0,
-      complex_came n later.instances later.data_end x xs
-          (mark_says mark.Open x.token.kind holds) goes.1,
-    ))) is
+    (mark_came (section.Body n) x xs later turn mark.Open _
+    (λ opens goes. (goes.0, complex_came n later.instances later.data_end x xs opens goes.1))) is
 section_came (section.SimpleOpen p) x xs later turn is =
-    came_only (section.SimpleOpen p) x xs later turn (is_open x.token.kind) _
-    (λ holds goes. part_list_came p AtRecordEnd later.instances later.data_end later x xs
-    (mark_says mark.Open x.token.kind holds) goes) is
+    mark_came (section.SimpleOpen p) x xs later turn mark.Open _
+    (λ opens goes. part_list_came p AtRecordEnd later.instances later.data_end later x xs opens
+    goes) is
 section_came (section.FirstRecord p) x xs later turn is =
     came_only (section.FirstRecord p) x xs later turn (is_keyword x.token.kind) _
     (λ holds goes. (
@@ -613,9 +610,9 @@ section_came (section.FirstRecord p) x xs later turn is =
           (keyword_says x.token.kind holds) goes.1,
     )) is
 section_came (section.RecordOpen p) x xs later turn is =
-    came_only (section.RecordOpen p) x xs later turn (is_open x.token.kind) _
-    (λ holds goes. part_list_came p AtNextRecord later.instances later.data_end later x xs
-    (mark_says mark.Open x.token.kind holds) goes) is
+    mark_came (section.RecordOpen p) x xs later turn mark.Open _
+    (λ opens goes. part_list_came p AtNextRecord later.instances later.data_end later x xs opens
+    goes) is
 section_came (section.NextRecord p) x xs later turn is =
     came_either (section.NextRecord p) x xs later turn (is_keyword x.token.kind) _ _
     (λ holds goes. (
@@ -623,28 +620,25 @@ section_came (section.NextRecord p) x xs later turn is =
       next_record_came p later.instances later.data_end x xs
           (keyword_says x.token.kind holds) goes.1,
     ))
-    (came_only (section.NextRecord p) x xs later turn (is_close x.token.kind) _
-    (λ holds goes. (
-      goes.0,
-      records_closed p later.instances later.data_end x xs
-          (mark_says mark.Close x.token.kind holds) goes.1,
-    ))) is
+    (mark_came (section.NextRecord p) x xs later turn mark.Close _
+    (λ closes goes. (goes.0, records_closed p later.instances later.data_end x xs closes goes.1)))
+    is
 section_came (section.InstanceEnd p) x xs later turn is =
-    came_only (section.InstanceEnd p) x xs later turn (is_semicolon x.token.kind) _
-    (λ holds goes. (
+    mark_came (section.InstanceEnd p) x xs later turn mark.Semicolon _
+    (λ semicolon goes. (
       goes.0,
       (
         record { number = refl; whole = refl },
-        ((mark_says mark.Semicolon x.token.kind holds, refl), goes.1),
+        ((semicolon, refl), goes.1),
       ),
     )) is
 section_came (section.EndSemicolon k) x xs later turn is =
-    came_only (section.EndSemicolon k) x xs later turn (is_semicolon x.token.kind) _
-    (λ holds goes. (goes.0, (mark_says mark.Semicolon x.token.kind holds, goes.1))) is
+    mark_came (section.EndSemicolon k) x xs later turn mark.Semicolon _
+    (λ semicolon goes. (goes.0, (semicolon, goes.1))) is
 section_came (section.LastWord k) x xs later turn is =
     came_only (section.LastWord k) x xs later turn (is_last x.token.kind) _
     (λ holds goes. (goes.0, (last_says x.token.kind holds, goes.1))) is
 section_came (section.LastSemicolon k) x xs later turn is =
-    came_only (section.LastSemicolon k) x xs later turn (is_semicolon x.token.kind) _
-    (λ holds goes. (goes.0, (mark_says mark.Semicolon x.token.kind holds, goes.1))) is
+    mark_came (section.LastSemicolon k) x xs later turn mark.Semicolon _
+    (λ semicolon goes. (goes.0, (semicolon, goes.1))) is
 section_came (section.End k) x xs later turn is = absurd (none-some turn is)
