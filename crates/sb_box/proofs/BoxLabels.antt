@@ -8,12 +8,12 @@ use Rattle.theory_numbers.proofs.Signs.{test_less, test_not_less}
 use Rattle.sb_model.specs.declared.frame.Frame.{Frame}
 use Rattle.sb_model.specs.declared.label.Label.TheVariants as label
 use Rattle.sb_model.specs.declared.products.Space.{Space}
-use Rattle.sb_model.specs.Spots.{Spot}
-use Rattle.sb_model.specs.Plan.{is_in_plan}
+use Rattle.sb_fraction.specs.Spots.{Spot}
+use Rattle.theory_plans.specs.Inside.{is_in_plan}
 use Rattle.sb_model.specs.Solids.{is_in_solid}
 use Rattle.sb_model.specs.Building.{Building, building}
 use Rattle.sb_model.specs.Labels.{label_at, open_label}
-use Rattle.theory_models.specs.Rectangles.{rectangle}
+use Rattle.theory_plans.specs.Rectangles.{rectangle}
 use Rattle.sb_box.specs.declared.extent.Extent.{Extent}
 use Rattle.sb_box.specs.BoxModel.{prism_of, IsBoxModel}
 

@@ -19,14 +19,16 @@ use Rattle.theory_cuttings.specs.Passages.{ray_start}
 use Rattle.sb_model.specs.declared.face.FaceKind.TheVariants as kind
 use Rattle.sb_model.specs.declared.label.Label.{Label}
 use Rattle.sb_model.specs.declared.label.Label.TheVariants as label
-use Rattle.sb_model.specs.Spots.{Spot, IsSpot, vector, along}
-use Rattle.sb_model.specs.Plan.{is_in_plan}
+use Rattle.sb_fraction.specs.Spots.{Spot, IsSpot, vector, along}
+use Rattle.theory_plans.specs.Inside.{is_in_plan}
 use Rattle.sb_model.specs.Solids.{is_between_heights}
 use Rattle.sb_model.specs.Labels.{label_at, open_label}
-use Rattle.sb_model.specs.Faces.{bottom_of, top_of, times_w, is_in_plane, is_of_face, axis_x}
-use Rattle.sb_model.specs.Faces.{axis_y, axis_z}
-use Rattle.theory_models.specs.Rectangles.{rectangle, is_between_xs, is_between_ys}
-use Rattle.theory_models.proofs.InsideRectangle.{inside_rectangle}
+use Rattle.sb_model.specs.Faces.{bottom_of, top_of, is_in_plane, is_of_face}
+use Rattle.sb_fraction.specs.Spots.{times_w}
+use Rattle.sb_fraction.specs.Directions.{axis_x}
+use Rattle.sb_fraction.specs.Directions.{axis_y, axis_z}
+use Rattle.theory_plans.specs.Rectangles.{rectangle, is_between_xs, is_between_ys}
+use Rattle.theory_plans.proofs.InsideRectangle.{inside_rectangle}
 use Rattle.theory_models.proofs.PassagesOfRays.{LooksOut, one_passage, two_passages}
 use Rattle.sb_box.specs.declared.extent.Extent.{Extent}
 use Rattle.sb_box.specs.BoxList.{above, below}

@@ -7,10 +7,10 @@ use Rattle.std.proofs.lemmas.Int.{ints, to_z-of_z}
 use Rattle.std.proofs.lemmas.Bool.{and_from, and_parts, and_left, not_from_false, leb-true, le-leb}
 use Rattle.std.proofs.lemmas.Bool.{eq-eqb}
 use Rattle.std.proofs.Math.Nat.{mod-one}
-use Rattle.sb_fraction.specs.Divisors.{greatest_divisor, divisor_within, are_coprime}
+use Rattle.theory_numbers.specs.Divisors.{greatest_divisor, divisor_within, are_coprime}
 use Rattle.sb_fraction.specs.Plane.{is_direction}
-use Rattle.sb_fraction.specs.Ratio.{Ratio}
-use Rattle.sb_model.specs.Corners.{whole}
+use Rattle.theory_numbers.specs.Fractions.{Ratio}
+use Rattle.theory_numbers.specs.Fractions.{whole}
 use Rattle.theory_numbers.specs.Arrows.{cross, dot}
 use Rattle.theory_numbers.specs.Rationals.{is_below}
 use Rattle.theory_plane.specs.Sides.{level, clearance, clearance_at}
@@ -21,7 +21,7 @@ use Rattle.sb_model.specs.declared.face.FaceKind.{FaceKind}
 use Rattle.sb_model.specs.declared.face.FaceKind.TheVariants as kind
 use Rattle.sb_model.specs.declared.face.Side.{Side}
 use Rattle.sb_model.specs.declared.face.Side.TheVariants.{OnLine, Height}
-use Rattle.sb_model.proofs.StraightCorners.{reduced-one}
+use Rattle.theory_numbers.proofs.LowestTerms.{reduced-one}
 use Rattle.theory_numbers.proofs.Signs.{test_less, less_from}
 use Rattle.sb_box.specs.declared.extent.Extent.{Extent}
 use Rattle.sb_box.specs.BoxList.{is_cut, IsLevelFace}

@@ -17,15 +17,18 @@ use Rattle.sb_model.specs.declared.face.FaceKind.TheVariants as kind
 use Rattle.sb_model.specs.declared.label.Label.TheVariants as label
 use Rattle.sb_model.specs.declared.walk.End.{End}
 use Rattle.sb_model.specs.declared.walk.End.TheVariants as end
-use Rattle.sb_model.specs.Spots.{Spot, Vector, IsSpot, along, reading}
-use Rattle.sb_model.specs.Plan.{Edge, is_on}
+use Rattle.sb_fraction.specs.Spots.{Spot, Vector, IsSpot, along, reading}
+use Rattle.sb_fraction.specs.Edges.{Edge, is_on}
 use Rattle.sb_model.specs.Solids.{is_between_heights}
 use Rattle.sb_model.specs.PlanEdges.{is_abscissa}
 use Rattle.sb_model.specs.PlainPoints.{is_plain, is_off_cuts, is_off_side_cuts, is_at_height}
 use Rattle.sb_model.specs.PlainPoints.{is_at_ground}
 use Rattle.sb_model.specs.Labels.{label_at, open_label}
-use Rattle.sb_model.specs.Faces.{Surface, side_over, direction_of, times_w, is_in_plane, is_of_face}
-use Rattle.sb_model.specs.Faces.{is_of_side, edge_numbered, bottom_of, top_of, axis_z}
+use Rattle.sb_model.specs.Faces.{Surface, side_over, is_in_plane, is_of_face}
+use Rattle.sb_fraction.specs.Spots.{times_w}
+use Rattle.sb_fraction.specs.Directions.{direction_of}
+use Rattle.sb_model.specs.Faces.{is_of_side, edge_numbered, bottom_of, top_of}
+use Rattle.sb_fraction.specs.Directions.{axis_z}
 use Rattle.sb_model.specs.Patches.{is_same_kind}
 use Rattle.sb_model.specs.Places.{ExactlyOne}
 use Rattle.theory_models.proofs.PatchesBetweenLevels.{is_in_window}

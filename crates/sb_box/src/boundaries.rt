@@ -7,7 +7,7 @@ ghost use Rattle.sb_box.specs.BoxList.{box_patch, side_patches, is_cut, below, a
 ghost use Rattle.sb_box.specs.BoxModel.{IsBoxModel};
 ghost use Rattle.sb_box.specs.Extents.{farthest};
 ghost use Rattle.sb_model.specs.Building.{Building};
-ghost use Rattle.sb_model.specs.Corners.{whole};
+ghost use Rattle.theory_numbers.specs.Fractions.{whole};
 ghost use Rattle.sb_model.specs.Order.{IsInOrder};
 ghost use Rattle.sb_model.specs.Sound.{IsSound};
 ghost use Rattle.theory_plane.specs.Sides.{level};

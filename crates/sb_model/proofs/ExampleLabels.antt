@@ -7,10 +7,10 @@ use Rattle.sb_model.specs.declared.label.Label.TheVariants.{Space, Element, Eart
 use Rattle.sb_model.specs.declared.products.Filling.{Filling}
 use Rattle.sb_model.specs.declared.products.FillKind.TheVariants.{Window}
 use Rattle.sb_model.specs.declared.products.Opening.{Opening}
-use Rattle.sb_model.specs.Spots.{Spot, spot, along, vector}
+use Rattle.sb_fraction.specs.Spots.{Spot, spot, along, vector}
 use Rattle.sb_model.specs.Labels.{label_at, layer_at}
 use Rattle.sb_model.specs.PlanEdges.{is_crossing, is_abscissa}
-use Rattle.sb_model.specs.Faces.{axis_x}
+use Rattle.sb_fraction.specs.Directions.{axis_x}
 use Rattle.sb_model.specs.OpenedPoints.{key_of}
 use Rattle.sb_model.specs.Walks.{is_rounded}
 use Rattle.sb_model.proofs.ExampleModels.{block, layered_wall, layered_wall_between_rooms}

@@ -3,8 +3,9 @@
 use Rattle.std.proofs.Common.{◌≡◌, refl, true, false, List, [], ◌∷◌, ℤ, pos, negsuc}
 use Rattle.sb_fraction.specs.declared.point.Point.{Point}
 use Rattle.theory_numbers.specs.Arrows.{cross, dot}
-use Rattle.sb_model.specs.Spots.{spot}
-use Rattle.sb_model.specs.Plan.{is_in_plan, is_on, edge}
+use Rattle.sb_fraction.specs.Spots.{spot}
+use Rattle.theory_plans.specs.Inside.{is_in_plan}
+use Rattle.sb_fraction.specs.Edges.{is_on, edge}
 use Rattle.sb_model.specs.Solids.{upright, is_in_solid}
 
 abbrev at : ℤ → ℤ → Point

@@ -8,26 +8,28 @@ use Rattle.std.proofs.lemmas.Int.{ints, to_z-of_z}
 use Rattle.std.proofs.lemmas.Bool.{and_parts, lt-ltb, false≢true, false_from_ne_true}
 use Rattle.std.proofs.lemmas.Bool.Decides.{Decides-int_eq}
 use Rattle.std.proofs.Math.Nat.{div_self, zero-div}
-use Rattle.sb_fraction.specs.Ratio.{Ratio, reduced, divided, is_fraction, is_lowest, is_within}
+use Rattle.sb_fraction.specs.Bounds.{is_fraction, is_in_bounds}
+use Rattle.theory_numbers.specs.Fractions.{Ratio, reduced, divided, is_lowest}
 use Rattle.sb_fraction.specs.Plane.{is_forward}
-use Rattle.sb_fraction.specs.Divisors.{greatest_divisor, are_coprime}
-use Rattle.sb_fraction.proofs.GreatestDivisor.{greatest_divisor-zero, zero-greatest_divisor}
-use Rattle.sb_fraction.proofs.LowestTerms.{reduced-lowest, reduced-multiple}
+use Rattle.theory_numbers.specs.Divisors.{greatest_divisor, are_coprime}
+use Rattle.theory_numbers.proofs.GreatestDivisor.{greatest_divisor-zero, zero-greatest_divisor}
+use Rattle.theory_numbers.proofs.LowestTerms.{reduced-lowest, reduced-multiple, reduced-one}
 use Rattle.sb_fraction.specs.declared.point.Point.{Point}
 use Rattle.theory_plane.specs.Sides.{LineSide}
 use Rattle.theory_plane.specs.Regions.{is_region}
 use Rattle.theory_numbers.specs.Tests.{differ}
 use Rattle.theory_numbers.proofs.Signs.{less_from, same_less}
 use Rattle.theory_numbers.proofs.Shapes.{var, num, plus, minus, times, equal}
-use Rattle.theory_numbers.proofs.Ring.{mul-one, one-mul}
+use Rattle.theory_numbers.proofs.Ring.{one-mul}
 use Rattle.sb_model.specs.declared.corner.Corner.{Corner}
 use Rattle.sb_model.specs.declared.face.Side.{Side}
-use Rattle.sb_model.specs.Spots.{Vector, vector, opposite}
-use Rattle.sb_model.specs.Plan.{Edge, edge}
+use Rattle.sb_fraction.specs.Spots.{Vector, vector, opposite}
+use Rattle.sb_fraction.specs.Edges.{Edge, edge}
 use Rattle.sb_model.specs.Sides.{line_of, is_abscissa_size, is_side_of, region_between}
 use Rattle.sb_model.specs.declared.patch.Patch.{Patch}
-use Rattle.sb_model.specs.Faces.{step, runs_along, direction_of, offset_of}
-use Rattle.sb_model.specs.Corners.{level_corner, side_corner, whole, is_level_side}
+use Rattle.sb_fraction.specs.Directions.{step, runs_along, direction_of, offset_of}
+use Rattle.sb_model.specs.Corners.{level_corner, side_corner, is_level_side}
+use Rattle.theory_numbers.specs.Fractions.{whole}
 use Rattle.sb_model.specs.Corners.{is_straight_edge}
 
 abbrev corner : Ratio → Ratio → Ratio → Corner
@@ -36,7 +38,7 @@ corner x y z = record { x = x; y = y; z = z }
 -- the denominator of a fraction in lowest terms is positive
 den_is_positive : (u : Ratio) → IsTrue (is_fraction u) → pos 0 <ℤ u.den
 den_is_positive u lowest =
-    let sizes = and_parts (is_lowest u) (is_within u) lowest in
+    let sizes = and_parts (is_lowest u) (is_in_bounds u) lowest in
     less_from _ _ (and_parts (int_lt (pos 0) u.den)
     (are_coprime (unsigned_abs u.num) (unsigned_abs u.den)) sizes.0).0
 
@@ -48,11 +50,6 @@ divided_by_size (pos (suc n)) other =
     rw (div_self {n = suc n} (omega arith), lt-ltb 0 (suc n) (omega arith)) refl
 divided_by_size (negsuc n) other = rw (div_self {n = suc n} (omega arith)) refl
 
--- the fraction z/1
-pub reduced-one : (z : ℤ) → reduced z (pos 1) ≡ whole z
-reduced-one z = ap (λ n. reduced n (pos 1)) (sym (mul-one z))
-    ∙ reduced-multiple z (pos 1) (omega (arith, ints))
-
 -- a fraction whose numerator is a multiple of its denominator, and one in lowest terms
 reduced_to_whole : (num scale : ℤ) (o d : ℤ) → pos 0 <ℤ d → num ≡ o *ℤ d → scale ≡ d
     → reduced num scale ≡ whole o
@@ -60,7 +57,8 @@ reduced_to_whole num scale o d positive en es = rw (en, es) (reduced-multiple o 
 
 reduced_to : (num scale : ℤ) (u : Ratio) → IsTrue (is_fraction u) → num ≡ u.num → scale ≡ u.den
     → reduced num scale ≡ u
-reduced_to num scale u lowest en es = rw (en, es) (reduced-lowest u lowest)
+reduced_to num scale u lowest en es =
+    rw (en, es) (reduced-lowest u (and_parts (is_lowest u) (is_in_bounds u) lowest).0)
 
 -- the value of a line of direction (1, 0)
 level_value : (u : Ratio) (l : LineSide) → pos 0 <ℤ u.den → l.dx ≡ pos 1 → l.dy ≡ pos 0

@@ -5,7 +5,7 @@ use Rattle.std.specs.Prelude.{length, nat_le, nat_lt, nat_eq}
 use Rattle.std.specs.Prelude.{unsigned_abs, pos, if◌then◌else◌, Option, Some, None, is_none}
 use Rattle.std.specs.Ordering.{int_eq}
 use Rattle.std.specs.List.{list_all, list_any, find}
-use Rattle.sb_fraction.specs.Divisors.{are_coprime}
+use Rattle.theory_numbers.specs.Divisors.{are_coprime}
 use Rattle.sb_fraction.specs.declared.unit.Unit as unit
 use Rattle.sb_model.specs.declared.layers.Axis.{Axis}
 use Rattle.sb_model.specs.declared.layers.Layer.{Layer}
@@ -15,7 +15,7 @@ use Rattle.sb_model.specs.declared.products.Space.{Space}
 use Rattle.sb_model.specs.declared.products.Element.{Element}
 use Rattle.sb_model.specs.declared.products.Opening.{Opening}
 use Rattle.sb_model.specs.declared.products.Filling.{Filling}
-use Rattle.sb_model.specs.Loops.{is_coordinate}
+use Rattle.sb_fraction.specs.Plane.{is_coordinate}
 
 -- a model: the products of a building, the height of its ground and the reach of its walks
 pub record Building : Type 0 where

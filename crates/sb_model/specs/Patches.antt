@@ -8,7 +8,7 @@ use Rattle.sb_model.specs.declared.face.FaceKind.{FaceKind}
 use Rattle.sb_model.specs.declared.face.FaceKind.TheVariants as kind
 use Rattle.sb_model.specs.declared.patch.Patch.{Patch}
 use Rattle.sb_model.specs.declared.products.Space.{Space}
-use Rattle.sb_model.specs.Spots.{Spot}
+use Rattle.sb_fraction.specs.Spots.{Spot}
 use Rattle.sb_model.specs.Sides.{region_between}
 use Rattle.sb_model.specs.Building.{Building}
 use Rattle.sb_model.specs.Faces.{Surface, surface_of, on_face, space_numbered}

@@ -2,7 +2,8 @@
 
 use Rattle.std.specs.Prelude.{ℕ, pos, Bool, true, false, ◌&&◌, ◌*◌, ◌^◌, int_lt, nat_le}
 use Rattle.std.specs.Prelude.{unsigned_abs}
-use Rattle.sb_fraction.specs.Ratio.{Ratio, is_fraction}
+use Rattle.sb_fraction.specs.Bounds.{is_fraction}
+use Rattle.theory_numbers.specs.Fractions.{Ratio}
 use Rattle.theory_numbers.specs.Arrows.{Arrow}
 use Rattle.theory_numbers.specs.Rationals.{rational}
 use Rattle.theory_plane.specs.Sides.{LineSide, line, level}

@@ -2,11 +2,14 @@
 
 ghost use Rattle.std.specs.Prelude.{◌≡◌, int_lt, slice_get, IsTrue, Some};
 ghost use Rattle.std.specs.Ordering.{int_eq};
-ghost use Rattle.sb_fraction.specs.Ratio.{is_fraction};
-ghost use Rattle.sb_model.specs.Plan.{edge, edges_of};
+ghost use Rattle.sb_fraction.specs.Bounds.{is_fraction};
+ghost use Rattle.theory_plans.specs.LoopEdges.{edges_of};
+ghost use Rattle.sb_fraction.specs.Edges.{edge};
 ghost use Rattle.sb_model.specs.Sides.{line_of};
-ghost use Rattle.sb_model.specs.Faces.{runs_along, is_face_of};
-ghost use Rattle.sb_model.specs.Corners.{whole as whole_number, level_corner, side_corner};
+ghost use Rattle.sb_model.specs.Faces.{is_face_of};
+ghost use Rattle.sb_fraction.specs.Directions.{runs_along};
+ghost use Rattle.sb_model.specs.Corners.{level_corner, side_corner};
+ghost use Rattle.theory_numbers.specs.Fractions.{whole as whole_number};
 ghost use Rattle.sb_model.specs.Corners.{listed as corners_listed};
 ghost use Rattle.sb_model.specs.Corners.{corners_of, is_level_side, is_straight, is_straight_edge};
 ghost use Rattle.sb_model.specs.Corners.{corners_in, side_corners, is_straight_face};

@@ -8,7 +8,7 @@ use Rattle.sb_model.specs.declared.boundary.Boundary.{Boundary}
 use Rattle.sb_model.specs.declared.corner.Corners.{Corners}
 use Rattle.sb_model.specs.declared.corner.Corners.TheVariants.{Three, Four}
 use Rattle.sb_model.specs.declared.walk.Item.{Item}
-use Rattle.sb_model.specs.Spots.{Vector, inner}
+use Rattle.sb_fraction.specs.Spots.{Vector, inner}
 use Rattle.sb_model.specs.Building.{Building}
 use Rattle.sb_model.specs.Corners.{corners_of}
 use Rattle.sb_report.specs.Normals.{normal_of}

@@ -8,9 +8,9 @@ use Rattle.std.proofs.Common.{nat_lt}
 use Rattle.std.specs.Int.{IsGcd}
 use Rattle.std.proofs.lemmas.Int.{ints}
 use Rattle.std.proofs.lemmas.Bool.{lt-ltb, le-ltb}
-use Rattle.sb_fraction.specs.Divisors.{greatest_divisor, divisor_within}
-use Rattle.sb_fraction.specs.Ratio.{reduced}
-use Rattle.sb_fraction.proofs.GreatestDivisor.{greatest_divisor_is}
+use Rattle.theory_numbers.specs.Divisors.{greatest_divisor, divisor_within}
+use Rattle.theory_numbers.specs.Fractions.{reduced}
+use Rattle.theory_numbers.proofs.GreatestDivisor.{greatest_divisor_is}
 use Rattle.theory_numbers.specs.Arrows.{Arrow, arrow, cross, dot}
 use Rattle.theory_numbers.specs.Reduced.{IsReduced}
 use Rattle.theory_numbers.proofs.Signs.{test_less, test_not_less, test_at_most}
@@ -23,14 +23,14 @@ use Rattle.sb_model.specs.declared.label.Label.TheVariants as label
 use Rattle.sb_model.specs.declared.walk.End.TheVariants as end
 use Rattle.sb_model.specs.declared.walk.Item.{Item}
 use Rattle.sb_model.specs.declared.walk.Walk.{Walk}
-use Rattle.sb_model.specs.Spots.{Spot, spot, vector}
+use Rattle.sb_fraction.specs.Spots.{Spot, spot, vector}
 use Rattle.sb_model.specs.Solids.{is_in_solid, is_between_heights}
 use Rattle.sb_model.specs.Labels.{label_at}
-use Rattle.sb_model.specs.Corners.{whole}
+use Rattle.theory_numbers.specs.Fractions.{whole}
 use Rattle.sb_model.specs.Passages.{Ray, ray_from, at_depth, ArePassages}
 use Rattle.sb_model.specs.Walks.{item, course, IsWalkOf}
 use Rattle.sb_model.proofs.ExampleModels.{block, layered_wall_between_rooms}
-use Rattle.theory_models.proofs.InsideRectangle.{inside_rectangle}
+use Rattle.theory_plans.proofs.InsideRectangle.{inside_rectangle}
 
 -- the ray from (4000, 1500, 1000) on Side(1) of space #20, along x
 abbrev through_the_wall : Ray

@@ -1,8 +1,5 @@
 -- The laws by topic.
 
--- points and edges in plan
-pub mod InsideRectangle
-pub mod EdgesAlongAxes
 -- rays
 pub mod PassagesOfRays
 -- patches and lists

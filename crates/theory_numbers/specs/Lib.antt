@@ -4,4 +4,6 @@ pub mod Arrows
 pub mod Rationals
 pub mod Intervals
 pub mod Reduced
+pub mod Divisors
+pub mod Fractions
 pub mod Lists

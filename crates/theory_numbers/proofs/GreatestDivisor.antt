@@ -7,7 +7,7 @@ use Rattle.std.proofs.lemmas.Nat.Gcd.{IsGcd-from_zero, IsGcd-from_mod, dvd_refl,
 use Rattle.std.proofs.lemmas.Nat.Gcd.{same_from_IsGcd}
 use Rattle.std.proofs.Math.Nat.{one-dvd, mul-dvd-mul_right, div-mul_cancel}
 use Rattle.std.proofs.Math.Nat.{dvd_of_mul-dvd-mul_right, eq-zero_of_zero-dvd}
-use Rattle.sb_fraction.specs.Divisors.{divisor_within, greatest_divisor}
+use Rattle.theory_numbers.specs.Divisors.{divisor_within, greatest_divisor}
 
 -- enough remainders give the greatest common divisor
 divisor_within_is : (steps a b : ℕ) → b < steps → IsGcd a b (divisor_within steps a b)

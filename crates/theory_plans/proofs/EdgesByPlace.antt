@@ -9,7 +9,8 @@ use Rattle.std.proofs.lemmas.Bool.Decides.{nat_tests}
 use Rattle.std.proofs.Common.{add-one, get_or}
 use Rattle.std.proofs.Math.Seq.{drop-cons}
 use Rattle.sb_fraction.specs.declared.point.Point.{Point}
-use Rattle.sb_model.specs.Plan.{edge, edges_back, edges_of_loop, edges_of, place_after}
+use Rattle.theory_plans.specs.LoopEdges.{edges_back, edges_of_loop, edges_of, place_after}
+use Rattle.sb_fraction.specs.Edges.{edge}
 
 -- a test of two successors is that of the numbers
 nat_lt-suc : (k n : ℕ) → nat_lt (suc k) (suc n) ≡ nat_lt k n
