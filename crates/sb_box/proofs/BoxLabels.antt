@@ -46,7 +46,8 @@ besides_of m s = record { unit = m.unit; reach = m.reach; global_id = s.global_i
 pub is_box_model : (n : ℕ) (e : Extent) (m : Building) (is : IsBoxModel n e m)
     → m ≡ box_model (besides_of m is.space) n e
 is_box_model n e m is =
-    ap (λ level. building m.unit level m.reach m.spaces m.elements m.openings m.fillings) is.level
+    ap (λ z. building m.unit z m.reach m.spaces m.elements m.openings m.fillings)
+    is.ground_height
     ∙ ap (λ spaces. building m.unit (pos 0) m.reach spaces m.elements m.openings m.fillings)
     (is.spaces ∙ ap (λ s. s ∷ []) (whole is.space is.number is.prism))
     ∙ ap (λ es. building m.unit (pos 0) m.reach

@@ -20,4 +20,4 @@ pub record IsBoxModel (n : ℕ) (e : Extent) (m : Building) : Type 0 where
   pub elements : m.elements ≡ []
   pub openings : m.openings ≡ []
   pub fillings : m.fillings ≡ []
-  pub level : m.level ≡ pos 0
+  pub ground_height : m.ground_height ≡ pos 0

@@ -102,14 +102,14 @@ element_at m p = lowest (λ e. e.number) (λ e. is_in_solid e.prism p) m.element
 
 -- earth below the ground, else nothing
 abbrev pub open_label : ℤ → Spot → Label
-open_label level p = if int_lt p.z (level *ℤ p.w) then label.Earth else label.Void
+open_label ground_height p = if int_lt p.z (ground_height *ℤ p.w) then label.Earth else label.Void
 
 abbrev pub element_label : ℤ → Spot → Option Element → Label
-element_label level p None = open_label level p
-element_label level p (Some e) = label.Element e.number (layer_at e.prism e.layering p)
+element_label ground_height p None = open_label ground_height p
+element_label ground_height p (Some e) = label.Element e.number (layer_at e.prism e.layering p)
 
 abbrev pub space_label : Building → Spot → Option Space → Label
-space_label m p None = element_label m.level p (element_at m p)
+space_label m p None = element_label m.ground_height p (element_at m p)
 space_label m p (Some s) = label.Space s.number
 
 -- the label of a point, the first that applies: the lowest-numbered space that contains it; the

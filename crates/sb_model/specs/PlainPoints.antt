@@ -24,7 +24,7 @@ is_at_height m p =
 
 -- p lies at the height of the ground
 abbrev pub is_at_ground : Building → Spot → Bool
-is_at_ground m p = int_eq p.z (m.level *ℤ p.w)
+is_at_ground m p = int_eq p.z (m.ground_height *ℤ p.w)
 
 -- off the cut lines of Bottom and Top: on no plan edge, and x is no abscissa of (1, 0)
 abbrev pub is_off_level_cuts : Building → Spot → Bool

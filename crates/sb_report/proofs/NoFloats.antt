@@ -71,6 +71,6 @@ pub report_has_no_float : (m : Building) (bs : List Boundary) → has_float (rep
 unfolding report_data
 report_has_no_float m bs = rw (
   entries_have_none m 1 bs,
-  signed_has_none m.level,
+  signed_has_none m.ground_height,
   each (λ s. count s.number) (λ s. refl) m.spaces,
 ) refl

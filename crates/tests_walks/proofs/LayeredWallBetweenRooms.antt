@@ -29,7 +29,7 @@ use Rattle.sb_model.specs.Labels.{label_at}
 use Rattle.theory_numbers.specs.Fractions.{whole}
 use Rattle.sb_model.specs.Passages.{Ray, ray_from, at_depth, ArePassages}
 use Rattle.sb_model.specs.Walks.{item, course, IsWalkOf}
-use Rattle.sb_model.proofs.ExampleModels.{block, layered_wall_between_rooms}
+use Rattle.theory_models.proofs.ExampleModels.{block, layered_wall_between_rooms}
 use Rattle.theory_plans.proofs.InsideRectangle.{inside_rectangle}
 
 -- the ray from (4000, 1500, 1000) on Side(1) of space #20, along x

@@ -5,3 +5,7 @@ pub mod PassagesOfRays
 -- patches and lists
 pub mod PatchesBetweenLevels
 pub mod ListsInBlocks
+-- worked models
+pub mod ExampleModels
+mod ExampleLabels
+mod ExampleLists

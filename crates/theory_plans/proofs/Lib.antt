@@ -8,3 +8,4 @@ pub mod OnEdgesAlongAxes
 -- rectangles
 pub mod RectangleIsLoop
 pub mod InsideRectangle
+mod Examples

@@ -31,7 +31,7 @@ use Rattle.sb_model.specs.Covers.{Covers}
 use Rattle.sb_model.specs.Trimmed.{AreTopsTrimmed}
 use Rattle.sb_model.specs.Mirrors.{Mirrors}
 use Rattle.sb_model.specs.Nested.{IsInParent}
-use Rattle.sb_model.proofs.ExampleModels.{block, room, box}
+use Rattle.theory_models.proofs.ExampleModels.{block, room, box}
 
 one_is_positive : pos 0 <ℤ pos 1
 one_is_positive = omega (arith, ints)
