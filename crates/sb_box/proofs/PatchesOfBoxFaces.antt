@@ -197,13 +197,14 @@ none_of_side k face low high z0 z1 u v w other =
 
 -- ---- the sides one behind the other
 
--- from where to where side i lies along its edge: in x where it runs along x, else in y
+-- from where side i lies along its edge: in x where it runs along x, else in y
 abbrev pub from_of : Extent → ℕ → ℤ
 from_of e zero = e.x0
 from_of e (suc zero) = e.y0
 from_of e (suc (suc zero)) = e.x0
 from_of e (suc (suc (suc i))) = e.y0
 
+-- and to where
 abbrev pub to_of : Extent → ℕ → ℤ
 to_of e zero = e.x1
 to_of e (suc zero) = e.y1

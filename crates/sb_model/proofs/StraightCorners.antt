@@ -1,16 +1,15 @@
 -- On a level side and over an edge along x or y, the corners have whole numbers and the abscissa.
 
 use Rattle.std.proofs.Common.{ℤ, pos, ◌≡◌, ◌<ℤ◌, ◌+ℤ◌, ◌-ℤ◌, ◌*ℤ◌, Bool, true, false, not, ◌&&◌}
-use Rattle.std.proofs.Common.{IsTrue, Some, unsigned_abs, int_lt, refl, arith, ap, sym, ◌∙◌}
+use Rattle.std.proofs.Common.{IsTrue, Some, int_lt, refl, arith, ap, sym, ◌∙◌}
 use Rattle.std.specs.Ordering.{int_eq}
 use Rattle.std.proofs.lemmas.Int.{to_z-of_z}
 use Rattle.std.proofs.lemmas.Bool.{and_parts, false≢true, false_from_ne_true}
 use Rattle.std.proofs.lemmas.Bool.Decides.{Decides-int_eq}
-use Rattle.theory_numbers.specs.Divisors.{are_coprime}
 use Rattle.theory_numbers.specs.Fractions.{Ratio, reduced, is_lowest, whole}
 use Rattle.theory_numbers.specs.Tests.{differ}
-use Rattle.theory_numbers.proofs.LowestTerms.{reduced-lowest, reduced-multiple, reduced-one}
-use Rattle.theory_numbers.proofs.Signs.{less_from}
+use Rattle.theory_numbers.proofs.LowestTerms.{lowest_is_reduced, reduced-lowest, reduced-multiple}
+use Rattle.theory_numbers.proofs.LowestTerms.{reduced-one}
 use Rattle.theory_numbers.proofs.Shapes.{var, num, plus, minus, times, equal}
 use Rattle.theory_numbers.proofs.Ring.{one-mul}
 use Rattle.theory_plane.specs.Sides.{LineSide}
@@ -29,12 +28,12 @@ use Rattle.sb_model.specs.Corners.{level_corner, side_corner, is_level_side, is_
 abbrev corner : Ratio → Ratio → Ratio → Corner
 corner x y z = record { x = x; y = y; z = z }
 
+is_in_lowest_terms : (u : Ratio) → IsTrue (is_fraction u) → IsTrue (is_lowest u)
+is_in_lowest_terms u fraction = (and_parts (is_lowest u) (is_in_bounds u) fraction).0
+
 -- the denominator of a fraction in lowest terms is positive
 den_is_positive : (u : Ratio) → IsTrue (is_fraction u) → pos 0 <ℤ u.den
-den_is_positive u lowest =
-    let sizes = and_parts (is_lowest u) (is_in_bounds u) lowest in
-    less_from _ _ (and_parts (int_lt (pos 0) u.den)
-    (are_coprime (unsigned_abs u.num) (unsigned_abs u.den)) sizes.0).0
+den_is_positive u fraction = (lowest_is_reduced u (is_in_lowest_terms u fraction)).positive
 
 -- a fraction whose numerator is a multiple of its denominator, and one in lowest terms
 reduced_to_whole : (num scale : ℤ) (o d : ℤ) → pos 0 <ℤ d → num ≡ o *ℤ d → scale ≡ d
@@ -44,7 +43,7 @@ reduced_to_whole num scale o d positive en es = rw (en, es) (reduced-multiple o 
 reduced_to : (num scale : ℤ) (u : Ratio) → IsTrue (is_fraction u) → num ≡ u.num → scale ≡ u.den
     → reduced num scale ≡ u
 reduced_to num scale u lowest en es =
-    rw (en, es) (reduced-lowest u (and_parts (is_lowest u) (is_in_bounds u) lowest).0)
+    rw (en, es) (reduced-lowest u (is_in_lowest_terms u lowest))
 
 -- the value of a line of direction (1, 0)
 level_value : (u : Ratio) (l : LineSide) → pos 0 <ℤ u.den → l.dx ≡ pos 1 → l.dy ≡ pos 0

@@ -22,6 +22,7 @@ abbrev pub block : ℕ → ℕ → ℕ → ℕ → ℕ → Upright
 block x0 x1 y0 y1 h =
     upright (rectangle (pos x0) (pos x1) (pos y0) (pos y1) ∷ []) (pos 0) (pos h)
 
+-- a space with this prism, not turned
 abbrev pub room : ℕ → Upright → Space
 room number prism = record {
   number = number;
@@ -33,9 +34,11 @@ room number prism = record {
   };
 }
 
+-- an element with this prism
 abbrev pub element : ℕ → Upright → Layering → Element
 element number prism layering = record { number = number; prism = prism; layering = layering }
 
+-- a layer without a name
 abbrev pub layer : ℕ → ℕ → Layer
 layer index micro = record { index = index; material = []; micro = micro }
 
@@ -51,11 +54,13 @@ box = model (room 20 (block 0 4000 0 3000 2500) ∷ []) []
 abbrev pub layers_of_wall : List Layer
 layers_of_wall = layer 1 12500 ∷ layer 2 75000 ∷ layer 3 12500 ∷ []
 
+-- the wall
 abbrev pub layered_wall : Element
 layered_wall =
     element 30 (block 4000 4100 0 3000 2500)
     (Layered layers_of_wall (record { x = pos 1; y = pos 0; z = pos 0 }))
 
+-- between its two rooms
 abbrev pub layered_wall_between_rooms : Building
 layered_wall_between_rooms =
     model

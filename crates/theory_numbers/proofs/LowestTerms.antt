@@ -2,7 +2,7 @@
 
 use Rattle.std.proofs.Common.{ℕ, ℤ, pos, negsuc, neg_ℤ, suc, ◌*◌, ◌/◌, ◌<◌, ◌<ℤ◌, ◌*ℤ◌, ◌≡◌}
 use Rattle.std.proofs.Common.{zero, true, IsTrue, unsigned_abs, refl, arith, int_lt, ap}
-use Rattle.std.proofs.Common.{sym, ◌∙◌, mul_assoc}
+use Rattle.std.proofs.Common.{sym, ◌∙◌, mul_assoc, subst}
 use Rattle.std.specs.Int.{IsGcd, ◌∣◌}
 use Rattle.std.proofs.lemmas.Int.{ints, unsigned_abs-mul}
 use Rattle.std.proofs.lemmas.Bool.{and_from, and_parts, eq-eqb, eqb-true}
@@ -13,7 +13,9 @@ use Rattle.theory_numbers.specs.Divisors.{greatest_divisor, are_coprime}
 use Rattle.theory_numbers.specs.Fractions.{Ratio, reduced, divided, is_lowest, whole}
 use Rattle.theory_numbers.proofs.GreatestDivisor.{greatest_divisor_is, divisor_is_positive}
 use Rattle.theory_numbers.proofs.GreatestDivisor.{quotients_are_coprime}
+use Rattle.theory_numbers.specs.Reduced.{IsReduced}
 use Rattle.theory_numbers.proofs.Ring.{mul-one}
+use Rattle.theory_numbers.proofs.Signs.{less_from}
 
 -- the size of a number with its sign changed
 abs-neg : (n : ℕ) → unsigned_abs (neg_ℤ (pos n)) ≡ n
@@ -106,6 +108,18 @@ reduced-lowest r lowest =
     let parts = and_parts (int_lt (pos 0) r.den)
     (are_coprime (unsigned_abs r.num) (unsigned_abs r.den)) lowest in
     rw (eqb-true _ 1 parts.1, divided-one, divided-one) refl
+
+-- a fraction that passes the test of lowest terms is reduced
+pub lowest_is_reduced : (r : Ratio) → IsTrue (is_lowest r) → IsReduced r.num r.den
+lowest_is_reduced r lowest =
+    let parts = and_parts (int_lt (pos 0) r.den)
+    (are_coprime (unsigned_abs r.num) (unsigned_abs r.den)) lowest in
+    record {
+      positive = less_from _ _ parts.0;
+      no_divisor =
+          subst (λ g. IsGcd (unsigned_abs r.num) (unsigned_abs r.den) g) (eqb-true _ 1 parts.1)
+          (greatest_divisor_is _ _);
+    }
 
 -- the divisor of a multiple and a positive number is this number
 divisor_of_multiple : (z d : ℤ) → pos 0 <ℤ d

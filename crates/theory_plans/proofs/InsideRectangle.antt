@@ -53,19 +53,22 @@ left_turn a c d less =
 -- ---- the table of the four edges: low and high say that the two levels lie above p, left and
 -- right that the two sides lie to its right
 
-hit_table : (low high left right u0 d0 d1 u2 d2 u3 : Bool) → (low ≡ true → high ≡ true)
-    → differ (if low then (if low then false else u0) else (if low then d0 else false))
-    (differ (if high then (if low then false else right) else (if low then d1 else false))
-    (differ (if high then (if high then false else u2) else (if high then d2 else false))
-    (differ (if low then (if high then false else u3) else (if high then left else false)) false)))
+hit_table : (low high left right : Bool)
+    (bottom_up bottom_down right_down top_up top_down left_up : Bool) → (low ≡ true → high ≡ true)
+    → differ
+    (if low then (if low then false else bottom_up) else (if low then bottom_down else false))
+    (differ (if high then (if low then false else right) else (if low then right_down else false))
+    (differ (if high then (if high then false else top_up) else (if high then top_down else false))
+    (differ (if low then (if high then false else left_up) else (if high then left else false))
+    false)))
     ≡ (high && not low) && differ right left
-hit_table true true left right u0 d0 d1 u2 d2 u3 rising = refl
-hit_table false true true true u0 d0 d1 u2 d2 u3 rising = refl
-hit_table false true true false u0 d0 d1 u2 d2 u3 rising = refl
-hit_table false true false true u0 d0 d1 u2 d2 u3 rising = refl
-hit_table false true false false u0 d0 d1 u2 d2 u3 rising = refl
-hit_table false false left right u0 d0 d1 u2 d2 u3 rising = refl
-hit_table true false left right u0 d0 d1 u2 d2 u3 rising = absurd (false≢true (rising refl))
+hit_table true true left right _ _ _ _ _ _ rising = refl
+hit_table false true true true _ _ _ _ _ _ rising = refl
+hit_table false true true false _ _ _ _ _ _ rising = refl
+hit_table false true false true _ _ _ _ _ _ rising = refl
+hit_table false true false false _ _ _ _ _ _ rising = refl
+hit_table false false left right _ _ _ _ _ _ rising = refl
+hit_table true false left right _ _ _ _ _ _ rising = absurd (false≢true (rising refl))
 
 -- ---- the point on an edge or inside, by the corners as seen from it
 
