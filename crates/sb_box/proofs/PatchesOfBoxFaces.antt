@@ -15,12 +15,13 @@ use Rattle.sb_model.specs.declared.walk.End.{End}
 use Rattle.sb_model.specs.declared.walk.End.TheVariants as end
 use Rattle.sb_model.specs.Patches.{is_same_kind}
 use Rattle.sb_model.specs.Order.{rank_of}
-use Rattle.theory_numbers.specs.Lists.{AllOfTwo}
-use Rattle.sb_model.specs.Places.{ExactlyOne}
+use Rattle.theory_lists.specs.Members.{AllOfTwo}
+use Rattle.theory_lists.specs.OneOf.{ExactlyOne}
 use Rattle.theory_models.proofs.PatchesBetweenLevels.{is_in_window}
-use Rattle.theory_models.proofs.ListsInBlocks.{none-append, none_where, first_alone, one_behind}
-use Rattle.theory_models.proofs.ListsInBlocks.{one_in_first, one_in_second, all-append, all_weaker}
-use Rattle.theory_models.proofs.ListsInBlocks.{two-append}
+use Rattle.theory_lists.proofs.Blocks.{none-append, none_where, first_alone, one_behind}
+use Rattle.theory_lists.proofs.Blocks.{one_in_first, one_in_second, all-append}
+use Rattle.theory_lists.proofs.Members.{all_follow}
+use Rattle.theory_lists.proofs.Blocks.{two-append}
 use Rattle.sb_box.specs.declared.extent.Extent.{Extent}
 use Rattle.sb_box.specs.BoxList.{BoxPatch, box_patch, box_patches, side_patches, is_cut, below}
 use Rattle.sb_box.specs.BoxList.{above}
@@ -277,7 +278,8 @@ own_or_other : (k face : FaceKind) (Q : BoxPatch → Type 0) (low high z0 z1 : �
     → (is_same_kind face k ≡ true → AllByRecursion Q (side_patches face low high z0 z1))
     → AllByRecursion (OnFace k Q) (side_patches face low high z0 z1)
 own_or_other k face Q low high z0 z1 true same own =
-    all_weaker Q (OnFace k Q) (λ p part it. part) (side_patches face low high z0 z1) (own same)
+    all_follow {P = Q} {Q = OnFace k Q} (λ p part it. part) (side_patches face low high z0 z1)
+    (own same)
 own_or_other k face Q low high z0 z1 false other own = other_side k face Q low high z0 z1 other
 
 -- the one patch of Bottom
@@ -463,7 +465,7 @@ before_all face low high z0 z1 ys higher =
   where
     ahead : (p : BoxPatch) → AllByRecursion (λ q. rank_of p.kind < rank_of q.kind) ys
         → AllByRecursion (Precedes p) ys
-    ahead p all = all_weaker (λ q. rank_of p.kind < rank_of q.kind) (Precedes p)
+    ahead p all = all_follow {P = λ q. rank_of p.kind < rank_of q.kind} {Q = Precedes p}
         (λ q h. inl h) ys all
 
 rank_of_side : (n : ℕ) (k : ℕ) (low high z0 z1 : ℤ) → n < 2 + k
@@ -499,7 +501,7 @@ each_two e = (
         → ((q : BoxPatch) → n < rank_of q.kind → Precedes p q)
         → AllByRecursion (Precedes p) (sides e 0 3)
     ahead_of_sides n p less to =
-        all_weaker (λ q. n < rank_of q.kind) (Precedes p) to (sides e 0 3)
+        all_follow {P = λ q. n < rank_of q.kind} {Q = Precedes p} to (sides e 0 3)
         (rank_of_sides e n 0 3 less)
 
 -- ---- each patch looks out at the earth or the open air

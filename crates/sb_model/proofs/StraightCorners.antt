@@ -7,7 +7,7 @@ use Rattle.std.proofs.lemmas.Int.{to_z-of_z}
 use Rattle.std.proofs.lemmas.Bool.{and_parts, false≢true, false_from_ne_true}
 use Rattle.std.proofs.lemmas.Bool.Decides.{Decides-int_eq}
 use Rattle.theory_numbers.specs.Fractions.{Ratio, reduced, is_lowest, whole}
-use Rattle.theory_numbers.specs.Tests.{differ}
+use Rattle.theory_lists.specs.Parity.{differ}
 use Rattle.theory_numbers.proofs.LowestTerms.{lowest_is_reduced, reduced-lowest, reduced-multiple}
 use Rattle.theory_numbers.proofs.LowestTerms.{reduced-one}
 use Rattle.theory_numbers.proofs.Shapes.{var, num, plus, minus, times, equal}

@@ -4,7 +4,7 @@
 pub mod PassagesOfRays
 -- patches and lists
 pub mod PatchesBetweenLevels
-pub mod ListsInBlocks
+pub mod BoundariesById
 -- worked models
 pub mod ExampleModels
 mod ExampleLabels

@@ -6,4 +6,3 @@ pub mod Intervals
 pub mod Reduced
 pub mod Divisors
 pub mod Fractions
-pub mod Lists

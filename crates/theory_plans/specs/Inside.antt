@@ -2,7 +2,7 @@
 
 use Rattle.std.specs.Prelude.{pos, ◌*ℤ◌, Bool, false, not, ◌&&◌, int_lt, List, if◌then◌else◌}
 use Rattle.std.specs.List.{list_any}
-use Rattle.theory_numbers.specs.Tests.{is_odd_number}
+use Rattle.theory_lists.specs.Parity.{is_odd_number}
 use Rattle.sb_fraction.specs.declared.point.Point.{Point}
 use Rattle.sb_fraction.specs.Spots.{Spot}
 use Rattle.sb_fraction.specs.Edges.{Edge, turn_at, is_on}
