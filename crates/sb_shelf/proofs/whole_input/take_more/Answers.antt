@@ -1,7 +1,7 @@
 -- A piece goes from what is left to what was taken, and at the end nothing is left.
 use Rattle.std.proofs.Common.{◌<◌, length, arith}
 use Rattle.sb_shelf.proofs.PiecesJoin.{pieces_join, nothing_left}
-use Rattle.sb_shelf.proofs.reading.take_more.Goals as goal
+use Rattle.sb_shelf.proofs.whole_input.take_more.Goals as goal
 
 pub returns-in-Ok-added-clause-joined : goal.returns-in-Ok-added-clause-joined
 returns-in-Ok-added-clause-joined g c =

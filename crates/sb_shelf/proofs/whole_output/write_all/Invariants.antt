@@ -1,7 +1,7 @@
 -- The first bytes of the text stand on the output, as many as were done.
 use Rattle.std.proofs.Common.{length, ◌-◌, ◌≤◌}
 use Rattle.sb_shelf.proofs.PiecesAppend.{IsWriting}
-use Rattle.sb_shelf.proofs.writing.write_all.Given as goal
+use Rattle.sb_shelf.proofs.whole_output.write_all.Given as goal
 
 abbrev pub invariant-turns : goal.invariant-turns
 invariant-turns g l = record {

@@ -2,7 +2,7 @@
 use Rattle.std.proofs.Common.{arith, length-drop}
 use Rattle.std.proofs.lemmas.List.{take_rest}
 use Rattle.sb_shelf.proofs.PiecesAppend.{pieces_append}
-use Rattle.sb_shelf.proofs.writing.write_all.Goals as goal
+use Rattle.sb_shelf.proofs.whole_output.write_all.Goals as goal
 
 pub turns-preserved : goal.turns-preserved
 turns-preserved g c =
@@ -19,5 +19,5 @@ turns-preserved g c =
     record {
       writing =
           pieces_append c.args.out start between now text done count _ rest first keeps appended;
-      within = omega (arith, c.in-Ok.ensures.within, length-drop done text, rest);
+      within = omega (arith, c.in-Ok.ensures.within, length-drop done text);
     }

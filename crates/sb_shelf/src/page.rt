@@ -5,7 +5,7 @@ use std::alloc::{AllocError, Global};
 
 /// The bytes on one output in memory.
 #[derive(Drop)]
-pub(crate) struct Sheet {
+pub(crate) struct Page {
     pub(crate) is_created: bool,
     pub(crate) bytes: Vec<u8>,
     /// How many more bytes may be written.
@@ -14,13 +14,13 @@ pub(crate) struct Sheet {
     ghost room_is_there: { vec_len bytes + room ≤ vec_capacity bytes },
 }
 
-impl Sheet {
+impl Page {
     pub(crate) fn new(alloc: Global, is_created: bool) -> Self
         ensures created { result.is_created ≡ is_created }
         ensures empty { result.bytes.items ≡ [] }
         ensures room { result.room ≡ 0 }
     {
-        Sheet {
+        Page {
             is_created,
             bytes: Vec::new(alloc),
             room: 0,

@@ -2,14 +2,14 @@ ghost use Rattle.std.specs.Prelude.{◌≡◌, ◌<◌, ◌≤◌, ◌↔◌, []
 ghost use Rattle.std.specs.Prelude.{IfOk, IfErr, OnOk, IsErrOf};
 ghost use Rattle.std.specs.Bool.{OnTrue, OnFalse};
 ghost use Rattle.std.specs.Option.{ForSome};
-ghost use Rattle.sb_shelf.specs.Outside.{OnlyReads, Rose};
-ghost use Rattle.sb_shelf.specs.WholeTexts.{IsJudged, taken_and_left};
+ghost use Rattle.sb_shelf.specs.World.{OnlyReads, Rose};
+ghost use Rattle.sb_shelf.specs.WholeTexts.{IsUndisturbed, longest_input, taken_and_left};
 
 use crate::shelf::Shelf;
 use std::alloc::Global;
 use thiserror::Error;
 
-/// The longest input that is taken, in bytes: 64 MiB.
+/// The longest input that is taken, in bytes: 64 MiB. The contract of [`read_all`] fixes it.
 pub const LONGEST_INPUT: usize = 67_108_864;
 
 /// How many bytes one read asks for.
@@ -41,12 +41,12 @@ pub fn read_all<S: Shelf>(alloc: Global, shelf: &mut S, path: &str) -> Result<Ve
     ensures keeps { OnlyReads (S.state shelf.old) (S.state shelf.new) }
     ensures bytes { IfOk result (λ bytes. ForSome ((S.state shelf.old).under path.now)
         (λ told. bytes.items ≡ told)) }
-    ensures within { IfOk result (λ bytes. vec_len bytes ≤ LONGEST_INPUT) }
+    ensures within { IfOk result (λ bytes. vec_len bytes ≤ longest_input) }
     ensures all_taken { OnOk result (ForSome (S.state shelf.new).left (λ left. left ≡ [])) }
     ensures fault { IsErrOf result ReadError.ReadFault
         → Rose (S.state shelf.old).read_faults (S.state shelf.new).read_faults }
-    ensures too_long { ForSome ((S.state shelf.old).under path.now) (λ told. IsJudged result
-        → (IsErrOf result ReadError.TooLong ↔ (LONGEST_INPUT < length told))) }
+    ensures too_long { ForSome ((S.state shelf.old).under path.now) (λ told. IsUndisturbed result
+        → (IsErrOf result ReadError.TooLong ↔ (longest_input < length told))) }
 {
     if shelf.open(path).is_err() {
         return Err(ReadError::ReadFault);
@@ -72,11 +72,11 @@ fn take_more<S: Shelf>(
     bytes: &mut Vec<u8>,
 ) -> Result<bool, ReadError>
     requires piece { 0 < length piece.old }
-    requires within { vec_len bytes.old ≤ LONGEST_INPUT }
+    requires within { vec_len bytes.old ≤ longest_input }
     ensures keeps { OnlyReads (S.state shelf.old) (S.state shelf.new) }
     ensures joined { OnOk result (taken_and_left bytes.new.items (S.state shelf.new)
         ≡ taken_and_left bytes.old.items (S.state shelf.old)) }
-    ensures within { OnOk result (vec_len bytes.new ≤ LONGEST_INPUT) }
+    ensures within { OnOk result (vec_len bytes.new ≤ longest_input) }
     ensures more { IfOk result (λ more. OnTrue more (vec_len bytes.old < vec_len bytes.new)) }
     ensures end { IfOk result (λ more. OnFalse more
         (ForSome (S.state shelf.new).left (λ left. left ≡ []))) }
@@ -84,7 +84,7 @@ fn take_more<S: Shelf>(
         → Rose (S.state shelf.old).read_faults (S.state shelf.new).read_faults }
     ensures too_long { IsErrOf result ReadError.TooLong
         → ForSome (taken_and_left bytes.old.items (S.state shelf.old))
-        (λ all. LONGEST_INPUT < length all) }
+        (λ all. longest_input < length all) }
 {
     let Ok(count) = shelf.read(piece) else {
         return Err(ReadError::ReadFault);

@@ -4,7 +4,7 @@ use Rattle.sb_shelf.specs.declared.shelf.Out.{Out}
 use Rattle.sb_shelf.specs.declared.shelf.Out.TheVariants.{Ifc, Idf, Report, Said}
 
 -- A shelf at one moment. `None` stands where the shelf does not tell.
-pub record Outside : Type 0 where
+pub record World : Type 0 where
   -- the bytes under each path
   pub under : List ℕ → Option (List ℕ)
   -- what is left to read
@@ -33,14 +33,14 @@ abbrev pub Rose : ℕ → ℕ → Type 0
 Rose before now = one_more before ≤ now
 
 -- the count of failed writes to this output
-abbrev pub faults_of : Out → Outside → ℕ
+abbrev pub faults_of : Out → World → ℕ
 faults_of Ifc s = s.file_faults
 faults_of Idf s = s.file_faults
 faults_of Report s = s.file_faults
 faults_of Said s = s.said_faults
 
 -- the count of failed writes that writes to this output do not change
-abbrev pub other_faults_of : Out → Outside → ℕ
+abbrev pub other_faults_of : Out → World → ℕ
 other_faults_of Ifc s = s.said_faults
 other_faults_of Idf s = s.said_faults
 other_faults_of Report s = s.said_faults
@@ -54,19 +54,19 @@ created_of ifc idf report Report = report
 created_of ifc idf report Said = true
 
 -- none of the three files is created
-pub record IsUntouched (s : Outside) : Type 0 where
+pub record IsUntouched (s : World) : Type 0 where
   pub ifc : s.is_created Ifc ≡ false
   pub idf : s.is_created Idf ≡ false
   pub report : s.is_created Report ≡ false
 
 -- an output is as it was
-pub record SameOut (out : Out) (old new : Outside) : Type 0 where
+pub record SameOut (out : Out) (old new : World) : Type 0 where
   pub is_created : new.is_created out ≡ old.is_created out
   pub bytes : new.bytes out ≡ old.bytes out
 
--- Of the outside only what is left to read has changed, and the count of read faults has not
+-- Of the world only what is left to read has changed, and the count of read faults has not
 -- fallen. Whether it is told what is left stays.
-pub record OnlyReads (old new : Outside) : Type 0 where
+pub record OnlyReads (old new : World) : Type 0 where
   pub under : (path : List ℕ) → new.under path ≡ old.under path
   pub tells_left : is_some new.left ≡ is_some old.left
   pub outs : (out : Out) → SameOut out old new
@@ -76,16 +76,16 @@ pub record OnlyReads (old new : Outside) : Type 0 where
 
 -- What can be read is as it was, and so are the other outputs. Whether the bytes on this one are
 -- told stays.
-pub record OnlyOutput (out : Out) (old new : Outside) : Type 0 where
+pub record OnlyOutput (out : Out) (old new : World) : Type 0 where
   pub under : (path : List ℕ) → new.under path ≡ old.under path
   pub left : new.left ≡ old.left
   pub others : (other : Out) → other ≢ out → SameOut other old new
   pub tells_bytes : is_some (new.bytes out) ≡ is_some (old.bytes out)
   pub read_faults : new.read_faults ≡ old.read_faults
 
--- Of the outside only the bytes on this output have changed, and the count of its faults has not
+-- Of the world only the bytes on this output have changed, and the count of its faults has not
 -- fallen. What is created stays.
-pub record OnlyWrites (out : Out) (old new : Outside) : Type 0 where
+pub record OnlyWrites (out : Out) (old new : World) : Type 0 where
   pub output : OnlyOutput out old new
   pub is_created : new.is_created out ≡ old.is_created out
   pub own_faults : faults_of out old ≤ faults_of out new

@@ -1,6 +1,6 @@
 ghost use Rattle.std.specs.Prelude.{◌≡◌, ◌++◌, true, Some, OnOk, OnErr};
 ghost use Rattle.std.specs.Option.{ForSome};
-ghost use Rattle.sb_shelf.specs.Outside.{OnlyWrites, Rose, faults_of};
+ghost use Rattle.sb_shelf.specs.World.{OnlyWrites, Rose, faults_of};
 ghost use Rattle.sb_shelf.specs.WholeTexts.{AppendsFirstOf};
 
 use crate::shelf::{Out, Shelf};
