@@ -25,7 +25,7 @@ use Rattle.sb_model.specs.Corners.{corners_of, level_corner}
 use Rattle.sb_model.specs.Sides.{is_patch}
 use Rattle.sb_model.specs.Solids.{upright}
 use Rattle.sb_model.specs.Spots.{vector}
-use Rattle.sb_report.specs.Texts.{fraction_text, material_text}
+use Rattle.sb_report.specs.Strings.{fraction_text, material_text}
 use Rattle.sb_report.specs.Entries.{three, four, fraction_data, corners_data, item_data, boundary_data}
 use Rattle.sb_report.specs.Conditions.{is_list_of, have_corners}
 use Rattle.sb_report.specs.Report.{report_data, report_of}

@@ -15,7 +15,7 @@ use Rattle.sb_model.specs.declared.walk.Item.{Item}
 use Rattle.sb_model.specs.Spots.{Vector, inner}
 use Rattle.sb_model.specs.Building.{Building, material_of}
 use Rattle.sb_model.specs.Corners.{corners_of}
-use Rattle.sb_report.specs.Texts.{fraction_text, material_text, face_name, end_name}
+use Rattle.sb_report.specs.Strings.{fraction_text, material_text, face_name, end_name}
 use Rattle.sb_report.specs.Normals.{normal_of}
 
 -- a number without a sign

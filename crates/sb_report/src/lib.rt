@@ -11,6 +11,6 @@ mod normal;
 mod report;
 #[cfg(test)]
 mod tests;
-mod text;
+mod strings;
 
 pub use report::report_text;

@@ -8,7 +8,7 @@ ghost use Rattle.sb_model.specs.Plan.{edge};
 ghost use Rattle.sb_model.specs.Loops.{is_plan_point};
 ghost use Rattle.sb_model.specs.Faces.{is_face_of, normal_over as normal_over_edge};
 ghost use Rattle.sb_report.specs.Normals.{normal_of};
-ghost use Rattle.sb_report.specs.Steps.{vector_of, is_short, signed_as};
+ghost use Rattle.sb_report.specs.AxisVectors.{vector_of, is_short, signed_as};
 
 use sb_fraction::{Fraction, Point};
 use sb_model::{Axis, Face, FaceKind, Model};

@@ -3,7 +3,7 @@ use Rattle.std.proofs.Common.{◌≡◌, ◌≤◌, ℕ, true, List, [], ◌∷�
 use Rattle.std.proofs.lemmas.Bool.{le-leb}
 use Rattle.sb_model.specs.declared.boundary.Boundary.{Boundary}
 use Rattle.sb_box.specs.BoxList.{BoxPatch, AreBoxBoundaries}
-use Rattle.sb_run.specs.Answers.{have_rising_spaces}
+use Rattle.sb_run.specs.Messages.{have_rising_spaces}
 
 pub box_boundaries_rise : (from space : ℕ) (ps : List BoxPatch) (bs : List Boundary) → from ≤ space
     → AreBoxBoundaries space ps bs → have_rising_spaces from bs ≡ true

@@ -1,3 +1,4 @@
+-- Lemmas, each file a claim.
 mod SpacesEndWhereTheyChange
 mod CreatedIsEmptyFirst
 mod BoxListRises

@@ -9,8 +9,7 @@ pub record Command : Type 0 where
 
 -- a value is not empty and does not begin with `-`
 abbrev pub is_value : List ℕ → Bool
-is_value [] = false
-is_value (first ∷ others) = not (first == 45)
+is_value word = not (bytes_eq word []) && not (bytes_eq (take 1 word) (codes "-"))
 
 -- `demo:3` is no path
 abbrev pub is_generated : List ℕ → Bool

@@ -1,6 +1,6 @@
 // The answers of the program and their statuses.
 ghost use Rattle.std.specs.Prelude.{◌≡◌};
-ghost use Rattle.sb_run.specs.Answers.{status};
+ghost use Rattle.sb_run.specs.Statuses.{status};
 
 use sb_model::Boundaries;
 

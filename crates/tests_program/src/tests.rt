@@ -2,7 +2,7 @@
 // and written for it. The texts are worked by hand.
 ghost use Rattle.std.specs.Prelude.{◌≡◌, ◌<◌, IfOk};
 ghost use Rattle.sb_shelf.specs.Memory.{memory_state};
-ghost use Rattle.sb_shelf.specs.Outside.{IsUntouched};
+ghost use Rattle.sb_shelf.specs.World.{IsUntouched};
 
 use sb_list::Text;
 use sb_run::{run, status};
