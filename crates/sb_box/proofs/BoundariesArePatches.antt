@@ -10,8 +10,8 @@ use Rattle.sb_model.specs.Spots.{Spot}
 use Rattle.sb_model.specs.Faces.{Surface, times_w}
 use Rattle.sb_model.specs.Patches.{is_same_kind, is_in_patch}
 use Rattle.sb_model.specs.Covers.{is_top_at}
-use Rattle.theory_numbers.specs.Lists.{Stands, AllOfTwo}
-use Rattle.sb_model.specs.Places.{ExactlyOne}
+use Rattle.theory_lists.specs.Members.{Stands, AllOfTwo}
+use Rattle.theory_lists.specs.OneOf.{ExactlyOne}
 use Rattle.theory_models.proofs.PatchesBetweenLevels.{is_in_window, in_levels}
 use Rattle.sb_box.specs.declared.extent.Extent.{Extent}
 use Rattle.sb_box.specs.BoxList.{BoxPatch, IsBoxBoundary, AreBoxBoundaries}

@@ -24,7 +24,7 @@ use Rattle.sb_model.specs.Corners.{whole}
 use Rattle.sb_model.specs.Faces.{Surface, surface_of, space_numbered, has_face, is_of_face, times_w}
 use Rattle.sb_model.specs.PlainPoints.{is_plain}
 use Rattle.sb_model.specs.Patches.{is_same_kind, is_in_patch, is_child_of, is_number}
-use Rattle.theory_numbers.specs.Lists.{Stands}
+use Rattle.theory_lists.specs.Members.{Stands}
 use Rattle.sb_model.specs.Places.{boundary_at}
 use Rattle.sb_model.specs.Covers.{Covers, CoversFace, is_top_at}
 use Rattle.sb_model.specs.Trimmed.{AreTopsTrimmed, AreTrimmed}
@@ -33,8 +33,10 @@ use Rattle.sb_model.specs.Nested.{IsNested, Opens, is_child_at}
 use Rattle.sb_model.specs.Order.{IsInOrder, IsBefore, rank_of}
 use Rattle.sb_model.specs.Sound.{IsSound}
 use Rattle.theory_models.proofs.PatchesBetweenLevels.{is_in_window}
-use Rattle.theory_models.proofs.ListsInBlocks.{all_stands, stands_with_id, some_is, none_is_not_some}
-use Rattle.theory_models.proofs.ListsInBlocks.{none_where}
+use Rattle.theory_models.proofs.BoundariesById.{stands_with_id}
+use Rattle.std.proofs.lemmas.Option.{same_Some, none-some}
+use Rattle.theory_lists.proofs.Members.{all_stands}
+use Rattle.theory_lists.proofs.Blocks.{none_where}
 use Rattle.theory_models.proofs.PassagesOfRays.{LooksOut, looks_out_walk, looks_out_not_opened}
 use Rattle.sb_box.specs.declared.extent.Extent.{Extent}
 use Rattle.sb_box.specs.BoxList.{BoxPatch, box_patches, IsBoxBoundary, IsBoxList}
@@ -64,29 +66,29 @@ rising_box e = record {
 pub face_facts : (s : Besides) (n : ℕ) (e : Extent) → IsRising e → (k : FaceKind) (f : Surface)
     → surface_of (prism_of e) k ≡ Some f → FaceFacts s n e k f
 face_facts s n e rising kind.Bottom f is =
-    subst (FaceFacts s n e kind.Bottom) (some_is _ f is) (bottom_facts s n e rising)
+    subst (FaceFacts s n e kind.Bottom) (same_Some _ f is) (bottom_facts s n e rising)
 face_facts s n e rising kind.Top f is =
-    subst (FaceFacts s n e kind.Top) (some_is _ f is) (top_facts s n e rising)
+    subst (FaceFacts s n e kind.Top) (same_Some _ f is) (top_facts s n e rising)
 face_facts s n e rising (kind.Side zero) f is =
     let side = first_side s n e rising in
-    subst (FaceFacts s n e (kind.Side 0)) (sym side.surface ∙ some_is _ f is)
+    subst (FaceFacts s n e (kind.Side 0)) (sym side.surface ∙ same_Some _ f is)
     (side_facts s n e 0 _ _ e.x0 e.x1 side refl (first_parts e rising.z) (first_once e))
 face_facts s n e rising (kind.Side (suc zero)) f is =
     let side = second_side s n e rising in
-    subst (FaceFacts s n e (kind.Side 1)) (sym side.surface ∙ some_is _ f is)
+    subst (FaceFacts s n e (kind.Side 1)) (sym side.surface ∙ same_Some _ f is)
     (side_facts s n e 1 _ _ e.y0 e.y1 side refl (second_parts e rising.z) (second_once e))
 face_facts s n e rising (kind.Side (suc (suc zero))) f is =
     let side = third_side s n e rising in
-    subst (FaceFacts s n e (kind.Side 2)) (sym side.surface ∙ some_is _ f is)
+    subst (FaceFacts s n e (kind.Side 2)) (sym side.surface ∙ same_Some _ f is)
     (side_facts s n e 2 _ _ e.x0 e.x1 side refl (third_parts e rising.z) (third_once e))
 face_facts s n e rising (kind.Side (suc (suc (suc zero)))) f is =
     let side = fourth_side s n e rising in
-    subst (FaceFacts s n e (kind.Side 3)) (sym side.surface ∙ some_is _ f is)
+    subst (FaceFacts s n e (kind.Side 3)) (sym side.surface ∙ same_Some _ f is)
     (side_facts s n e 3 _ _ e.y0 e.y1 side refl (fourth_parts e rising.z) (fourth_once e))
 face_facts s n e rising (kind.Side (suc (suc (suc (suc zero))))) f is =
-    absurd (none_is_not_some f is)
+    absurd (none-some f is)
 face_facts s n e rising (kind.Side (suc (suc (suc (suc (suc k)))))) f is =
-    absurd (none_is_not_some f is)
+    absurd (none-some f is)
 
 covers_face : (s : Besides) (n : ℕ) (e : Extent) (k : FaceKind) (f : Surface) (list : List Boundary)
     → FaceFacts s n e k f → IsBoxList n e list
@@ -99,12 +101,12 @@ covers_face s n e k f list facts are = record {
   inside = λ p positive plane b at top.
       let h = has_patch n (box_patches e) list b are at in
       all_stands (λ q. lies_in k f p q ≡ true → is_of_face (prism_of e) k p ≡ true)
-      (box_patches e) h.patch
+      h.patch (box_patches e)
       (facts.inside p positive plane) h.there (sym (top_is s n e k f p h.patch b h.is) ∙ top);
   walks = λ p positive plain b at top.
       let h = has_patch n (box_patches e) list b are at in
       let l = all_stands (λ q. lies_in k f p q ≡ true → LooksOut (box_model s n e) f p q.end)
-      (box_patches e) h.patch
+      h.patch (box_patches e)
       (facts.looks p positive plain) h.there (sym (top_is s n e k f p h.patch b h.is) ∙ top) in
       looks_out_walk (box_model s n e) f p h.patch.end b.walk l h.is.items h.is.depth h.is.end;
 }
@@ -125,7 +127,7 @@ box_covers s n e list are = record {
       ∙ ap (λ (o : Option Space). has_face o b.patch.face.kind) (space_found s n e)
       ∙ ap (λ (k : FaceKind). has_face (Some (box_space s n e)) k) h.is.of_face
       ∙ all_stands (λ q. has_face (Some (box_space s n e)) q.kind ≡ true)
-      (box_patches e) h.patch kinds h.there;
+      h.patch (box_patches e) kinds h.there;
   faces = λ t at k f surface.
       let same : t ≡ box_space s n e = ⊎_elim (λ e. e) (λ none. absurd none) at in
       subst (λ (t : Space). CoversFace (box_model s n e) list t k f) (sym same)
@@ -169,7 +171,7 @@ box_paired s n e list are = λ id b at.
     let h = has_patch n (box_patches e) list b are (stands_with_id list id b at) in
     open_is_paired (box_model s n e) list b id
     (subst IsOpen (sym h.is.end)
-    (all_stands (λ q. IsOpen q.end) (box_patches e) h.patch (all_open e) h.there))
+    (all_stands (λ q. IsOpen q.end) h.patch (box_patches e) (all_open e) h.there))
     h.is.pair
 
 same_kind_itself : (k : FaceKind) → is_same_kind k k ≡ true
@@ -186,7 +188,7 @@ looks_out_at : (s : Besides) (n : ℕ) (e : Extent) (list : List Boundary) → I
 looks_out_at s n e list are a h f surface p positive plain inside =
     let k = a.patch.face.kind in
     all_stands (λ q. lies_in k f p q ≡ true → LooksOut (box_model s n e) f p q.end)
-    (box_patches e) h.patch
+    h.patch (box_patches e)
     ((face_facts s n e (rising_box e) k f surface).looks p positive plain) h.there
     (and_from (is_same_kind h.patch.kind k)
     (is_in_window h.patch.low h.patch.high h.patch.lower h.patch.upper (times_w p f.across)
@@ -201,7 +203,7 @@ no_child : (n : ℕ) (e : Extent) (list : List Boundary) → IsBoxList n e list 
 no_child n e list are b at = (has_patch n (box_patches e) list b are at).is.parent
 
 childless : (b : Boundary) (id : ℕ) → b.parent ≡ None → b.parent ≡ Some id → ⊥
-childless b id none some = none_is_not_some id (sym none ∙ some)
+childless b id none some = none-some id (sym none ∙ some)
 
 no_children : (n : ℕ) (e : Extent) (list : List Boundary) → IsBoxList n e list
     → (f : Surface) (id : ℕ) (p : Spot)
@@ -219,7 +221,7 @@ box_opens s n e list are id a at = λ t found f surface p positive plain inside.
     let m = box_model s n e in
     let h = has_patch n (box_patches e) list a are (stands_with_id list id a at) in
     let same : box_space s n e ≡ t =
-    some_is (box_space s n e) t
+    same_Some (box_space s n e) t
     (sym (space_found s n e) ∙ ap (space_numbered m) (sym h.is.of_space) ∙ found) in
     let own_surface = ap (λ (t : Space). surface_of t.prism a.patch.face.kind) same ∙ surface in
     let own_plain = ap (λ (t : Space). is_plain m t.prism a.patch.face.kind p) same ∙ plain in

@@ -27,9 +27,9 @@ use Rattle.sb_model.specs.Labels.{label_at, open_label}
 use Rattle.sb_model.specs.Faces.{Surface, side_over, direction_of, times_w, is_in_plane, is_of_face}
 use Rattle.sb_model.specs.Faces.{is_of_side, edge_numbered, bottom_of, top_of, axis_z}
 use Rattle.sb_model.specs.Patches.{is_same_kind}
-use Rattle.sb_model.specs.Places.{ExactlyOne}
+use Rattle.theory_lists.specs.OneOf.{ExactlyOne}
 use Rattle.theory_models.proofs.PatchesBetweenLevels.{is_in_window}
-use Rattle.theory_models.proofs.ListsInBlocks.{all_weaker}
+use Rattle.theory_lists.proofs.Members.{all_follow}
 use Rattle.theory_models.proofs.PassagesOfRays.{LooksOut, one_passage}
 use Rattle.sb_box.specs.declared.extent.Extent.{Extent}
 use Rattle.sb_box.specs.BoxList.{BoxPatch, box_patches, box_patch, above, below}
@@ -107,13 +107,13 @@ level_facts s n e k f found one alone on of out = record {
   once = λ p positive plain.
       one (times_w p f.across) (times_w p f.up) p.w (on p positive (plain_of_face s n e k p plain));
   inside = λ p positive plane.
-      all_weaker (OnFace k (λ q. q ≡ box_patch k e.x0 e.x1 e.y0 e.y1 found))
-      (λ q. lies_in k f p q ≡ true → is_of_face (prism_of e) k p ≡ true)
+      all_follow {P = OnFace k (λ q. q ≡ box_patch k e.x0 e.x1 e.y0 e.y1 found)}
+      {Q = λ q. lies_in k f p q ≡ true → is_of_face (prism_of e) k p ≡ true}
       (λ q own lies. of p positive plane (lies_over e k f found p q own lies))
       (box_patches e) alone;
   looks = λ p positive plain.
-      all_weaker (OnFace k (λ q. q ≡ box_patch k e.x0 e.x1 e.y0 e.y1 found))
-      (λ q. lies_in k f p q ≡ true → LooksOut (box_model s n e) f p q.end)
+      all_follow {P = OnFace k (λ q. q ≡ box_patch k e.x0 e.x1 e.y0 e.y1 found)}
+      {Q = λ q. lies_in k f p q ≡ true → LooksOut (box_model s n e) f p q.end}
       (λ q own lies.
       subst (λ (met : End). LooksOut (box_model s n e) f p met)
       (sym (ap (λ (t : BoxPatch). t.end) (own (lies_tells k f p q lies).0)))
@@ -286,14 +286,14 @@ side_facts s n e j side f low high is numbered parts one = record {
         off = rw z on.off_ground;
       });
   inside = λ p positive plane.
-      all_weaker (OnFace (kind.Side j) (IsPart (kind.Side j) low high e.z0 e.z1))
-      (λ q. lies_in (kind.Side j) f p q ≡ true → is_of_face (prism_of e) (kind.Side j) p ≡ true)
+      all_follow {P = OnFace (kind.Side j) (IsPart (kind.Side j) low high e.z0 e.z1)}
+      {Q = λ q. lies_in (kind.Side j) f p q ≡ true → is_of_face (prism_of e) (kind.Side j) p ≡ true}
       (λ q own lies. of_side p positive plane q (own (lies_tells (kind.Side j) f p q lies).0) lies)
       (box_patches e) parts;
   looks = λ p positive plain.
       let on = plain_tells s n e j side f p numbered is.surface plain in
-      all_weaker (OnFace (kind.Side j) (IsPart (kind.Side j) low high e.z0 e.z1))
-      (λ q. lies_in (kind.Side j) f p q ≡ true → LooksOut (box_model s n e) f p q.end)
+      all_follow {P = OnFace (kind.Side j) (IsPart (kind.Side j) low high e.z0 e.z1)}
+      {Q = λ q. lies_in (kind.Side j) f p q ≡ true → LooksOut (box_model s n e) f p q.end}
       (λ q own lies.
       let part = own (lies_tells (kind.Side j) f p q lies).0 in
       let at = in_part e (kind.Side j) f low high p q is.up_is part lies in

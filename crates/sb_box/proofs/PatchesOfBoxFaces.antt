@@ -15,12 +15,13 @@ use Rattle.sb_model.specs.declared.walk.End.{End}
 use Rattle.sb_model.specs.declared.walk.End.TheVariants as end
 use Rattle.sb_model.specs.Patches.{is_same_kind}
 use Rattle.sb_model.specs.Order.{rank_of}
-use Rattle.theory_numbers.specs.Lists.{AllOfTwo}
-use Rattle.sb_model.specs.Places.{ExactlyOne}
+use Rattle.theory_lists.specs.Members.{AllOfTwo}
+use Rattle.theory_lists.specs.OneOf.{ExactlyOne}
 use Rattle.theory_models.proofs.PatchesBetweenLevels.{is_in_window}
-use Rattle.theory_models.proofs.ListsInBlocks.{none-append, none_where, first_alone, one_behind}
-use Rattle.theory_models.proofs.ListsInBlocks.{one_in_first, one_in_second, all-append, all_weaker}
-use Rattle.theory_models.proofs.ListsInBlocks.{two-append}
+use Rattle.theory_lists.proofs.Blocks.{none-append, none_where, first_alone, one_behind}
+use Rattle.theory_lists.proofs.Blocks.{one_in_first, one_in_second, all-append}
+use Rattle.theory_lists.proofs.Members.{all_follow}
+use Rattle.theory_lists.proofs.Blocks.{two-append}
 use Rattle.sb_box.specs.declared.extent.Extent.{Extent}
 use Rattle.sb_box.specs.BoxList.{BoxPatch, box_patch, box_patches, side_patches, is_cut, below}
 use Rattle.sb_box.specs.BoxList.{above}
@@ -264,7 +265,7 @@ other_side k face Q low high z0 z1 other =
 own_side : (k : FaceKind) (low high z0 z1 : ℤ) → z0 <ℤ z1
     → AllByRecursion (OnFace k (IsPart k low high z0 z1)) (side_patches k low high z0 z1)
 own_side k low high z0 z1 rising =
-    all_weaker (IsPart k low high z0 z1) (OnFace k (IsPart k low high z0 z1)) (λ p part same. part)
+    all_follow {P = IsPart k low high z0 z1} {Q = OnFace k (IsPart k low high z0 z1)} (λ p part same. part)
     (side_patches k low high z0 z1) (side_is_parts k low high z0 z1 rising)
 
 -- the one patch of Bottom
@@ -507,7 +508,7 @@ before_all face low high z0 z1 ys higher =
   where
     ahead : (p : BoxPatch) → AllByRecursion (λ q. rank_of p.kind < rank_of q.kind) ys
         → AllByRecursion (Precedes p) ys
-    ahead p all = all_weaker (λ q. rank_of p.kind < rank_of q.kind) (Precedes p)
+    ahead p all = all_follow {P = λ q. rank_of p.kind < rank_of q.kind} {Q = Precedes p}
         (λ q h. inl h) ys all
 
 rank_of_side : (n : ℕ) (k : ℕ) (low high z0 z1 : ℤ) → n < 2 + k
@@ -545,11 +546,11 @@ each_two e =
     let rest = side_0 e ++ (side_1 e ++ (side_2 e ++ side_3 e)) in (
       (
         inl (omega arith),
-        all_weaker (λ q. 0 < rank_of q.kind) (Precedes (bottom e))
+        all_follow {P = λ q. 0 < rank_of q.kind} {Q = Precedes (bottom e)}
             (λ q h. inl h) rest (r0 0 (omega arith)),
       ),
       (
-        all_weaker (λ q. 1 < rank_of q.kind) (Precedes (top e)) (λ q h. inl h) rest
+        all_follow {P = λ q. 1 < rank_of q.kind} {Q = Precedes (top e)} (λ q h. inl h) rest
             (r0 1 (omega arith)),
         sides,
       ),

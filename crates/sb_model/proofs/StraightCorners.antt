@@ -16,7 +16,7 @@ use Rattle.sb_fraction.proofs.LowestTerms.{reduced-lowest, reduced-multiple}
 use Rattle.sb_fraction.specs.declared.point.Point.{Point}
 use Rattle.theory_plane.specs.Sides.{LineSide}
 use Rattle.theory_plane.specs.Regions.{is_region}
-use Rattle.theory_numbers.specs.Tests.{differ}
+use Rattle.theory_lists.specs.Parity.{differ}
 use Rattle.theory_numbers.proofs.Signs.{less_from, same_less}
 use Rattle.theory_numbers.proofs.Shapes.{var, num, plus, minus, times, equal}
 use Rattle.theory_numbers.proofs.Ring.{mul-one, one-mul}

@@ -4,7 +4,7 @@ use Rattle.std.specs.Prelude.{ℤ, pos, ◌+ℤ◌, ◌-ℤ◌, ◌*ℤ◌, Bool
 use Rattle.std.specs.Prelude.{if◌then◌else◌}
 use Rattle.std.specs.Ordering.{int_eq}
 use Rattle.sb_fraction.specs.Ratio.{Ratio, reduced}
-use Rattle.theory_numbers.specs.Tests.{differ}
+use Rattle.theory_lists.specs.Parity.{differ}
 use Rattle.theory_plane.specs.Sides.{LineSide}
 use Rattle.sb_model.specs.declared.corner.Corner.{Corner}
 use Rattle.sb_model.specs.declared.corner.Corners.{Corners}

@@ -11,8 +11,8 @@ use Rattle.sb_model.specs.Faces.{Surface, surface_of, is_in_plane, is_of_face, i
 use Rattle.sb_model.specs.PlainPoints.{is_plain}
 use Rattle.sb_model.specs.Walks.{IsWalk}
 use Rattle.sb_model.specs.Patches.{is_in_patch, is_top_level, stands_on}
-use Rattle.theory_numbers.specs.Lists.{Stands}
-use Rattle.sb_model.specs.Places.{ExactlyOne}
+use Rattle.theory_lists.specs.Members.{Stands}
+use Rattle.theory_lists.specs.OneOf.{ExactlyOne}
 
 -- a top-level boundary of this face whose patch contains the point
 abbrev pub is_top_at : Space → FaceKind → Surface → Spot → Boundary → Bool

@@ -10,8 +10,9 @@ use Rattle.sb_model.specs.Building.{Building}
 use Rattle.sb_model.specs.Faces.{Surface, surface_of, space_numbered}
 use Rattle.sb_model.specs.PlainPoints.{is_plain}
 use Rattle.sb_model.specs.Patches.{region_of, is_in_patch, is_child_of}
-use Rattle.theory_numbers.specs.Lists.{Stands, AllOfTwo}
-use Rattle.sb_model.specs.Places.{ExactlyOne, NoneOf, boundary_at}
+use Rattle.theory_lists.specs.Members.{Stands, AllOfTwo}
+use Rattle.sb_model.specs.Places.{boundary_at}
+use Rattle.theory_lists.specs.OneOf.{ExactlyOne, NoneOf}
 use Rattle.sb_model.specs.Trimmed.{AreTrimmed}
 use Rattle.sb_model.specs.OpenedPoints.{IsOpened, IsKey}
 

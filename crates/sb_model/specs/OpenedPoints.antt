@@ -19,7 +19,7 @@ use Rattle.sb_model.specs.Faces.{Surface}
 use Rattle.sb_model.specs.Passages.{Ray, ray_from, at_depth, ArePassages, passages_of, Piece}
 use Rattle.sb_model.specs.Passages.{pieces_of, start_of, end_of}
 use Rattle.sb_model.specs.Walks.{Course, Goes, stop_at}
-use Rattle.theory_numbers.specs.Lists.{Stands}
+use Rattle.theory_lists.specs.Members.{Stands}
 
 -- a crossing of an element in a walk, between two depths
 pub record Crossing : Type 0 where

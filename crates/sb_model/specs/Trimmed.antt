@@ -10,7 +10,7 @@ use Rattle.sb_model.specs.Building.{Building}
 use Rattle.sb_model.specs.PlanEdges.{is_abscissa}
 use Rattle.sb_model.specs.Faces.{Surface}
 use Rattle.sb_model.specs.Patches.{region_of, surface_at}
-use Rattle.theory_numbers.specs.Lists.{AllOfTwo}
+use Rattle.theory_lists.specs.Members.{AllOfTwo}
 
 -- two patches of one face
 pub record AreTrimmed (m : Building) (p q : Patch) : Type 0 where

@@ -7,7 +7,7 @@ use Rattle.std.proofs.lemmas.Int.{ints}
 use Rattle.std.proofs.lemmas.Bool.{and_from, true≢false, false≢true}
 use Rattle.std.proofs.lemmas.Int.{by_lt_z}
 use Rattle.theory_numbers.specs.Arrows.{cross, dot}
-use Rattle.theory_numbers.specs.Tests.{differ, is_odd_number}
+use Rattle.theory_lists.specs.Parity.{differ, is_odd_number}
 use Rattle.theory_numbers.proofs.Shapes.{var, num, minus, times, equal}
 use Rattle.theory_numbers.proofs.Signs.{less_from, test_less, test_not_less, test_at_most, same_less}
 use Rattle.theory_numbers.proofs.Ring.{mul_comm}

@@ -7,4 +7,4 @@ pub mod EdgesAlongAxes
 pub mod PassagesOfRays
 -- patches and lists
 pub mod PatchesBetweenLevels
-pub mod ListsInBlocks
+pub mod BoundariesById

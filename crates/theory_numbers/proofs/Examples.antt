@@ -3,7 +3,8 @@ use Rattle.std.proofs.Common.{◌≡◌, refl, arith, true, false, List, [], ◌
 use Rattle.std.proofs.Common.{◌≤◌, ◌+ℤ◌, ◌-ℤ◌, ◌*ℤ◌, ◌<ℤ◌, ◌≤ℤ◌}
 use Rattle.std.proofs.lemmas.Int.{ints}
 use Rattle.std.proofs.Math.Nat.{dvd-mul_right, le_of_dvd}
-use Rattle.theory_numbers.specs.Tests.{is_positive, is_odd_number}
+use Rattle.theory_numbers.specs.Tests.{is_positive}
+use Rattle.theory_lists.specs.Parity.{is_odd_number}
 use Rattle.theory_numbers.specs.Arrows.{Arrow, arrow, cross, dot}
 use Rattle.theory_numbers.specs.Rationals.{rational, IsSame, is_below, mediant}
 use Rattle.theory_numbers.specs.Rationals.{zero_of, value_at, form_of}

@@ -12,8 +12,6 @@ pub mod Products
 pub mod Arrows
 -- three terms, cycle, the frame of a direction
 pub mod ThreeTerms
--- exclusive or, and parities of lists
-pub mod Folds
 -- signs as Boolean variables
 pub mod SignTables
 -- order, mediant, a form between two numbers, its one zero

@@ -3,11 +3,12 @@
 use Rattle.std.proofs.Common.{◌≡◌, refl, ◌∙◌, Bool, true, false, not, ◌&&◌, arith}
 use Rattle.std.proofs.Common.{ℤ, pos, ◌≤ℤ◌, ◌*ℤ◌, cond}
 use Rattle.std.proofs.lemmas.Int.{ints}
-use Rattle.theory_numbers.specs.Tests.{is_positive, differ}
+use Rattle.theory_numbers.specs.Tests.{is_positive}
+use Rattle.theory_lists.specs.Parity.{differ}
 use Rattle.theory_numbers.proofs.Signs.{less_from, not_less_from}
 use Rattle.theory_numbers.proofs.Products.{positive_product, weak_product_of_negatives}
 use Rattle.theory_numbers.proofs.Products.{weak_negative_product}
-use Rattle.theory_numbers.proofs.Folds.{differ-self, differ-false, differ-opposite}
+use Rattle.theory_lists.proofs.Parity.{differ-self, differ-false, differ-opposite}
 use Rattle.theory_numbers.proofs.Ring.{mul_comm}
 
 alike_bits : (a b : ℤ) (s t : Bool) → is_positive a ≡ s → is_positive b ≡ t → s ≡ t

@@ -4,4 +4,3 @@ pub mod Arrows
 pub mod Rationals
 pub mod Intervals
 pub mod Reduced
-pub mod Lists

@@ -9,7 +9,7 @@ use Rattle.theory_numbers.proofs.Rationals.{same_sym}
 use Rattle.theory_plane.specs.Sides.{clearance_at}
 use Rattle.theory_plane.specs.Regions.{Region, IsRegion}
 use Rattle.theory_plane.proofs.Regions.{open_between}
-use Rattle.theory_numbers.specs.Lists.{Stands}
+use Rattle.theory_lists.specs.Members.{Stands}
 use Rattle.theory_patches.specs.Marked.{MarkedPatch, IsPatch}
 use Rattle.theory_patches.specs.Sheets.{Sheet}
 use Rattle.theory_patches.proofs.NoneBetween.{IsFreeBefore, IsFreeAfter, free_before, free_after}

@@ -11,7 +11,7 @@ use Rattle.theory_numbers.proofs.Rationals.{below_trans, number_cases, same_sym,
 use Rattle.theory_plane.specs.Sides.{level, clearance}
 use Rattle.theory_plane.specs.Points.{FacePoint, IsFacePoint, abscissa_of, is_above_side, is_under_side}
 use Rattle.theory_plane.specs.Regions.{is_region, is_inside, is_seam}
-use Rattle.theory_numbers.specs.Lists.{Stands}
+use Rattle.theory_lists.specs.Members.{Stands}
 use Rattle.theory_patches.specs.Marked.{MarkedPatch}
 use Rattle.theory_patches.specs.Sheets.{IsMarkedAt, ArePlainOffCuts, HaveSameMarks}
 use Rattle.theory_patches.specs.Trimmed.{AreApart, AreTrimmed, IsTrimmedList}

@@ -15,7 +15,7 @@ use Rattle.theory_plane.specs.Regions.{is_region}
 use Rattle.theory_plane.specs.Regions.{closures_meet, is_reached, reaches_under}
 use Rattle.theory_plane.proofs.Regions.{region_from}
 use Rattle.theory_plane.proofs.Closures.{test_from_common, common_from_test}
-use Rattle.theory_numbers.specs.Lists.{Stands}
+use Rattle.theory_lists.specs.Members.{Stands}
 use Rattle.theory_patches.specs.Marked.{MarkedPatch, IsPatch}
 use Rattle.theory_patches.specs.Sheets.{Sheet, IsSheet, IsNoAbscissa, IsMarkedAt}
 use Rattle.theory_patches.specs.Trimmed.{AreApart, HaveNoSeam, IsTrimmedList}

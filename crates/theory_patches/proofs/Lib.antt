@@ -1,7 +1,5 @@
 -- The laws by topic, in the order of the proof of the law of patches.
 
--- items of a list, and two items of it
-pub mod Lists
 -- intervals without a number of a list
 pub mod NoneBetween
 -- intervals of one line: one of them covers what all cover
@@ -18,8 +16,7 @@ pub mod SameLines
 pub mod OneIfTouching
 -- patches of the other list are at least as long
 pub mod AsLong
--- lists with the same members; no patch twice
-pub mod SameMembers
+-- no patch twice
 pub mod StandsOnce
 -- the law itself
 pub mod OneList

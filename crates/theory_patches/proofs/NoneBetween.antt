@@ -12,8 +12,8 @@ use Rattle.theory_numbers.proofs.Rationals.{below_or_not}
 use Rattle.theory_numbers.proofs.Clear.{clear_to, clear_from}
 use Rattle.theory_numbers.proofs.Avoid.{IsOther, not_zero_where_kept, value-form_of}
 use Rattle.theory_numbers.proofs.Avoid.{form_of_is_form}
-use Rattle.theory_numbers.specs.Lists.{Stands}
-use Rattle.theory_patches.proofs.Lists.{all_stands}
+use Rattle.theory_lists.specs.Members.{Stands}
+use Rattle.theory_lists.proofs.Members.{all_stands}
 
 -- no number of the list lies strictly between r and t
 abbrev pub IsNoneBetween : Arrow → Arrow → List Arrow → Type 0

@@ -18,7 +18,7 @@ use Rattle.theory_plane.specs.Sides.{clearance_at, is_same_side}
 use Rattle.theory_plane.specs.Regions.{Region, IsRegion, is_seam, have_same_sides}
 use Rattle.theory_plane.proofs.SameSide.{same_side_decides}
 use Rattle.theory_plane.proofs.Regions.{open_between}
-use Rattle.theory_numbers.specs.Lists.{Stands}
+use Rattle.theory_lists.specs.Members.{Stands}
 use Rattle.theory_patches.specs.Marked.{MarkedPatch}
 use Rattle.theory_patches.specs.Sheets.{Sheet, IsSheet}
 use Rattle.theory_patches.proofs.Spaced.{IsOver, AreSpaced, IsSpacedList, patch_there}

@@ -9,8 +9,8 @@ use Rattle.theory_numbers.proofs.Rationals.{below_trans, below_irrefl}
 use Rattle.theory_numbers.proofs.Rationals.{at_most_below_trans, below_at_most_trans}
 use Rattle.theory_numbers.proofs.Rationals.{at_most_from_below, mediant-IsRational, mediant_between}
 use Rattle.theory_numbers.proofs.Avoid.{IsOther, another_is}
-use Rattle.theory_numbers.specs.Lists.{Stands}
-use Rattle.theory_patches.proofs.Lists.{all_stands}
+use Rattle.theory_lists.specs.Members.{Stands}
+use Rattle.theory_lists.proofs.Members.{all_stands}
 use Rattle.theory_patches.proofs.NoneBetween.{IsFreeBefore, IsFreeAfter, free_before}
 use Rattle.theory_patches.proofs.NoneBetween.{free_after, other_between, beyond_end}
 use Rattle.theory_patches.proofs.NoneBetween.{before_start, at_least_if_not_below}

@@ -10,11 +10,11 @@ use Rattle.theory_numbers.proofs.Rationals.{at_most_below_trans, below_at_most_t
 use Rattle.theory_plane.specs.Sides.{LineSide}
 use Rattle.theory_plane.specs.Points.{FacePoint}
 use Rattle.theory_plane.specs.Regions.{Region}
-use Rattle.theory_numbers.specs.Lists.{Stands}
+use Rattle.theory_lists.specs.Members.{Stands}
 use Rattle.theory_patches.specs.Marked.{MarkedPatch, IsPatch}
 use Rattle.theory_patches.specs.Sheets.{Sheet}
 use Rattle.theory_patches.specs.Laws.{CoverAlike, HaveSamePatches, HasLawOfPatches, HasOneListOfPatches}
-use Rattle.theory_patches.proofs.SameMembers.{permuted_if_same_members}
+use Rattle.theory_lists.proofs.SameMembers.{permuted_if_same_members}
 use Rattle.theory_patches.proofs.StandsOnce.{stands_once}
 use Rattle.theory_patches.proofs.Spaced.{patch_there}
 use Rattle.theory_patches.proofs.SameLines.{same_lines}

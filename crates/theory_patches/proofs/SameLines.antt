@@ -12,10 +12,10 @@ use Rattle.theory_numbers.proofs.Rationals.{at_most_below_trans, below_at_most_t
 use Rattle.theory_numbers.proofs.Avoid.{IsOffZero, avoiding_is, value-form_of, form_of_is_form}
 use Rattle.theory_plane.specs.Sides.{LineSide, IsReducedSide, clearance, clearance_at, is_same_side}
 use Rattle.theory_plane.proofs.SameSide.{same_side_decides, other_side_is_form}
-use Rattle.theory_numbers.specs.Lists.{Stands}
+use Rattle.theory_lists.specs.Members.{Stands}
 use Rattle.theory_patches.specs.Marked.{MarkedPatch, IsPatch}
 use Rattle.theory_patches.specs.Sheets.{Sheet, IsNoAbscissa}
-use Rattle.theory_patches.proofs.Lists.{all_of_images, all_images, all_follow}
+use Rattle.theory_lists.proofs.Members.{all_of_images, all_images, all_follow}
 use Rattle.theory_patches.proofs.Spaced.{patch_there}
 use Rattle.theory_patches.proofs.CutLine.{IsOnLine, cut_line}
 use Rattle.theory_patches.proofs.SamePoints.{AreTwoCovers}

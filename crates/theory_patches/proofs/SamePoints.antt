@@ -6,11 +6,11 @@ use Rattle.theory_numbers.specs.Arrows.{Arrow, cross}
 use Rattle.theory_numbers.specs.Rationals.{IsRational, IsSame}
 use Rattle.theory_plane.specs.Sides.{LineSide, value_on}
 use Rattle.theory_plane.specs.Regions.{IsInner}
-use Rattle.theory_numbers.specs.Lists.{Stands}
+use Rattle.theory_lists.specs.Members.{Stands}
 use Rattle.theory_patches.specs.Marked.{MarkedPatch}
 use Rattle.theory_patches.specs.Sheets.{Sheet, IsSheet, IsNoAbscissa, IsOffCuts, IsMarkedAt}
 use Rattle.theory_patches.specs.Sheets.{ArePlainOffCuts}
-use Rattle.theory_patches.proofs.Lists.{all_follow}
+use Rattle.theory_lists.proofs.Members.{all_follow}
 use Rattle.theory_patches.proofs.Spaced.{IsSpacedList, trimmed_is_spaced}
 use Rattle.std.proofs.lemmas.Bool.{false_from_ne_true}
 use Rattle.theory_numbers.proofs.Shapes.{var, plus, times, equal, cross_by, cross_is}

@@ -10,11 +10,11 @@ use Rattle.theory_numbers.proofs.Rationals.{at_most_from_below}
 use Rattle.theory_plane.specs.Sides.{clearance_at}
 use Rattle.theory_plane.specs.Regions.{Region, IsRegion, closures_meet, is_reached, reaches_under}
 use Rattle.theory_plane.proofs.Closures.{common_from_test}
-use Rattle.theory_numbers.specs.Lists.{Stands}
+use Rattle.theory_lists.specs.Members.{Stands}
 use Rattle.theory_patches.specs.Marked.{MarkedPatch, IsPatch}
 use Rattle.theory_patches.specs.Sheets.{Sheet, IsNoAbscissa}
 use Rattle.theory_patches.specs.Trimmed.{AreApart, HaveNoSeam, AreTrimmed, IsTrimmedList}
-use Rattle.theory_patches.proofs.Lists.{all_stands, one_or_two}
+use Rattle.theory_lists.proofs.Members.{all_stands, one_or_two}
 
 -- u lies strictly between the ends of the region
 pub record IsOver (p : Region) (u : Arrow) : Type 0 where

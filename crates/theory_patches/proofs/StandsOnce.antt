@@ -12,8 +12,8 @@ use Rattle.theory_plane.proofs.Regions.{open_between}
 use Rattle.theory_patches.specs.Marked.{MarkedPatch, IsPatch}
 use Rattle.theory_patches.specs.Sheets.{Sheet, IsSheet}
 use Rattle.theory_patches.specs.Trimmed.{AreApart, AreTrimmed, IsTrimmed, IsTrimmedList}
-use Rattle.theory_patches.proofs.Lists.{all_follow}
-use Rattle.theory_patches.proofs.SameMembers.{AreOnce}
+use Rattle.theory_lists.proofs.Members.{all_follow}
+use Rattle.theory_lists.specs.Members.{AreOnce}
 
 -- a region is not apart from itself
 not_apart_from_itself : (sheet : Sheet) → IsSheet sheet → (p : Region) → IsRegion p

@@ -1,7 +1,7 @@
 -- The law of patches.
 use Rattle.std.specs.Prelude.{◌↔◌, Bool, IsTrue, List, IsPermutation}
 use Rattle.theory_plane.specs.Points.{FacePoint}
-use Rattle.theory_numbers.specs.Lists.{Stands}
+use Rattle.theory_lists.specs.Members.{Stands}
 use Rattle.theory_patches.specs.Marked.{MarkedPatch}
 use Rattle.theory_patches.specs.Sheets.{Sheet, IsSheet, ArePlainOffCuts, HaveSameMarks}
 use Rattle.theory_patches.specs.Trimmed.{IsTrimmedList}

@@ -6,7 +6,7 @@ use Rattle.theory_numbers.specs.Rationals.{IsRational, IsSame}
 use Rattle.theory_plane.specs.Sides.{LineSide, IsLineSide}
 use Rattle.theory_plane.specs.Points.{FacePoint, IsFacePoint, abscissa_of, is_on_side}
 use Rattle.theory_plane.specs.Regions.{is_inside}
-use Rattle.theory_numbers.specs.Lists.{Stands}
+use Rattle.theory_lists.specs.Members.{Stands}
 use Rattle.theory_patches.specs.Marked.{MarkedPatch}
 
 -- the abscissae are the numbers u at whose lines patches may end and touch; the cuts are sides on

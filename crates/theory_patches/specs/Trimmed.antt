@@ -4,7 +4,7 @@ use Rattle.std.specs.List.{AllByRecursion}
 use Rattle.theory_numbers.specs.Arrows.{Arrow}
 use Rattle.theory_numbers.specs.Rationals.{IsRational}
 use Rattle.theory_plane.specs.Regions.{Region, IsCommon, is_seam}
-use Rattle.theory_numbers.specs.Lists.{AllOfTwo}
+use Rattle.theory_lists.specs.Members.{AllOfTwo}
 use Rattle.theory_patches.specs.Marked.{MarkedPatch, IsPatch}
 use Rattle.theory_patches.specs.Sheets.{Sheet, IsNoAbscissa}
 

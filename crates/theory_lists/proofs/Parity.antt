@@ -6,7 +6,7 @@ use Rattle.std.proofs.lemmas.Bool.{or_parts}
 use Rattle.std.proofs.lemmas.List.Sums.{sum_by-cons}
 use Rattle.std.proofs.lemmas.List.Sorted.{sum_by-IsPermutation}
 use Rattle.std.specs.List.{list_any}
-use Rattle.theory_numbers.specs.Tests.{differ, is_odd_number}
+use Rattle.theory_lists.specs.Parity.{differ, is_odd_number}
 
 -- ---- exclusive or
 

@@ -1,12 +1,10 @@
--- Lists that are put together from blocks: exactly one, each two, each one, and places.
-use Rattle.std.proofs.Common.{◌≡◌, refl, sym, ap, ℕ, zero, suc, Bool, true, false, List, [], ◌∷◌}
-use Rattle.std.proofs.Common.{◌++◌, Option, Some, None, slice_get, subst, inl, inr, ⊎_elim, is_some}
+-- What holds of a list that is put together from blocks: none, exactly one, each one, each two.
+use Rattle.std.proofs.Common.{◌≡◌, refl, Bool, true, false, List, [], ◌∷◌, ◌++◌}
 use Rattle.std.specs.Bool.{MatchBool}
 use Rattle.std.specs.List.{AllByRecursion, list_any}
-use Rattle.std.proofs.lemmas.Bool.{or_parts, or_from, false≢true}
-use Rattle.sb_model.specs.declared.boundary.Boundary.{Boundary}
-use Rattle.theory_numbers.specs.Lists.{Stands, AllOfTwo}
-use Rattle.sb_model.specs.Places.{ExactlyOne, boundary_at}
+use Rattle.std.proofs.lemmas.Bool.{or_parts, or_from}
+use Rattle.theory_lists.specs.Members.{AllOfTwo}
+use Rattle.theory_lists.specs.OneOf.{ExactlyOne}
 
 -- ---- any
 
@@ -74,19 +72,6 @@ pub all-append : {X : Type 0} (P : X → Type 0) (xs ys : List X) → AllByRecur
 all-append P [] ys left right = right
 all-append P (x ∷ xs) ys left right = (left.0, all-append P xs ys left.1 right)
 
--- what follows for each item
-pub all_weaker : {X : Type 0} (P Q : X → Type 0) → ((x : X) → P x → Q x) → (xs : List X)
-    → AllByRecursion P xs → AllByRecursion Q xs
-all_weaker P Q to [] all = tt
-all_weaker P Q to (x ∷ xs) all = (to x all.0, all_weaker P Q to xs all.1)
-
--- what holds of each item holds of one that stands in the list
-pub all_stands : {X : Type 0} (P : X → Type 0) (xs : List X) (x : X) → AllByRecursion P xs
-    → Stands x xs → P x
-all_stands P [] x all at = absurd at
-all_stands P (y ∷ ys) x all at =
-    ⊎_elim (λ e. subst P (sym e) all.0) (λ there. all_stands P ys x all.1 there) at
-
 -- ---- each two
 
 -- each two of a block, and each one of the first with each one of the second
@@ -95,30 +80,3 @@ pub two-append : {X : Type 0} (R : X → X → Type 0) (xs ys : List X) → AllO
 two-append R [] ys left right across = right
 two-append R (x ∷ xs) ys left right across =
     (all-append (R x) xs ys left.0 across.0, two-append R xs ys left.1 right across.1)
-
--- ---- places
-
-abbrev or_this : {X : Type 0} → X → Option X → X
-or_this other None = other
-or_this other (Some x) = x
-
--- what is in Some is one thing
-pub some_is : {X : Type 0} (x y : X) → Some x ≡ Some y → x ≡ y
-some_is x y same = ap (or_this x) same
-
--- None is not Some
-pub none_is_not_some : {X : Type 0} (x : X) → None ≡ Some x → ⊥
-none_is_not_some x same = false≢true (ap is_some same)
-
--- what a list has at a place stands in it
-pub stands_at : {X : Type 0} (xs : List X) (i : ℕ) (x : X) → slice_get xs i ≡ Some x → Stands x xs
-stands_at [] zero x at = absurd (none_is_not_some x at)
-stands_at [] (suc i) x at = absurd (none_is_not_some x at)
-stands_at (y ∷ ys) zero x at = inl (sym (some_is y x at))
-stands_at (y ∷ ys) (suc i) x at = inr (stands_at ys i x at)
-
--- a boundary with an id stands in the list
-pub stands_with_id : (list : List Boundary) (id : ℕ) (b : Boundary) → boundary_at list id ≡ Some b
-    → Stands b list
-stands_with_id list zero b at = absurd (none_is_not_some b at)
-stands_with_id list (suc i) b at = stands_at list i b at

@@ -1,4 +1,4 @@
--- Membership and pairs of a list, by recursion on the list.
+-- Membership, each two items, and no item twice: by recursion on the list.
 use Rattle.std.specs.Prelude.{◌≡◌, ◌⊎◌, List, [], ◌∷◌}
 use Rattle.std.specs.List.{AllByRecursion}
 
@@ -11,3 +11,7 @@ Stands x (y ∷ ys) = (x ≡ y) ⊎ Stands x ys
 abbrev pub AllOfTwo : {X : Type 0} → (X → X → Type 0) → List X → Type 0
 AllOfTwo R [] = Unit {0}
 AllOfTwo R (x ∷ xs) = AllByRecursion (R x) xs × AllOfTwo R xs
+
+-- no item stands at two places
+abbrev pub AreOnce : {X : Type 0} → List X → Type 0
+AreOnce xs = AllOfTwo (λ x y. x ≡ y → ⊥) xs

@@ -1,8 +1,10 @@
 -- What holds of all items of a list holds of one that stands in it; two items are one, or stand at
--- different places.
+-- different places; what a list has at a place stands in it.
 use Rattle.std.proofs.Common.{◌≡◌, sym, ◌∙◌, inl, inr, ◌⊎◌, subst, List, [], ◌∷◌, map}
+use Rattle.std.proofs.Common.{ℕ, zero, suc, Some, None, slice_get}
 use Rattle.std.specs.List.{AllByRecursion}
-use Rattle.theory_numbers.specs.Lists.{Stands, AllOfTwo}
+use Rattle.std.proofs.lemmas.Option.{same_Some, none-some}
+use Rattle.theory_lists.specs.Members.{Stands, AllOfTwo}
 
 module _ {X : Type 0} where
   -- what holds of all holds of one that stands there
@@ -40,3 +42,10 @@ module _ {X : Type 0} where
       inr (inr (subst (λ w. R w x) (sym same) (all_stands (R z) x zs all.0 later)))
   one_or_two R x y (z ∷ zs) all (inr later) (inr later_y) =
       one_or_two R x y zs all.1 later later_y
+
+  -- what a list has at a place stands in it
+  pub stands_at : (xs : List X) (i : ℕ) (x : X) → slice_get xs i ≡ Some x → Stands x xs
+  stands_at [] zero x at = absurd (none-some x at)
+  stands_at [] (suc i) x at = absurd (none-some x at)
+  stands_at (y ∷ ys) zero x at = inl (sym (same_Some y x at))
+  stands_at (y ∷ ys) (suc i) x at = inr (stands_at ys i x at)

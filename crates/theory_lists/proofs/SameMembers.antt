@@ -6,12 +6,8 @@ use Rattle.std.specs.List.{AllByRecursion}
 use Rattle.std.proofs.lemmas.List.Sorted.{IsPermutation-refl, IsPermutation-cons}
 use Rattle.std.proofs.lemmas.List.Sorted.{IsPermutation-trans, IsPermutation-sym}
 use Rattle.std.proofs.lemmas.List.Sorted.{IsPermutation-middle}
-use Rattle.theory_numbers.specs.Lists.{Stands, AllOfTwo}
-use Rattle.theory_patches.proofs.Lists.{all_stands}
-
--- no item stands at two places
-abbrev pub AreOnce : {X : Type 0} → List X → Type 0
-AreOnce xs = AllOfTwo (λ x y. x ≡ y → ⊥) xs
+use Rattle.theory_lists.specs.Members.{Stands, AreOnce}
+use Rattle.theory_lists.proofs.Members.{all_stands}
 
 module _ {X : Type 0} where
   -- where an item stands

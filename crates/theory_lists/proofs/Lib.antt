@@ -1,0 +1,11 @@
+-- The laws by topic.
+
+-- what stands in a list, and what holds of all of them
+pub mod Members
+-- lists put together from blocks: exactly one, each one, each two
+pub mod Blocks
+-- lists with the same members, in neither of which one stands twice
+pub mod SameMembers
+-- exclusive or, and parities of lists
+pub mod Parity
+mod Examples

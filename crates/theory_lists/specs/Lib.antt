@@ -1,0 +1,4 @@
+-- What the laws speak of, in reading order.
+pub mod Members
+pub mod OneOf
+pub mod Parity
