@@ -119,7 +119,7 @@ pub split_at_point : (p : ℕ) (bytes : List ℕ) → Some p ≡ position (λ b.
     → bytes ≡ take p bytes ++ point ∷ drop (p + 1) bytes
 split_at_point p bytes first =
     let found = position-Some (λ b. b == point) bytes p 0 (sym first) in
-    let point : get_or bytes p 0 ≡ point = eqb-true _ _ found.1 in
+    let at_point : get_or bytes p 0 ≡ point = eqb-true _ _ found.1 in
     let behind : drop p bytes ≡ point ∷ drop (p + 1) bytes =
-    rw (add-one, ← point) (drop-cons bytes p 0 found.0) in
+    rw (add-one, ← at_point) (drop-cons bytes p 0 found.0) in
     sym (take-append-drop p bytes) ∙ ap (λ s. take p bytes ++ s) behind
