@@ -1,16 +1,20 @@
 -- The answers of a run, each exactly where its cause holds.
-use Rattle.std.proofs.Common.{◌≡◌, ◌<◌, ◌∙◌, ℕ, List, length, take, Option, Some, sym, ap, subst, inl, inr, arith}
+use Rattle.std.proofs.Common.{◌≡◌, ◌<◌, ◌∙◌, ℕ, List, length, take, Option, Some, sym, ap, subst}
+use Rattle.std.proofs.Common.{inl, inr, arith}
 use Rattle.sb_shelf.specs.World.{World, Rose}
 use Rattle.sb_form.specs.declared.matcher.FirstForm.{FirstForm}
 use Rattle.sb_run.specs.Command.{Command, command}
 use Rattle.sb_run.specs.Statuses.{HasReached}
 use Rattle.sb_shelf.specs.WholeTexts.{longest_input}
-use Rattle.sb_run.specs.Promises.{IsInput, IsRefused, HasDefect, IsSoundForm, IsListOf, IsDoneOrNoMemory, ReportStands}
+use Rattle.sb_run.specs.Promises.{IsInput, IsRefused, HasDefect, IsSoundForm, IsListOf}
+use Rattle.sb_run.specs.Promises.{IsDoneOrNoMemory, ReportStands}
 use Rattle.sb_step.specs.Faults.{IsFaultAt}
-use Rattle.sb_run.specs.Judgements.{IsRefusal, IsSameOrNoMemory, IsSole, IsRead, IsReady, IsFinished}
+use Rattle.sb_run.specs.Judgements.{IsRefusal, IsSameOrNoMemory, IsSole, IsRead, IsReady}
+use Rattle.sb_run.specs.Judgements.{IsFinished}
 use Rattle.sb_run.specs.declared.judgement.Ready.{Ready}
 use Rattle.sb_run.specs.declared.answer.Answer.{Answer}
-use Rattle.sb_run.specs.declared.answer.Answer.TheVariants.{Done, Usage, ReadFault, TooLong, Syntax, Refused, WriteFault, NoMemory}
+use Rattle.sb_run.specs.declared.answer.Answer.TheVariants.{Done, Usage, ReadFault, TooLong, Syntax}
+use Rattle.sb_run.specs.declared.answer.Answer.TheVariants.{Refused, WriteFault, NoMemory}
 use Rattle.sb_run.specs.declared.answer.Code.{Code}
 use Rattle.sb_run.specs.declared.answer.Code.TheVariants as code
 use Rattle.sb_form.specs.Meaning.{defect_of, model_of}

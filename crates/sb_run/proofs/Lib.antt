@@ -7,3 +7,4 @@ mod TextsAreJudged
 mod AnswersHaveTheirCause
 mod BoxListIsReportable
 mod FormIsBox
+mod Examples

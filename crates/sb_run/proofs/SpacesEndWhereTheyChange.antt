@@ -61,8 +61,8 @@ rises_from_0 from [] rising = refl
 rises_from_0 from (b ∷ bs) rising =
     rw (le-leb 0 (space_of b) (omega arith)) (rises from b bs rising).others
 
--- What holds at each turn: the spaces before a place and those behind it are all, the list behind it
--- rises, and the spaces are no more than the boundaries.
+-- What holds at each turn: the spaces before a place and those behind it are all, the list behind
+-- it rises, and the spaces are no more than the boundaries.
 pub record IsCountedSoFar (all : List Boundary) (spaces : ℕ) (rest : List Boundary) : Type 0 where
   pub counted : spaces + spaces_in rest ≡ spaces_in all
   pub rising : have_rising_spaces 0 rest ≡ true
@@ -80,7 +80,7 @@ pub ends_here : (all : List Boundary) (spaces : ℕ) (b : Boundary) (rest bs : L
 ends_here all spaces b rest bs split ends so_far =
     let whole = subst (IsCountedSoFar all spaces) split so_far in
     let none : comes_in (space_of b) bs ≡ false =
-        comes_again 0 b bs whole.rising ∙ ap not (ap ends_space (sym split) ∙ ends) in
+    comes_again 0 b bs whole.rising ∙ ap not (ap ends_space (sym split) ∙ ends) in
     let counted = rw none at whole.counted in
     let few = whole.few in
     record {
@@ -96,7 +96,7 @@ pub goes_on : (all : List Boundary) (spaces : ℕ) (b : Boundary) (rest bs : Lis
 goes_on all spaces b rest bs split ends so_far =
     let whole = subst (IsCountedSoFar all spaces) split so_far in
     let again : comes_in (space_of b) bs ≡ true =
-        comes_again 0 b bs whole.rising ∙ ap not (ap ends_space (sym split) ∙ ends) in
+    comes_again 0 b bs whole.rising ∙ ap not (ap ends_space (sym split) ∙ ends) in
     let counted = rw again at whole.counted in
     let few = whole.few in
     record {

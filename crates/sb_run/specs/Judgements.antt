@@ -16,7 +16,8 @@ use Rattle.sb_report.specs.Report.{report_of}
 use Rattle.sb_shelf.specs.WholeTexts.{longest_input}
 use Rattle.sb_run.specs.Promises.{IsExchangeText, IsSoundForm, IsListOf, IsRefused}
 use Rattle.sb_run.specs.declared.answer.Answer.{Answer}
-use Rattle.sb_run.specs.declared.answer.Answer.TheVariants.{Done, ReadFault, TooLong, Syntax, Refused, WriteFault, NoMemory}
+use Rattle.sb_run.specs.declared.answer.Answer.TheVariants.{Done, ReadFault, TooLong, Syntax}
+use Rattle.sb_run.specs.declared.answer.Answer.TheVariants.{Refused, WriteFault, NoMemory}
 use Rattle.sb_run.specs.declared.answer.Code.{Code}
 use Rattle.sb_run.specs.declared.answer.Code.TheVariants as code
 use Rattle.sb_run.specs.declared.judgement.Ready.{Ready}
@@ -42,8 +43,8 @@ pub record IsRead (input : List ℕ) : Type 0 where
 abbrev pub IsSole : FirstForm → List ℕ → Type 0
 IsSole form input = (other : FirstForm) → IsFormOf other input → other ≡ form
 
--- the input has its fault at this byte and at no other, is refused for no reason, and no box without
--- defect is spelled by it
+-- the input has its fault at this byte and at no other, is refused for no reason, and no box
+-- without defect is spelled by it
 pub record IsFaultyOnly (input : List ℕ) (place : ℕ) : Type 0 where
   pub within : length input ≤ longest_input
   pub fault : IsFaultAt input place
@@ -96,7 +97,8 @@ IsFinished ready (Done list) old new =
     (list ≡ ready.list) × ForSome (new.bytes Report) (λ bytes. bytes ≡ ready.report.items)
 IsFinished ready WriteFault old new =
     Rose old.file_faults new.file_faults
-    × (new.is_created Report ≡ true → ForSome (new.bytes Report) (λ bytes. bytes ≡ take (length bytes) ready.report.items))
+    × (new.is_created Report ≡ true → ForSome (new.bytes Report)
+    (λ bytes. bytes ≡ take (length bytes) ready.report.items))
 IsFinished ready _ old new = ⊥
 
 -- what can be read, and the two files that are not written, are as they were

@@ -9,8 +9,8 @@ use Rattle.sb_run.specs.declared.answer.Answer.TheVariants.{Done, Usage, ReadFau
 use Rattle.sb_run.specs.declared.answer.Answer.TheVariants.{Syntax, Refused, WriteFault, NoMemory}
 use Rattle.sb_run.specs.declared.answer.Code.{Code}
 use Rattle.sb_run.specs.declared.answer.Code.TheVariants.{Duplicate, Shape, Range, OffGrid, Unbuilt}
-use Rattle.sb_run.specs.declared.messages.Line.{Line}
-use Rattle.sb_run.specs.declared.messages.Line.TheVariants.{Fixed, Made}
+use Rattle.sb_run.specs.declared.messages.SaidLine.{SaidLine}
+use Rattle.sb_run.specs.declared.messages.SaidLine.TheVariants.{Fixed, Made}
 
 -- the number of spaces whose faces stand in the list: each is counted at its last boundary
 abbrev pub spaces_in : List Boundary → ℕ
@@ -42,19 +42,19 @@ name_of OffGrid = codes "OffGrid"
 name_of Unbuilt = codes "Unbuilt"
 
 -- the line that is said for an answer
-abbrev pub line : Answer → List ℕ
-line (Done list) = done_line list
-line Usage = codes "usage: sbgen MODEL --report C\n"
-line ReadFault = codes "read fault\n"
-line TooLong = codes "too long\n"
-line (Syntax place) = codes "syntax at byte " ++ (decimal place ++ codes "\n")
-line (Refused n code) =
+abbrev pub said_line : Answer → List ℕ
+said_line (Done list) = done_line list
+said_line Usage = codes "usage: sbgen MODEL --report C\n"
+said_line ReadFault = codes "read fault\n"
+said_line TooLong = codes "too long\n"
+said_line (Syntax place) = codes "syntax at byte " ++ (decimal place ++ codes "\n")
+said_line (Refused n code) =
     codes "refused #" ++ (decimal n ++ (codes ": " ++ (name_of code ++ codes "\n")))
-line WriteFault = codes "write fault\n"
-line NoMemory = codes "no memory\n"
+said_line WriteFault = codes "write fault\n"
+said_line NoMemory = codes "no memory\n"
 
 -- the bytes of a line: one that stands in the program, or one that was made
-abbrev pub line_bytes : Line → List ℕ
+abbrev pub line_bytes : SaidLine → List ℕ
 line_bytes (Fixed text) = text.now
 line_bytes (Made text) = string_bytes text
 

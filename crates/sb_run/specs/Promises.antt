@@ -66,8 +66,8 @@ pub record IsListOf (form : FirstForm) (list : List Boundary) : Type 0 where
   pub is_extent : IsExtentOf form extent
   pub is_list : IsBoxList space_number extent list
 
--- After Done: the input is a form without defect, the list is that of its box, and on the report stands
--- the text of the list for the model of the input.
+-- After Done: the input is a form without defect, the list is that of its box, and on the report
+-- stands the text of the list for the model of the input.
 pub record Reports (input : List ℕ) (list : List Boundary) (new : World) : Type 0 where
   pub form : FirstForm
   pub sound : IsSoundForm form input
@@ -81,7 +81,8 @@ pub record ReportsInPart (input : List ℕ) (new : World) : Type 0 where
   pub list : List Boundary
   pub list_is : IsListOf form list
   pub written : new.is_created Report ≡ true
-      → ForSome (new.bytes Report) (λ bytes. bytes ≡ take (length bytes) (report_of (model_of form) list))
+      → ForSome (new.bytes Report)
+      (λ bytes. bytes ≡ take (length bytes) (report_of (model_of form) list))
 
 -- what stands on the report after an answer, for an input
 abbrev pub ReportStands : List ℕ → World → Answer → Type 0
@@ -89,11 +90,12 @@ ReportStands input new (Done list) = Reports input list new
 ReportStands input new WriteFault = ReportsInPart input new
 ReportStands input new _ = Unit {0}
 
--- A text is said: it stands behind what was said before. Only where the count of failed messages rose
--- may a first part of it stand there.
+-- A text is said: it stands behind what was said before. Only where the count of failed messages
+-- rose may a first part of it stand there.
 pub record Says (text : List ℕ) (old new : World) : Type 0 where
   pub no_fall : old.said_faults ≤ new.said_faults
-  pub in_part : ForSome (old.bytes Said) (λ before. ForSome (new.bytes Said) (AppendsFirstOf text before))
+  pub in_part : ForSome (old.bytes Said)
+      (λ before. ForSome (new.bytes Said) (AppendsFirstOf text before))
   pub whole : (Rose old.said_faults new.said_faults → ⊥)
       → ForSome (old.bytes Said) (λ before. new.bytes Said ≡ Some (before ++ text))
 

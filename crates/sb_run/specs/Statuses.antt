@@ -15,8 +15,9 @@ status (Refused n code) = 6
 status WriteFault = 10
 status NoMemory = 11
 
--- The step at which an answer is given: the words, reading, the length, the text, what it holds, and
--- what is created and written. Want of memory stands before all of them, since it may come at any step.
+-- The step at which an answer is given: the words, reading, the length, the text, what it holds,
+-- and what is created and written. Want of memory stands before all of them, since it may come at
+-- any step.
 abbrev pub step_of : Answer → ℕ
 step_of NoMemory = 0
 step_of Usage = 1

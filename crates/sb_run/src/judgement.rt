@@ -7,7 +7,8 @@ ghost use Rattle.sb_report.specs.Report.{report_of};
 ghost use Rattle.sb_shelf.specs.World.{OnlyReads};
 ghost use Rattle.sb_shelf.specs.WholeTexts.{longest_input};
 ghost use Rattle.sb_run.specs.Messages.{done_line};
-ghost use Rattle.sb_run.specs.Judgements.{IsReady, IsRead, IsJudged, IsRefusal, code_of, refusal_of};
+ghost use Rattle.sb_run.specs.Judgements.{IsReady, IsRead, IsJudged, IsRefusal, code_of};
+ghost use Rattle.sb_run.specs.Judgements.{refusal_of};
 ghost use Rattle.sb_run.specs.Promises.{IsListOf};
 
 use crate::answer::{Answer, Code};

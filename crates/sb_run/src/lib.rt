@@ -5,8 +5,8 @@
 mod answer;
 mod command;
 mod judgement;
-mod outputs;
 mod messages;
+mod outputs;
 mod program;
 
 pub use answer::{Answer, Code, status};

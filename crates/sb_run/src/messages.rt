@@ -1,6 +1,6 @@
 // The lines that are said for the answers.
 ghost use Rattle.std.specs.Prelude.{◌≡◌, IfOk, true, string_bytes, is_some, is_none, count_by};
-ghost use Rattle.sb_run.specs.Messages.{done_line, spaces_in, have_rising_spaces, line, name_of};
+ghost use Rattle.sb_run.specs.Messages.{done_line, spaces_in, have_rising_spaces, name_of, said_line};
 ghost use Rattle.sb_run.specs.Statuses.{IsEarly};
 ghost use Rattle.sb_run.specs.Messages.{line_bytes, ends_space};
 
@@ -13,18 +13,18 @@ pub(crate) const USAGE: &str = "usage: sbgen MODEL --report C\n";
 
 /// A line: one that stands in the program, or one that was made.
 #[derive(Drop)]
-pub(crate) enum Line {
+pub(crate) enum SaidLine {
     Fixed(&'static str),
     Made(String),
 }
 
-impl Line {
+impl SaidLine {
     pub(crate) fn bytes(&self) -> &[u8]
         ensures { result.now ≡ line_bytes self.now }
     {
         match self {
-            Line::Fixed(text) => text.as_bytes(),
-            Line::Made(text) => text.as_bytes(),
+            SaidLine::Fixed(text) => text.as_bytes(),
+            SaidLine::Made(text) => text.as_bytes(),
         }
     }
 }
@@ -87,17 +87,17 @@ fn ends_space(boundaries: &[Boundary]) -> bool
 }
 
 /// The line of an answer that comes before anything is created.
-pub(crate) fn early_line(alloc: Global, answer: &Answer) -> Result<Line, AllocError>
+pub(crate) fn early_line(alloc: Global, answer: &Answer) -> Result<SaidLine, AllocError>
     requires { IsEarly answer.now }
-    ensures { IfOk result (λ text. line_bytes text ≡ line answer.now) }
+    ensures { IfOk result (λ text. line_bytes text ≡ said_line answer.now) }
 {
     match answer {
-        Answer::Usage => Ok(Line::Fixed(USAGE)),
-        Answer::ReadFault => Ok(Line::Fixed("read fault\n")),
-        Answer::TooLong => Ok(Line::Fixed("too long\n")),
-        Answer::NoMemory => Ok(Line::Fixed("no memory\n")),
-        Answer::Syntax(place) => Ok(Line::Made(syntax_text(alloc, *place)?)),
-        Answer::Refused(number, code) => Ok(Line::Made(refused_text(alloc, *number, *code)?)),
+        Answer::Usage => Ok(SaidLine::Fixed(USAGE)),
+        Answer::ReadFault => Ok(SaidLine::Fixed("read fault\n")),
+        Answer::TooLong => Ok(SaidLine::Fixed("too long\n")),
+        Answer::NoMemory => Ok(SaidLine::Fixed("no memory\n")),
+        Answer::Syntax(place) => Ok(SaidLine::Made(syntax_text(alloc, *place)?)),
+        Answer::Refused(number, code) => Ok(SaidLine::Made(refused_text(alloc, *number, *code)?)),
         // These come after something was created.
         Answer::Done(_) | Answer::WriteFault => unreachable!(),
     }
@@ -105,14 +105,14 @@ pub(crate) fn early_line(alloc: Global, answer: &Answer) -> Result<Line, AllocEr
 
 /// The line of a fault of the exchange text.
 fn syntax_text(alloc: Global, place: u64) -> Result<String, AllocError>
-    ensures { IfOk result (λ text. string_bytes text ≡ line (Answer.Syntax place)) }
+    ensures { IfOk result (λ text. string_bytes text ≡ said_line (Answer.Syntax place)) }
 {
     format!(in alloc; "syntax at byte {place}\n")
 }
 
 /// The line of a refusal.
 pub(crate) fn refused_text(alloc: Global, number: u32, code: Code) -> Result<String, AllocError>
-    ensures { IfOk result (λ text. string_bytes text ≡ line (Answer.Refused number code)) }
+    ensures { IfOk result (λ text. string_bytes text ≡ said_line (Answer.Refused number code)) }
 {
     let name = name_of(code);
     format!(in alloc; "refused #{number}: {name}\n")

@@ -24,10 +24,13 @@ pub(crate) fn put_report<S: Shelf>(shelf: &mut S, path: &str, text: &[u8]) -> Re
     ensures keeps { OnlyOutput Out.Report (S.state shelf.old) (S.state shelf.new) }
     ensures said_faults { (S.state shelf.new).said_faults ≡ (S.state shelf.old).said_faults }
     ensures file_faults { (S.state shelf.old).file_faults ≤ (S.state shelf.new).file_faults }
-    ensures written { OnOk result (ForSome ((S.state shelf.new).bytes Out.Report) (λ bytes. bytes ≡ text.now)) }
-    ensures fault { OnErr result (Rose (S.state shelf.old).file_faults (S.state shelf.new).file_faults) }
+    ensures written { OnOk result
+        (ForSome ((S.state shelf.new).bytes Out.Report) (λ bytes. bytes ≡ text.now)) }
+    ensures fault { OnErr result
+        (Rose (S.state shelf.old).file_faults (S.state shelf.new).file_faults) }
     ensures in_part { OnErr result ((S.state shelf.new).is_created Out.Report ≡ true
-        → ForSome ((S.state shelf.new).bytes Out.Report) (λ bytes. bytes ≡ take (length bytes) text.now)) }
+        → ForSome ((S.state shelf.new).bytes Out.Report)
+        (λ bytes. bytes ≡ take (length bytes) text.now)) }
 {
     match shelf.create(Out::Report, path) {
         Err(_) => Err(WriteFault),

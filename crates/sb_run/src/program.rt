@@ -1,6 +1,6 @@
 // The whole program: the top call, and what it does behind each judgement.
 ghost use Rattle.std.specs.Prelude.{◌≡◌, ◌<◌, ◌↔◌, false, List, ℕ, None, length, map, string_bytes};
-ghost use Rattle.sb_run.specs.Messages.{line, done_line};
+ghost use Rattle.sb_run.specs.Messages.{done_line, said_line};
 ghost use Rattle.sb_run.specs.Statuses.{HasReached, IsEarly};
 ghost use Rattle.sb_run.specs.Command.{command};
 ghost use Rattle.sb_shelf.specs.WholeTexts.{longest_input};
@@ -15,8 +15,8 @@ ghost use Rattle.sb_run.specs.declared.answer.Code.{Code};
 use crate::answer::Answer;
 use crate::command::asked_by;
 use crate::judgement::{Ready, judged};
-use crate::outputs::{put_report, say};
 use crate::messages::{USAGE, early_line};
+use crate::outputs::{put_report, say};
 use sb_shelf::{Out, Shelf};
 use std::alloc::Global;
 
@@ -31,9 +31,10 @@ use std::alloc::Global;
 /// - `Syntax(place)`: exactly where the input is no exchange text and has its fault at this byte.
 /// - `Refused(number, Duplicate)`: exactly where the input is an exchange text and `number` is the
 ///   least that two of its instances have.
-/// - `Refused(20, code)`: exactly where the input is of the first form and `code` is its first defect.
-/// - `Refused(0, Unbuilt)`: exactly where the input is an exchange text whose numbers are apart, and
-///   is not of the first form.
+/// - `Refused(20, code)`: exactly where the input is of the first form and `code` is its first
+///   defect.
+/// - `Refused(0, Unbuilt)`: exactly where the input is an exchange text whose numbers are apart,
+///   and is not of the first form.
 /// - `WriteFault`: only where the count of faults of the files rose in this call.
 /// - `Done(list)`: the report of the list stands written.
 /// - `NoMemory`: at any step before the report is created.
@@ -47,15 +48,18 @@ pub fn run<S: Shelf>(alloc: Global, words: &[String], shelf: &mut S) -> Answer
     ensures read_fault { result ≡ Answer.ReadFault
         → Rose (S.state shelf.old).read_faults (S.state shelf.new).read_faults }
 
-    ensures too_long { (input : List ℕ) → IsInput (map string_bytes words.now) (S.state shelf.old) input
+    ensures too_long { (input : List ℕ)
+        → IsInput (map string_bytes words.now) (S.state shelf.old) input
         → HasReached Answer.TooLong result
         → (result ≡ Answer.TooLong) ↔ (longest_input < length input) }
 
-    ensures syntax { (input : List ℕ) → IsInput (map string_bytes words.now) (S.state shelf.old) input
+    ensures syntax { (input : List ℕ)
+        → IsInput (map string_bytes words.now) (S.state shelf.old) input
         → (place : ℕ) → HasReached (Answer.Syntax place) result
         → (result ≡ Answer.Syntax place) ↔ IsFaultAt input place }
 
-    ensures refused { (input : List ℕ) → IsInput (map string_bytes words.now) (S.state shelf.old) input
+    ensures refused { (input : List ℕ)
+        → IsInput (map string_bytes words.now) (S.state shelf.old) input
         → (n : ℕ) (code : Code) → HasReached (Answer.Refused n code) result
         → (result ≡ Answer.Refused n code) ↔ IsRefused input n code }
 
@@ -67,13 +71,15 @@ pub fn run<S: Shelf>(alloc: Global, words: &[String], shelf: &mut S) -> Answer
     ensures only_report { OnlyReport (S.state shelf.new) }
 
     // What stands on the report: after Done the whole text of the answered list.
-    ensures report { (input : List ℕ) → IsInput (map string_bytes words.now) (S.state shelf.old) input
+    ensures report { (input : List ℕ)
+        → IsInput (map string_bytes words.now) (S.state shelf.old) input
         → ReportStands input (S.state shelf.new) result }
 
-    ensures message { Says (line result) (S.state shelf.old) (S.state shelf.new) }
+    ensures message { Says (said_line result) (S.state shelf.old) (S.state shelf.new) }
 
     // It does not give up: a sound input is written, unless a call fails or there is no memory.
-    ensures complete { (input : List ℕ) → IsInput (map string_bytes words.now) (S.state shelf.old) input
+    ensures complete { (input : List ℕ)
+        → IsInput (map string_bytes words.now) (S.state shelf.old) input
         → (form : FirstForm) → IsSoundForm form input
         → (Rose (S.state shelf.old).read_faults (S.state shelf.new).read_faults → ⊥)
         → (Rose (S.state shelf.old).file_faults (S.state shelf.new).file_faults → ⊥)
@@ -97,7 +103,7 @@ fn said_early<S: Shelf>(alloc: Global, shelf: &mut S, answer: Answer) -> Answer
     requires { IsEarly answer }
     ensures same { IsSameOrNoMemory answer result }
     ensures keeps { OnlyWrites Out.Said (S.state shelf.old) (S.state shelf.new) }
-    ensures message { Says (line result) (S.state shelf.old) (S.state shelf.new) }
+    ensures message { Says (said_line result) (S.state shelf.old) (S.state shelf.new) }
 {
     match early_line(alloc, &answer) {
         Ok(text) => {
@@ -116,7 +122,8 @@ fn finished<S: Shelf>(shelf: &mut S, path: &str, ready: Ready) -> Answer
     requires { (S.state shelf.old).is_created Out.Report ≡ false }
     ensures keeps { OnlyReportAndMessage (S.state shelf.old) (S.state shelf.new) }
     ensures answer { IsFinished ready result (S.state shelf.old) (S.state shelf.new) }
-    ensures message { string_bytes ready.line ≡ done_line ready.list → Says (line result) (S.state shelf.old) (S.state shelf.new) }
+    ensures message { string_bytes ready.line ≡ done_line ready.list
+        → Says (said_line result) (S.state shelf.old) (S.state shelf.new) }
 {
     match put_report(shelf, path, &ready.report) {
         Ok(()) => {

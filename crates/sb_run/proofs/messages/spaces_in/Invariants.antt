@@ -1,3 +1,4 @@
+-- The spaces before the place are counted.
 use Rattle.std.proofs.Common.{length}
 use Rattle.sb_run.proofs.SpacesEndWhereTheyChange.{IsCountedSoFar}
 use Rattle.sb_run.proofs.messages.spaces_in.Given as goal
