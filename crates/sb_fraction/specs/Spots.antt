@@ -35,9 +35,13 @@ IsSpot p = pos 0 <ℤ p.w
 abbrev pub spot : ℤ → ℤ → ℤ → ℤ → Spot
 spot x y z w = record { x = x; y = y; z = z; w = w }
 
+-- the inner product of a point and a vector, w times
+abbrev pub times_w : Spot → Vector → ℤ
+times_w p n = ((p.x *ℤ n.x) +ℤ (p.y *ℤ n.y)) +ℤ (p.z *ℤ n.z)
+
 -- p·n: the abscissa where n is a direction, the position where n is a normal
 abbrev pub reading : Spot → Vector → Arrow
-reading p n = rational (((p.x *ℤ n.x) +ℤ (p.y *ℤ n.y)) +ℤ (p.z *ℤ n.z)) p.w
+reading p n = rational (times_w p n) p.w
 
 -- the point of the ray from p along n at this depth. A depth is a difference of positions p·n, so
 -- at depth k the ray has gone k/(n·n) times n

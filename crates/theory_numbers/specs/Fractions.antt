@@ -1,33 +1,21 @@
 -- Fractions of whole numbers, and the reduced ones among them.
 
-use Rattle.std.specs.Prelude.{ℕ, ℤ, pos, negsuc, suc, neg_ℤ, ◌^◌, ◌/◌, Bool, ◌&&◌, int_lt, nat_le}
+use Rattle.std.specs.Prelude.{ℕ, ℤ, pos, negsuc, suc, neg_ℤ, ◌/◌, Bool, ◌&&◌, int_lt}
 use Rattle.std.specs.Prelude.{unsigned_abs}
-use Rattle.sb_fraction.specs.Divisors.{greatest_divisor, are_coprime}
+use Rattle.theory_numbers.specs.Divisors.{greatest_divisor, are_coprime}
 
 -- the number num/den, where den is positive
 pub record Ratio : Type 0 where
   pub num : ℤ
   pub den : ℤ
 
--- the greatest size of a numerator
-abbrev pub greatest_num : ℕ
-greatest_num = 10 ^ 32
-
--- the greatest denominator
-abbrev pub greatest_den : ℕ
-greatest_den = 10 ^ 25
+-- a whole number as a fraction
+abbrev pub whole : ℤ → Ratio
+whole z = record { num = z; den = pos 1 }
 
 -- the denominator is positive, and no number above 1 divides both
 abbrev pub is_lowest : Ratio → Bool
 is_lowest r = int_lt (pos 0) r.den && are_coprime (unsigned_abs r.num) (unsigned_abs r.den)
-
--- numerator and denominator are within their bounds
-abbrev pub is_within : Ratio → Bool
-is_within r = nat_le (unsigned_abs r.num) greatest_num && nat_le (unsigned_abs r.den) greatest_den
-
--- a fraction in lowest terms within the bounds
-abbrev pub is_fraction : Ratio → Bool
-is_fraction r = is_lowest r && is_within r
 
 -- a whole number divided by a divisor of it: the size is divided, the sign stays
 abbrev pub divided : ℤ → ℕ → ℤ

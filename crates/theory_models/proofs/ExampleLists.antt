@@ -5,7 +5,7 @@ use Rattle.std.proofs.Common.{◌≡◌, refl, ap, subst, sym, arith, nat_eq, �
 use Rattle.std.proofs.Common.{Some, None, IsTrue, inl}
 use Rattle.std.proofs.lemmas.Int.{ints}
 use Rattle.std.proofs.lemmas.Bool.{true≢false, false≢true}
-use Rattle.sb_fraction.specs.Divisors.{divisor_within, greatest_divisor}
+use Rattle.theory_numbers.specs.Divisors.{divisor_within, greatest_divisor}
 use Rattle.sb_fraction.specs.Plane.{is_direction}
 use Rattle.theory_numbers.specs.Arrows.{cross, dot}
 use Rattle.theory_plane.specs.Sides.{clearance}
@@ -20,18 +20,18 @@ use Rattle.sb_model.specs.declared.patch.Patch.{Patch}
 use Rattle.sb_model.specs.declared.walk.End.{End}
 use Rattle.sb_model.specs.declared.walk.End.TheVariants as end
 use Rattle.sb_model.specs.declared.walk.Item.{Item}
-use Rattle.sb_model.specs.Spots.{spot}
+use Rattle.sb_fraction.specs.Spots.{spot}
 use Rattle.sb_model.specs.Sides.{is_patch}
 use Rattle.sb_model.specs.Building.{Building}
 use Rattle.sb_model.specs.Faces.{bottom_of}
-use Rattle.sb_model.specs.Corners.{whole}
+use Rattle.theory_numbers.specs.Fractions.{whole}
 use Rattle.sb_model.specs.Walks.{item}
 use Rattle.sb_model.specs.Patches.{region_of}
 use Rattle.sb_model.specs.Covers.{Covers}
 use Rattle.sb_model.specs.Trimmed.{AreTopsTrimmed}
 use Rattle.sb_model.specs.Mirrors.{Mirrors}
 use Rattle.sb_model.specs.Nested.{IsInParent}
-use Rattle.sb_model.proofs.ExampleModels.{block, room, box}
+use Rattle.theory_models.proofs.ExampleModels.{block, room, box}
 
 one_is_positive : pos 0 <ℤ pos 1
 one_is_positive = omega (arith, ints)

@@ -1,7 +1,7 @@
 -- Rectangles with sides along x and y.
 use Rattle.std.specs.Prelude.{ℤ, ◌*ℤ◌, Bool, ◌&&◌, int_lt, List, [], ◌∷◌}
 use Rattle.sb_fraction.specs.declared.point.Point.{Point}
-use Rattle.sb_model.specs.Spots.{Spot}
+use Rattle.sb_fraction.specs.Spots.{Spot}
 
 -- a plan point
 abbrev pub corner : ℤ → ℤ → Point

@@ -1,22 +1,11 @@
--- Closed loops of plan points.
+-- Which lists of points are the loops of a plan.
 
-use Rattle.std.specs.Prelude.{ℕ, ℤ, pos, Bool, false, not, ◌&&◌, ◌-ℤ◌, ◌*ℤ◌, List, [], ◌∷◌}
-use Rattle.std.specs.Prelude.{length, nat_le, int_lt, unsigned_abs}
+use Rattle.std.specs.Prelude.{ℤ, pos, Bool, false, not, ◌&&◌, ◌-ℤ◌, ◌*ℤ◌, List, [], ◌∷◌}
+use Rattle.std.specs.Prelude.{length, nat_le, int_lt}
 use Rattle.std.specs.Ordering.{int_eq}
 use Rattle.std.specs.List.{list_all}
 use Rattle.sb_fraction.specs.declared.point.Point.{Point}
-
--- the greatest size of a world coordinate, in millimetres
-abbrev pub greatest_coordinate : ℕ
-greatest_coordinate = 500000
-
--- a coordinate or a height within 500,000 mm
-abbrev pub is_coordinate : ℤ → Bool
-is_coordinate z = nat_le (unsigned_abs z) greatest_coordinate
-
--- both coordinates are within 500,000 mm
-abbrev pub is_plan_point : Point → Bool
-is_plan_point p = is_coordinate p.x && is_coordinate p.y
+use Rattle.sb_fraction.specs.Plane.{is_plan_point}
 
 -- (b - a) × (c - b): above 0 where the way from a over b to c turns left, 0 where it goes straight
 abbrev pub bend : Point → Point → Point → ℤ

@@ -1,6 +1,7 @@
 -- The models of the worked rows.
 
 use Rattle.std.proofs.Common.{ℕ, pos, List, [], ◌∷◌}
+use Rattle.theory_plans.specs.Rectangles.{corner, rectangle}
 use Rattle.sb_fraction.specs.declared.point.Point.{Point}
 use Rattle.sb_fraction.specs.declared.unit.Unit.TheVariants as unit
 use Rattle.sb_model.specs.declared.layers.Layer.{Layer}
@@ -8,22 +9,20 @@ use Rattle.sb_model.specs.declared.layers.Layering.{Layering}
 use Rattle.sb_model.specs.declared.layers.Layering.TheVariants.{Plain, Layered}
 use Rattle.sb_model.specs.declared.products.Space.{Space}
 use Rattle.sb_model.specs.declared.products.Element.{Element}
-use Rattle.sb_model.specs.Spots.{vector}
+use Rattle.sb_fraction.specs.Spots.{vector}
 use Rattle.sb_model.specs.Solids.{Upright, upright}
 use Rattle.sb_model.specs.Building.{Building, building}
 
 -- the plan point (x, y)
-abbrev pub at : ℕ → ℕ → Point
-at x y = record { x = pos x; y = pos y }
+abbrev pub plan_point : ℕ → ℕ → Point
+plan_point x y = corner (pos x) (pos y)
 
--- the plan of the rectangle [x0, x1] × [y0, y1]
-abbrev pub rectangle : ℕ → ℕ → ℕ → ℕ → List (List Point)
-rectangle x0 x1 y0 y1 = (at x0 y0 ∷ at x1 y0 ∷ at x1 y1 ∷ at x0 y1 ∷ []) ∷ []
-
--- the box over it, from 0 up to h
+-- the box over the rectangle [x0, x1] × [y0, y1], from 0 up to h
 abbrev pub block : ℕ → ℕ → ℕ → ℕ → ℕ → Upright
-block x0 x1 y0 y1 h = upright (rectangle x0 x1 y0 y1) (pos 0) (pos h)
+block x0 x1 y0 y1 h =
+    upright (rectangle (pos x0) (pos x1) (pos y0) (pos y1) ∷ []) (pos 0) (pos h)
 
+-- a space with this prism, not turned
 abbrev pub room : ℕ → Upright → Space
 room number prism = record {
   number = number;
@@ -35,9 +34,11 @@ room number prism = record {
   };
 }
 
+-- an element with this prism
 abbrev pub element : ℕ → Upright → Layering → Element
 element number prism layering = record { number = number; prism = prism; layering = layering }
 
+-- a layer without a name
 abbrev pub layer : ℕ → ℕ → Layer
 layer index micro = record { index = index; material = []; micro = micro }
 
@@ -53,11 +54,13 @@ box = model (room 20 (block 0 4000 0 3000 2500) ∷ []) []
 abbrev pub layers_of_wall : List Layer
 layers_of_wall = layer 1 12500 ∷ layer 2 75000 ∷ layer 3 12500 ∷ []
 
+-- the wall
 abbrev pub layered_wall : Element
 layered_wall =
     element 30 (block 4000 4100 0 3000 2500)
     (Layered layers_of_wall (record { x = pos 1; y = pos 0; z = pos 0 }))
 
+-- between its two rooms
 abbrev pub layered_wall_between_rooms : Building
 layered_wall_between_rooms =
     model
@@ -78,16 +81,16 @@ abbrev pub crossing_slabs : Building
 crossing_slabs =
     model
     (room 20 (block 0 10 0 10 10) ∷ [])
-    (element 30 (upright ((at 0 0 ∷ at 5 10 ∷ at 0 10 ∷ []) ∷ []) (pos 10) (pos 11)) Plain
-    ∷ element 31 (upright ((at 0 10 ∷ at 10 0 ∷ at 10 10 ∷ []) ∷ []) (pos 10) (pos 11)) Plain ∷ [])
+    (element 30 (upright ((plan_point 0 0 ∷ plan_point 5 10 ∷ plan_point 0 10 ∷ []) ∷ []) (pos 10) (pos 11)) Plain
+    ∷ element 31 (upright ((plan_point 0 10 ∷ plan_point 10 0 ∷ plan_point 10 10 ∷ []) ∷ []) (pos 10) (pos 11)) Plain ∷ [])
 
 -- slanted sides, the first of its two models
 abbrev pub slanted_sides : Building
 slanted_sides =
     model
-    (room 20 (upright ((at 0 0 ∷ at 1000 0 ∷ at 0 1000 ∷ []) ∷ []) (pos 0) (pos 2500)) ∷ [])
+    (room 20 (upright ((plan_point 0 0 ∷ plan_point 1000 0 ∷ plan_point 0 1000 ∷ []) ∷ []) (pos 0) (pos 2500)) ∷ [])
     (element 30
-    (upright ((at 0 1000 ∷ at 1000 0 ∷ at 1100 100 ∷ at 100 1100 ∷ []) ∷ []) (pos 0) (pos 2500))
+    (upright ((plan_point 0 1000 ∷ plan_point 1000 0 ∷ plan_point 1100 100 ∷ plan_point 100 1100 ∷ []) ∷ []) (pos 0) (pos 2500))
     Plain ∷ [])
 
 -- half-covered layer: wall #30 lies over half of the one layer of wall #31

@@ -13,9 +13,11 @@ use Rattle.theory_numbers.proofs.Signs.{less_from, test_less, test_not_less, tes
 use Rattle.theory_numbers.proofs.Ring.{mul_comm}
 use Rattle.theory_numbers.proofs.Products.{positive_product, positive_factor, product_of_negatives}
 use Rattle.theory_numbers.proofs.Products.{scale_less, weak_negative_product}
-use Rattle.sb_model.specs.Spots.{Spot, IsSpot}
-use Rattle.sb_model.specs.Plan.{edges_of, is_crossed, is_in_plan}
-use Rattle.theory_models.specs.Rectangles.{rectangle, is_between_sides}
+use Rattle.sb_fraction.specs.Spots.{Spot, IsSpot}
+use Rattle.theory_plans.specs.Inside.{is_crossed, is_in_plan}
+use Rattle.theory_plans.specs.LoopEdges.{edges_of}
+use Rattle.theory_plans.specs.Rectangles.{rectangle, is_between_sides}
+use Rattle.theory_plans.proofs.OriginOnSegment.{touches, level_touches, upright_touches}
 
 -- ---- signs of the turns at the four edges, where a < b and c < d are the corners as seen from p
 
@@ -51,57 +53,30 @@ left_turn a c d less =
 -- ---- the table of the four edges: low and high say that the two levels lie above p, left and
 -- right that the two sides lie to its right
 
-hit_table : (low high left right u0 d0 d1 u2 d2 u3 : Bool) → (low ≡ true → high ≡ true)
-    → differ (if low then (if low then false else u0) else (if low then d0 else false))
-    (differ (if high then (if low then false else right) else (if low then d1 else false))
-    (differ (if high then (if high then false else u2) else (if high then d2 else false))
-    (differ (if low then (if high then false else u3) else (if high then left else false)) false)))
+hit_table : (low high left right : Bool)
+    (bottom_up bottom_down right_down top_up top_down left_up : Bool) → (low ≡ true → high ≡ true)
+    → differ
+    (if low then (if low then false else bottom_up) else (if low then bottom_down else false))
+    (differ (if high then (if low then false else right) else (if low then right_down else false))
+    (differ (if high then (if high then false else top_up) else (if high then top_down else false))
+    (differ (if low then (if high then false else left_up) else (if high then left else false))
+    false)))
     ≡ (high && not low) && differ right left
-hit_table true true left right u0 d0 d1 u2 d2 u3 rising = refl
-hit_table false true true true u0 d0 d1 u2 d2 u3 rising = refl
-hit_table false true true false u0 d0 d1 u2 d2 u3 rising = refl
-hit_table false true false true u0 d0 d1 u2 d2 u3 rising = refl
-hit_table false true false false u0 d0 d1 u2 d2 u3 rising = refl
-hit_table false false left right u0 d0 d1 u2 d2 u3 rising = refl
-hit_table true false left right u0 d0 d1 u2 d2 u3 rising = absurd (false≢true (rising refl))
+hit_table true true left right _ _ _ _ _ _ rising = refl
+hit_table false true true true _ _ _ _ _ _ rising = refl
+hit_table false true true false _ _ _ _ _ _ rising = refl
+hit_table false true false true _ _ _ _ _ _ rising = refl
+hit_table false true false false _ _ _ _ _ _ rising = refl
+hit_table false false left right _ _ _ _ _ _ rising = refl
+hit_table true false left right _ _ _ _ _ _ rising = absurd (false≢true (rising refl))
 
 -- ---- the point on an edge or inside, by the corners as seen from it
-
--- the origin lies on the segment from u to v
-abbrev touches : ℤ → ℤ → ℤ → ℤ → Bool
-touches ux uy vx vy = int_eq ((ux *ℤ vy) -ℤ (uy *ℤ vx)) (pos 0) && int_le ((ux *ℤ vx) +ℤ (uy *ℤ vy))
-    (pos 0)
-
-equal_test : (n : ℤ) → n ≡ pos 0 → int_eq n (pos 0) ≡ true
-equal_test n e = grind (arith, ints)
 
 positive_is_not_zero : (n : ℤ) → pos 0 <ℤ n → int_eq n (pos 0) ≡ false
 positive_is_not_zero n h = grind (arith, ints)
 
 not_zero_by : {n m : ℤ} → n ≡ m → pos 0 <ℤ m → int_eq n (pos 0) ≡ false
 not_zero_by {n} {m} e h = rw e (positive_is_not_zero m h)
-
--- it lies on a level segment at its own height that reaches to both sides
-touches_level : (a b : ℤ) → a ≤ℤ pos 0 → pos 0 ≤ℤ b → touches a (pos 0) b (pos 0) ≡ true
-touches_level a b low high =
-    and_from _ _
-    (equal_test _ (equal (minus (times (var a) (num 0)) (times (num 0) (var b))) (num 0)
-    (omega arith)))
-    (test_at_most _ _ (beside a b (weak_negative_product b a high low)))
-  where
-    beside : (a b : ℤ) → (b *ℤ a) ≤ℤ pos 0 → ((a *ℤ b) +ℤ (pos 0 *ℤ pos 0)) ≤ℤ pos 0
-    beside a b h = let e = mul_comm a b in omega (arith, ints)
-
--- it lies on an upright segment below and above it
-touches_upright : (c d : ℤ) → c ≤ℤ pos 0 → pos 0 ≤ℤ d → touches (pos 0) d (pos 0) c ≡ true
-touches_upright c d low high =
-    and_from _ _
-    (equal_test _ (equal (minus (times (num 0) (var c)) (times (var d) (num 0))) (num 0)
-    (omega arith)))
-    (test_at_most _ _ (beside c d (weak_negative_product d c high low)))
-  where
-    beside : (c d : ℤ) → (d *ℤ c) ≤ℤ pos 0 → ((pos 0 *ℤ pos 0) +ℤ (d *ℤ c)) ≤ℤ pos 0
-    beside c d h = omega (arith, ints)
 
 -- the origin is on none of the four edges, and the two sides lie to its left and right
 abbrev is_enclosed : ℤ → ℤ → ℤ → ℤ → Bool
@@ -211,13 +186,13 @@ on_the_left : (a b c d : ℤ) → a ≡ pos 0 → c ≤ℤ pos 0 → pos 0 ≤�
 on_the_left a b c d zero low high =
     fourth_touched (touches a c b c) (touches b c b d) (touches b d a d) (touches a d a c)
     (is_struck a b c d)
-    (rw zero (touches_upright c d low high))
+    (upright_touches a d c zero (weak_negative_product d c high low))
 
 on_the_bottom : (a b c d : ℤ) → c ≡ pos 0 → a ≤ℤ pos 0 → pos 0 ≤ℤ b → is_enclosed a b c d ≡ false
 on_the_bottom a b c d zero left right =
     first_touched (touches a c b c) (touches b c b d) (touches b d a d) (touches a d a c)
     (is_struck a b c d)
-    (rw zero (touches_level a b left right))
+    (level_touches a b c zero (rw (mul_comm a b) (weak_negative_product b a right left)))
 
 not_inside : (p q r s : Bool) → (p ≡ false) ⊎ ((q ≡ false) ⊎ ((r ≡ false) ⊎ (s ≡ false)))
     → ((p && q) && (r && s)) ≡ false

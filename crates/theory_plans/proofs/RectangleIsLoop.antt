@@ -10,8 +10,9 @@ use Rattle.std.proofs.Math.IntN.{zero-*ℤ, *ℤ_comm}
 use Rattle.sb_fraction.specs.declared.point.Point.{Point}
 use Rattle.theory_numbers.proofs.Products.{positive_product, negative_product, product_of_negatives}
 use Rattle.theory_numbers.proofs.Signs.{less_from}
-use Rattle.sb_model.specs.Loops.{is_rectangle, are_corners, is_plan_point, are_loops, is_bent}
-use Rattle.sb_model.specs.Loops.{is_coordinate}
+use Rattle.theory_plans.specs.Loops.{is_rectangle, are_corners, are_loops, is_bent}
+use Rattle.sb_fraction.specs.Plane.{is_plan_point}
+use Rattle.sb_fraction.specs.Plane.{is_coordinate}
 
 -- a number that is not 0 is told apart from it
 not_zero : (z : ℤ) → (z ≡ pos 0 → ⊥) → not (int_eq z (pos 0)) ≡ true

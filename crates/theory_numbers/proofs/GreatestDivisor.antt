@@ -1,13 +1,14 @@
 -- Euclid's remainders end at the greatest common divisor, and dividing by it leaves no common
 -- divisor.
 
-use Rattle.std.proofs.Common.{ℕ, zero, suc, ◌+◌, ◌*◌, ◌%◌, ◌/◌, ◌<◌, ◌≡◌, refl, subst, arith, sym}
+use Rattle.std.proofs.Common.{ℕ, zero, suc, ◌+◌, ◌*◌, ◌%◌, ◌/◌, ◌<◌, ◌≡◌, refl, subst, arith, sym, ap, true}
 use Rattle.std.specs.Int.{IsGcd, ◌∣◌}
 use Rattle.std.proofs.lemmas.Nat.Gcd.{IsGcd-from_zero, IsGcd-from_mod, dvd_refl, dvd-zero}
 use Rattle.std.proofs.lemmas.Nat.Gcd.{same_from_IsGcd}
-use Rattle.std.proofs.Math.Nat.{one-dvd, mul-dvd-mul_right, div-mul_cancel}
+use Rattle.std.proofs.Math.Nat.{one-dvd, mul-dvd-mul_right, div-mul_cancel, mod-one}
 use Rattle.std.proofs.Math.Nat.{dvd_of_mul-dvd-mul_right, eq-zero_of_zero-dvd}
-use Rattle.sb_fraction.specs.Divisors.{divisor_within, greatest_divisor}
+use Rattle.std.proofs.lemmas.Bool.{eq-eqb}
+use Rattle.theory_numbers.specs.Divisors.{divisor_within, greatest_divisor, are_coprime}
 
 -- enough remainders give the greatest common divisor
 divisor_within_is : (steps a b : ℕ) → b < steps → IsGcd a b (divisor_within steps a b)
@@ -59,7 +60,16 @@ pub greatest_divisor-zero : (a : ℕ) → greatest_divisor a 0 ≡ a
 unfolding divisor_within greatest_divisor
 greatest_divisor-zero a = refl
 
+-- and so it is of 0 and the number
 pub zero-greatest_divisor : (b : ℕ) → greatest_divisor 0 b ≡ b
 zero-greatest_divisor b =
     same_from_IsGcd _ _ _ _ (greatest_divisor_is 0 b)
     (dvd-zero b, dvd_refl b, λ d left right. right)
+
+divisor_of_one : (n : ℕ) → greatest_divisor n 1 ≡ 1
+unfolding greatest_divisor divisor_within
+divisor_of_one n = ap (divisor_within 1 1) (mod-one n)
+
+-- every number is coprime with 1
+pub coprime-one : (n : ℕ) → are_coprime n 1 ≡ true
+coprime-one n = eq-eqb _ _ (divisor_of_one n)

@@ -9,7 +9,8 @@ use Rattle.std.proofs.lemmas.Bool.Decides.{nat_tests}
 use Rattle.std.proofs.Common.{add-one, get_or}
 use Rattle.std.proofs.Math.Seq.{drop-cons}
 use Rattle.sb_fraction.specs.declared.point.Point.{Point}
-use Rattle.sb_model.specs.Plan.{edge, edges_back, edges_of_loop, edges_of, place_after}
+use Rattle.theory_plans.specs.LoopEdges.{edges_back, edges_of_loop, edges_of, place_after}
+use Rattle.sb_fraction.specs.Edges.{edge}
 
 -- a test of two successors is that of the numbers
 nat_lt-suc : (k n : ℕ) → nat_lt (suc k) (suc n) ≡ nat_lt k n
@@ -49,12 +50,12 @@ edge_by_place (a ∷ points) k d within =
     edge_back a points a d k (omega arith)
     ∙ ap (λ b. Some (edge (slice_index_or (a ∷ points) k d) b)) (next_point a points k d)
 
--- a loop has as many edges as points
 length-edges_back : (a : Point) (points : List Point) (first : Point)
     → length (edges_back a points first) ≡ suc (length points)
 length-edges_back a [] first = refl
 length-edges_back a (b ∷ points) first = ap suc (length-edges_back b points first)
 
+-- a loop has as many edges as points
 pub length-edges_of_loop : (points : List Point) → length (edges_of_loop points) ≡ length points
 length-edges_of_loop [] = refl
 length-edges_of_loop (a ∷ points) = length-edges_back a points a

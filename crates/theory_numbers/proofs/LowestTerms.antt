@@ -1,20 +1,21 @@
 -- A fraction divided by its greatest common divisor is in lowest terms and the same number.
 
-use Rattle.std.proofs.Common.{ℕ, ℤ, pos, negsuc, neg_ℤ, suc, ◌*◌, ◌/◌, ◌<◌, ◌≤◌, ◌<ℤ◌, ◌*ℤ◌, ◌≡◌}
-use Rattle.std.proofs.Common.{zero, true, IsTrue, unsigned_abs, refl, arith, nat_le, int_lt, ap}
-use Rattle.std.proofs.Common.{sym, ◌∙◌}
+use Rattle.std.proofs.Common.{ℕ, ℤ, pos, negsuc, neg_ℤ, suc, ◌*◌, ◌/◌, ◌<◌, ◌<ℤ◌, ◌*ℤ◌, ◌≡◌}
+use Rattle.std.proofs.Common.{zero, true, IsTrue, unsigned_abs, refl, arith, int_lt, ap}
+use Rattle.std.proofs.Common.{sym, ◌∙◌, mul_assoc, subst}
 use Rattle.std.specs.Int.{IsGcd, ◌∣◌}
-use Rattle.std.proofs.lemmas.Int.{ints, to_z-of_z, unsigned_abs-mul}
-use Rattle.std.proofs.Common.{mul_assoc, le_trans}
-use Rattle.std.proofs.lemmas.Bool.{and_from, and_parts, eq-eqb, eqb-true, le-leb}
+use Rattle.std.proofs.lemmas.Int.{ints, unsigned_abs-mul}
+use Rattle.std.proofs.lemmas.Bool.{and_from, and_parts, eq-eqb, eqb-true}
 use Rattle.std.proofs.lemmas.Nat.Gcd.{same_from_IsGcd, dvd_refl}
-use Rattle.std.proofs.Math.Nat.{div-mul_cancel, mul-div_cancel', mul-div_cancel, div-le_self}
+use Rattle.std.proofs.Math.Nat.{div-mul_cancel, mul-div_cancel', mul-div_cancel}
 use Rattle.std.proofs.Math.Nat.{div-one, zero-div, dvd-mul_left, div_self}
-use Rattle.sb_fraction.specs.Divisors.{greatest_divisor, are_coprime}
-use Rattle.sb_fraction.specs.Ratio.{Ratio, reduced, divided, is_fraction, is_lowest, is_within}
-use Rattle.sb_fraction.specs.Ratio.{greatest_num, greatest_den}
-use Rattle.sb_fraction.proofs.GreatestDivisor.{greatest_divisor_is, divisor_is_positive}
-use Rattle.sb_fraction.proofs.GreatestDivisor.{quotients_are_coprime}
+use Rattle.theory_numbers.specs.Divisors.{greatest_divisor, are_coprime}
+use Rattle.theory_numbers.specs.Fractions.{Ratio, reduced, divided, is_lowest, whole}
+use Rattle.theory_numbers.proofs.GreatestDivisor.{greatest_divisor_is, divisor_is_positive}
+use Rattle.theory_numbers.proofs.GreatestDivisor.{quotients_are_coprime}
+use Rattle.theory_numbers.specs.Reduced.{IsReduced}
+use Rattle.theory_numbers.proofs.Ring.{mul-one}
+use Rattle.theory_numbers.proofs.Signs.{less_from}
 
 -- the size of a number with its sign changed
 abs-neg : (n : ℕ) → unsigned_abs (neg_ℤ (pos n)) ≡ n
@@ -22,7 +23,7 @@ abs-neg zero = refl
 abs-neg (suc n) = refl
 
 -- the size of a divided number is the divided size
-abs-divided : (z : ℤ) (d : ℕ) → unsigned_abs (divided z d) ≡ unsigned_abs z / d
+pub abs-divided : (z : ℤ) (d : ℕ) → unsigned_abs (divided z d) ≡ unsigned_abs z / d
 abs-divided (pos n) d = refl
 abs-divided (negsuc n) d = abs-neg (suc n / d)
 
@@ -77,27 +78,15 @@ lowest_terms_at : (num den : ℤ) (g : ℕ) → 0 < g
 lowest_terms_at num den g positive common =
     rw (abs-divided num g, abs-divided den g) (quotients_are_coprime _ _ g positive common)
 
-size_at_most : (z : ℤ) (g bound : ℕ) → unsigned_abs z ≤ bound
-    → nat_le (unsigned_abs (divided z g)) bound ≡ true
-size_at_most z g bound size =
-    rw (abs-divided z g) (le-leb _ _ (le_trans (div-le_self (unsigned_abs z) g) size))
-
 -- dividing by the greatest common divisor gives lowest terms
-pub reduced_is_fraction : (num den : ℤ) → pos 0 <ℤ den
-    → unsigned_abs num ≤ greatest_num
-    → unsigned_abs den ≤ greatest_den
-    → IsTrue (is_fraction (reduced num den))
+pub reduced_is_lowest : (num den : ℤ) → pos 0 <ℤ den → IsTrue (is_lowest (reduced num den))
 unfolding reduced
-reduced_is_fraction num den positive num_size den_size =
+reduced_is_lowest num den positive =
     let g = greatest_divisor (unsigned_abs num) (unsigned_abs den) in
     let common : IsGcd (unsigned_abs num) (unsigned_abs den) g = greatest_divisor_is _ _ in
-    and_from (is_lowest (reduced num den)) (is_within (reduced num den))
-    (and_from _ _
+    and_from _ _
     (divided_is_positive den g positive common.1)
-    (are_coprime_from _ _ (lowest_terms_at num den g (common_is_positive num den positive) common)))
-    (and_from _ _
-    (size_at_most num g greatest_num num_size)
-    (size_at_most den g greatest_den den_size))
+    (are_coprime_from _ _ (lowest_terms_at num den g (common_is_positive num den positive) common))
 
 -- dividing by the greatest common divisor keeps the number
 pub reduced_is_same : (num den : ℤ) → pos 0 <ℤ den
@@ -113,13 +102,24 @@ divided-one (pos n) = ap pos (div-one n)
 divided-one (negsuc n) = ap (λ k. neg_ℤ (pos k)) (div-one (suc n))
 
 -- a fraction in lowest terms is what its parts reduce to
-pub reduced-lowest : (r : Ratio) → IsTrue (is_fraction r) → reduced r.num r.den ≡ r
+pub reduced-lowest : (r : Ratio) → IsTrue (is_lowest r) → reduced r.num r.den ≡ r
 unfolding reduced
 reduced-lowest r lowest =
-    let sizes = and_parts (is_lowest r) (is_within r) lowest in
     let parts = and_parts (int_lt (pos 0) r.den)
-    (are_coprime (unsigned_abs r.num) (unsigned_abs r.den)) sizes.0 in
+    (are_coprime (unsigned_abs r.num) (unsigned_abs r.den)) lowest in
     rw (eqb-true _ 1 parts.1, divided-one, divided-one) refl
+
+-- a fraction that passes the test of lowest terms is reduced
+pub lowest_is_reduced : (r : Ratio) → IsTrue (is_lowest r) → IsReduced r.num r.den
+lowest_is_reduced r lowest =
+    let parts = and_parts (int_lt (pos 0) r.den)
+    (are_coprime (unsigned_abs r.num) (unsigned_abs r.den)) lowest in
+    record {
+      positive = less_from _ _ parts.0;
+      no_divisor =
+          subst (λ g. IsGcd (unsigned_abs r.num) (unsigned_abs r.den) g) (eqb-true _ 1 parts.1)
+          (greatest_divisor_is _ _);
+    }
 
 -- the divisor of a multiple and a positive number is this number
 divisor_of_multiple : (z d : ℤ) → pos 0 <ℤ d
@@ -138,12 +138,14 @@ divided-times (negsuc n) d positive =
     divided-neg (suc n * d) d ∙ ap (λ k. neg_ℤ (pos k)) (mul-div_cancel (suc n) positive)
 
 -- a fraction of a multiple is a whole number
-pub reduced-multiple : (z d : ℤ) → pos 0 <ℤ d → reduced (z *ℤ d) d ≡ record { num = z; den = pos 1 }
+pub reduced-multiple : (z d : ℤ) → pos 0 <ℤ d → reduced (z *ℤ d) d ≡ whole z
 unfolding reduced
 reduced-multiple z (pos d) positive =
     let size : 0 < d = omega (arith, ints) in
     rw (divisor_of_multiple z (pos d) positive, divided-times z d size, div_self size) refl
 reduced-multiple z (negsuc d) positive = absurd (omega (arith, ints))
 
--- for the calls that divide: a number that is passed is itself, and what its quotients are
-pub ruleset lowest = (to_z-of_z, common_is_positive, reduced_is_fraction, reduced_is_same)
+-- the fraction z/1
+pub reduced-one : (z : ℤ) → reduced z (pos 1) ≡ whole z
+reduced-one z = ap (λ n. reduced n (pos 1)) (sym (mul-one z))
+    ∙ reduced-multiple z (pos 1) (omega (arith, ints))
