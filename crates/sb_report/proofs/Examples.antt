@@ -1,6 +1,7 @@
 -- Worked reports that the definitions give, and lists that the conditions refuse.
 
-use Rattle.std.proofs.Common.{◌≡◌, ℕ, ℤ, pos, negsuc, true, false, [], ◌∷◌, ◌++◌, codes, IsTrue, Option, Some, None, refl}
+use Rattle.std.proofs.Common.{◌≡◌, ℕ, ℤ, pos, negsuc, true, false, [], ◌∷◌, ◌++◌, codes, IsTrue}
+use Rattle.std.proofs.Common.{Option, Some, None, refl}
 use Rattle.serde_json.specs.Data.{Data}
 use Rattle.serde_json.specs.Written.{compact_text}
 use Rattle.serde_json.proofs.OnLiterals.{serde_json_on_literals}
@@ -25,8 +26,9 @@ use Rattle.sb_model.specs.Corners.{corners_of, level_corner}
 use Rattle.sb_model.specs.Sides.{is_patch}
 use Rattle.sb_model.specs.Solids.{upright}
 use Rattle.sb_fraction.specs.Spots.{vector}
-use Rattle.sb_report.specs.Texts.{fraction_text, material_text}
-use Rattle.sb_report.specs.Entries.{three, four, fraction_data, corners_data, item_data, boundary_data}
+use Rattle.sb_report.specs.Strings.{fraction_text, material_text}
+use Rattle.sb_report.specs.Entries.{three, four, fraction_data, corners_data, item_data}
+use Rattle.sb_report.specs.Entries.{boundary_data}
 use Rattle.sb_report.specs.Conditions.{is_list_of, have_corners}
 use Rattle.sb_report.specs.Report.{report_data, report_of}
 
