@@ -9,8 +9,8 @@ use Rattle.theory_numbers.specs.Rationals.{IsRational, IsAtMost}
 use Rattle.theory_numbers.proofs.Avoid.{IsOther}
 use Rattle.theory_plane.specs.Sides.{LineSide, value_on, clearance_at}
 use Rattle.theory_plane.specs.Regions.{Region, IsRegion, IsInner}
-use Rattle.theory_plane.proofs.Clearance.{value_on-IsRational, higher_is, at_least_is, clearance-turn}
-use Rattle.theory_plane.proofs.Clearance.{at_most_trans}
+use Rattle.theory_plane.proofs.Clearance.{value_on-IsRational, higher_is, at_least_is}
+use Rattle.theory_plane.proofs.Clearance.{clearance-turn, at_most_trans}
 use Rattle.theory_plane.proofs.Regions.{open_between}
 use Rattle.theory_lists.specs.Members.{Stands}
 use Rattle.theory_patches.specs.Marked.{MarkedPatch, IsPatch}
