@@ -1,6 +1,5 @@
 -- Where a text begins with a number of the first form, there is one such number and one rest.
-use Rattle.std.proofs.Common.{◌≡◌, ◌<◌, ◌++◌, ◌==◌, ◌∙◌, ℕ, ℤ, pos, negsuc, suc, List, [], ◌∷◌}
-use Rattle.std.proofs.Common.{true, length, get_or, ap, sym, arith, append_assoc}
+use Rattle.std.proofs.Common.{◌≡◌, ◌<◌, ◌++◌, ◌==◌, ◌∙◌, ℕ, ℤ, pos, negsuc, suc, List, [], ◌∷◌, true, length, get_or, ap, sym, arith, append_assoc}
 use Rattle.std.specs.Prelude.{decimal}
 use Rattle.std.specs.List.{list_all, position}
 use Rattle.std.specs.Char.{is_ascii_digit}

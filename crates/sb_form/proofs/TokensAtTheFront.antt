@@ -1,8 +1,6 @@
 -- What is computed at the front of bytes, white space and a token again and again, is read as these
 -- tokens wherever an input ends with these bytes.
-use Rattle.std.proofs.Common.{◌≡◌, ℕ, zero, suc, ◌+◌, ◌-◌, ◌≤◌, Bool, true, false, cond, List, []}
-use Rattle.std.proofs.Common.{◌∷◌, ◌++◌, Option, Some, None, length, take, drop, sym, refl, ap, ap₂}
-use Rattle.std.proofs.Common.{◌∙◌, subst, inl, arith, length-drop, drop-drop, one-add}
+use Rattle.std.proofs.Common.{◌≡◌, ℕ, zero, suc, ◌+◌, ◌-◌, ◌≤◌, Bool, true, false, cond, List, [], ◌∷◌, ◌++◌, Option, Some, None, length, take, drop, sym, refl, ap, ap₂, ◌∙◌, subst, inl, arith, length-drop, drop-drop, one-add}
 use Rattle.std.specs.Prelude.{slice_range}
 use Rattle.std.specs.List.{prefix_len}
 use Rattle.std.proofs.lemmas.List.Sums.{prefix_len-le-length}
@@ -189,13 +187,13 @@ lexeme_from_first input bytes from p ends first =
     λ i. record { token = token_at from p; text = text i }
 
 -- the input from a place on has the tokens of the pieces, and what is white behind them
-pub record Reads (input : List ℕ) (from : ℕ) (ps : List Piece) : Type 0 where
+pub record ReadsPieces (input : List ℕ) (from : ℕ) (ps : List Piece) : Type 0 where
   pub tokens : AreTokensFrom input from (tokens_at from ps) None
   pub texts : lexemes input (tokens_at from ps) ≡ lexemes_at from ps
 
 pub lead_reads : (ps : List Piece) (input bytes rest : List ℕ) (from : ℕ)
     → EndsWith input from bytes → Lead ps bytes rest → prefix_len is_white rest ≡ length rest
-    → Reads input from ps
+    → ReadsPieces input from ps
 lead_reads [] input bytes rest from ends lead white =
     let here = ends.are ∙ lead in
     let all : from + length rest ≡ length input =
