@@ -12,10 +12,10 @@ use Rattle.std.proofs.lemmas.Fmt.{decimal_nonempty}
 use Rattle.std.proofs.lemmas.Bool.{and_parts, ne_eqb}
 use Rattle.sb_lex.specs.declared.kinds.Kind.TheVariants as kind
 use Rattle.sb_lex.specs.Bytes.{capital_e, is_letter}
-use Rattle.sb_lex.specs.Steps.{longer, head_of, exponent_len, fraction_len, scan_number, scan_at}
-use Rattle.sb_lex.specs.Steps.{scan}
+use Rattle.sb_lex.specs.Scanning.{longer, head_of, exponent_len, fraction_len, scan_unsigned, scan_at}
+use Rattle.sb_lex.specs.Scanning.{scan}
 use Rattle.sb_lex.specs.Kinds.{BlankPiece}
-use Rattle.sb_lex.proofs.PiecesJoin.{repeated_nothing}
+use Rattle.theory_bytes.proofs.RepeatsGrow.{repeated_nothing}
 use Rattle.sb_form.specs.Numbers.{IsShort, number_text, digit_nine, digit_zero, minus, point}
 use Rattle.sb_form.proofs.DecimalsAreReadBack.{digits_decimal_all, digit_in_range}
 use Rattle.sb_form.proofs.TokensAtTheFront.{Piece, IsFirst}
@@ -43,8 +43,8 @@ prefix_len-point (d ∷ ds) rest all =
 
 -- digits and a point are a real
 scan_number-digits : (ds rest : List ℕ) → list_all is_ascii_digit ds ≡ true → 0 < length ds
-    → EndsReal rest → scan_number (ds ++ point ∷ rest) ≡ Some (kind.Real, length ds + 1)
-unfolding scan_number
+    → EndsReal rest → scan_unsigned (ds ++ point ∷ rest) ≡ Some (kind.Real, length ds + 1)
+unfolding scan_unsigned
 scan_number-digits ds rest all some ends =
     let size = prefix_len-point ds rest all in
     let not_none = ne_eqb (length ds) 0 (λ none. omega (arith, none, some)) in

@@ -5,13 +5,13 @@ use Rattle.std.specs.Prelude.{if◌then◌else◌}
 use Rattle.sb_fraction.specs.declared.point.Point.{Point}
 use Rattle.sb_fraction.specs.declared.unit.Unit.TheVariants.{Millimetre}
 use Rattle.sb_model.specs.Building.{Building, building}
-use Rattle.sb_model.specs.Loops.{greatest_coordinate}
+use Rattle.sb_fraction.specs.Plane.{greatest_coordinate}
 use Rattle.sb_model.specs.Solids.{upright}
-use Rattle.sb_model.specs.Spots.{vector}
+use Rattle.sb_fraction.specs.Spots.{vector}
 use Rattle.sb_model.specs.Turns.{Quarter}
 use Rattle.sb_model.specs.declared.frame.Frame.{Frame}
 use Rattle.sb_model.specs.declared.products.Space.{Space}
-use Rattle.theory_models.specs.Rectangles.{rectangle}
+use Rattle.theory_plans.specs.Rectangles.{rectangle}
 use Rattle.sb_box.specs.declared.extent.Extent.{Extent}
 use Rattle.sb_form.specs.declared.matcher.FirstForm.{FirstForm}
 use Rattle.sb_form.specs.declared.meaning.Defect.{Defect}

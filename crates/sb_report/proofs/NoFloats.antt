@@ -9,7 +9,7 @@ use Rattle.sb_model.specs.declared.boundary.Boundary.{Boundary}
 use Rattle.sb_model.specs.declared.corner.Corners.{Corners}
 use Rattle.sb_model.specs.declared.corner.Corners.TheVariants.{Three, Four}
 use Rattle.sb_model.specs.declared.walk.Item.{Item}
-use Rattle.sb_model.specs.Spots.{Vector, inner}
+use Rattle.sb_fraction.specs.Spots.{Vector, inner}
 use Rattle.sb_model.specs.Building.{Building}
 use Rattle.sb_model.specs.Corners.{corners_of}
 use Rattle.sb_report.specs.Normals.{normal_of}
@@ -73,6 +73,6 @@ pub report_has_no_float : (m : Building) (bs : List Boundary) → has_float (rep
 unfolding report_data
 report_has_no_float m bs = rw (
   entries_have_none m 1 bs,
-  signed_has_none m.level,
+  signed_has_none m.ground_height,
   each (λ s. count s.number) (λ s. refl) m.spaces,
 ) refl

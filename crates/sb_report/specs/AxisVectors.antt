@@ -2,8 +2,8 @@
 
 use Rattle.std.specs.Prelude.{ℕ, ℤ, ◌*◌, pos, negsuc, neg_ℤ, Bool, ◌&&◌, nat_le, unsigned_abs}
 use Rattle.sb_model.specs.declared.layers.Axis.{Axis}
-use Rattle.sb_model.specs.Loops.{greatest_coordinate}
-use Rattle.sb_model.specs.Spots.{Vector, vector}
+use Rattle.sb_fraction.specs.Plane.{greatest_coordinate}
+use Rattle.sb_fraction.specs.Spots.{Vector, vector}
 
 -- a direction as a vector
 abbrev pub vector_of : Axis → Vector

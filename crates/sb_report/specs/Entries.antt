@@ -5,7 +5,7 @@ use Rattle.serde_json.specs.Data.{Data, null, number, string, array, object, uns
 use Rattle.serde_json.specs.Data.{item, no_members, member}
 use Rattle.serde_json.specs.Find.{of_integer}
 use Rattle.serde_json.specs.View.{items_of}
-use Rattle.sb_fraction.specs.Ratio.{Ratio}
+use Rattle.theory_numbers.specs.Fractions.{Ratio}
 use Rattle.sb_model.specs.declared.boundary.Boundary.{Boundary}
 use Rattle.sb_model.specs.declared.corner.Corner.{Corner}
 use Rattle.sb_model.specs.declared.corner.Corners.{Corners}
@@ -13,7 +13,7 @@ use Rattle.sb_model.specs.declared.corner.Corners.TheVariants.{Three, Four}
 use Rattle.sb_model.specs.declared.walk.End.{End}
 use Rattle.sb_model.specs.declared.walk.End.TheVariants as end
 use Rattle.sb_model.specs.declared.walk.Item.{Item}
-use Rattle.sb_model.specs.Spots.{Vector, inner}
+use Rattle.sb_fraction.specs.Spots.{Vector, inner}
 use Rattle.sb_model.specs.Building.{Building, material_of}
 use Rattle.sb_model.specs.Corners.{corners_of}
 use Rattle.sb_report.specs.Strings.{fraction_text, material_text, face_name, end_name}

@@ -2,11 +2,12 @@
 
 ghost use Rattle.std.specs.Prelude.{◌≡◌, ◌≤◌, ◌-ℤ◌, ◌*ℤ◌, ◌+ℤ◌, ◌+◌, ◌*◌, ◌/◌, IsTrue, Some, pos};
 ghost use Rattle.std.specs.Prelude.{neg_ℤ, unsigned_abs};
-ghost use Rattle.sb_fraction.specs.Divisors.{greatest_divisor};
-ghost use Rattle.sb_model.specs.Spots.{vector, inner};
-ghost use Rattle.sb_model.specs.Plan.{edge};
-ghost use Rattle.sb_model.specs.Loops.{is_plan_point, greatest_coordinate};
-ghost use Rattle.sb_model.specs.Faces.{is_face_of, normal_over as normal_over_edge};
+ghost use Rattle.theory_numbers.specs.Divisors.{greatest_divisor};
+ghost use Rattle.sb_fraction.specs.Spots.{vector, inner};
+ghost use Rattle.sb_fraction.specs.Edges.{edge};
+ghost use Rattle.sb_fraction.specs.Plane.{is_plan_point, greatest_coordinate};
+ghost use Rattle.sb_model.specs.Faces.{is_face_of};
+ghost use Rattle.sb_fraction.specs.Directions.{normal_over as normal_over_edge};
 ghost use Rattle.sb_report.specs.Normals.{normal_of};
 ghost use Rattle.sb_report.specs.AxisVectors.{vector_of, greatest_difference, is_bounded, signed_as};
 
@@ -59,7 +60,7 @@ fn sum(a: i64, b: i64) -> i64
 }
 
 /// The outward normal of the face over the edge from `a` to `b`.
-#[tactic(auto, using(crate::proofs::Passing::passing), unfolding(sb_model::specs::Faces::normal_over, sb_model::specs::Faces::step))]
+#[tactic(auto, using(crate::proofs::Passing::passing), unfolding(sb_fraction::specs::Directions::normal_over, sb_fraction::specs::Directions::step))]
 fn normal_over(a: Point, b: Point) -> Axis
     requires a_in_range { IsTrue (is_plan_point a) }
     requires b_in_range { IsTrue (is_plan_point b) }
@@ -93,7 +94,7 @@ fn difference(a: i32, b: i32) -> i32
 }
 
 /// Two numbers divided by their greatest common divisor.
-#[tactic(auto, unfolding(sb_fraction::specs::Ratio::reduced))]
+#[tactic(auto, unfolding(theory_numbers::specs::Fractions::reduced))]
 fn lowest(x: u32, y: u32) -> (u32, u32)
     requires x_size { x ≤ greatest_difference }
     requires y_size { y ≤ greatest_difference }

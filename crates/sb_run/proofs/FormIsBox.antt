@@ -16,5 +16,5 @@ form_is_box f e is = record {
   elements = refl;
   openings = refl;
   fillings = refl;
-  level = refl;
+  ground_height = refl;
 }

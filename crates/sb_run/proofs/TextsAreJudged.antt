@@ -1,7 +1,7 @@
 -- What the index of an input says of it; an input which cannot be indexed is refused for this.
 use Rattle.std.proofs.Common.{◌≡◌, ◌≤◌, ◌↔◌, ℕ, List, length, Result, Ok, Err, refl}
 use Rattle.sb_step.specs.Indexed.{Indexed}
-use Rattle.sb_step.specs.Answers.{IsIndexed, HasDoubled, IsAnswer, IsInTime}
+use Rattle.sb_step.specs.IndexAnswers.{IsIndexed, HasDoubled, IsAnswer, IsInTime}
 use Rattle.sb_step.specs.Faults.{IsFaultAt}
 use Rattle.sb_step.specs.declared.error.StepError.{StepError}
 use Rattle.sb_step.specs.declared.error.StepError.TheVariants as step_error

@@ -3,7 +3,7 @@ use Rattle.std.specs.Prelude.{◌≡◌, ◌⊎◌, ◌<◌, ◌≤◌, ℕ, tru
 use Rattle.std.specs.Option.{ForSome}
 use Rattle.sb_shelf.specs.World.{World, Rose}
 use Rattle.sb_shelf.specs.declared.shelf.Out.TheVariants.{Ifc, Idf, Report}
-use Rattle.sb_step.specs.Answers.{HasDoubled}
+use Rattle.sb_step.specs.IndexAnswers.{HasDoubled}
 use Rattle.sb_step.specs.Faults.{IsFaultAt}
 use Rattle.sb_step.specs.declared.error.StepError.{StepError}
 use Rattle.sb_step.specs.declared.error.StepError.TheVariants as step_error

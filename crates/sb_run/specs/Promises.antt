@@ -5,7 +5,7 @@ use Rattle.sb_shelf.specs.World.{World, Rose}
 use Rattle.sb_shelf.specs.WholeTexts.{AppendsFirstOf}
 use Rattle.sb_shelf.specs.declared.shelf.Out.TheVariants.{Ifc, Idf, Report, Said}
 use Rattle.sb_step.specs.Indexed.{Indexed}
-use Rattle.sb_step.specs.Answers.{IsIndexed, HasDoubled}
+use Rattle.sb_step.specs.IndexAnswers.{IsIndexed, HasDoubled}
 use Rattle.sb_model.specs.declared.boundary.Boundary.{Boundary}
 use Rattle.sb_model.specs.Order.{IsInOrder}
 use Rattle.sb_model.specs.Sound as model
