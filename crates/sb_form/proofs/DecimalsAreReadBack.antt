@@ -22,6 +22,7 @@ list_all-digits : (ds : List ℕ) → list_all is_ascii_digit ds ≡ all_ascii_d
 list_all-digits [] = refl
 list_all-digits (d ∷ ds) = rw (list_all-digits ds) refl
 
+-- the decimal of a short number has digits alone
 pub digits_decimal_all : (n : ℕ) → n < 1000000 → list_all is_ascii_digit (decimal n) ≡ true
 digits_decimal_all n short =
     list_all-digits (decimal n) ∙ digits_decimal plain_numerals n (omega arith)
@@ -51,6 +52,7 @@ decimal_is_plain (suc n) short = (
       (omega (arith, first_decimal (suc n) (omega arith) (omega arith), zero_leads)),
 )
 
+-- and plain digits write a short number
 pub short_value : (ds : List ℕ) → HasPlainLength ds → list_all is_ascii_digit ds ≡ true
     → digits_value 10 ds < 1000000
 short_value ds plain all =

@@ -25,13 +25,13 @@ record ReadsText (xs : List Lexeme) : Type 0 where
   place : ℕ
   is : run xs start ≡ Some ran
   ends : end_of ran.state ≡ Some place
-  rise : rises_from 0 (instances_of ran.founds) ≡ true
+  rise : rises_from 0 (instances_of ran.events) ≡ true
 
 -- the same as a test of its run
 abbrev pub reads_text : Option Ran → Bool
 reads_text None = false
 reads_text (Some ran) =
-    is_some (end_of ran.state) && rises_from 0 (instances_of ran.founds)
+    is_some (end_of ran.state) && rises_from 0 (instances_of ran.events)
 
 text_read : (xs : List Lexeme) (o : Option Ran) → run xs start ≡ o → reads_text o ≡ true
     → ReadsText xs
@@ -39,7 +39,7 @@ text_read xs None is reads = absurd (cc reads)
 text_read xs (Some ran) is reads = by (end_of ran.state) refl reads
   where
     by : (place : Option ℕ) → end_of ran.state ≡ place
-        → (is_some place && rises_from 0 (instances_of ran.founds)) ≡ true → ReadsText xs
+        → (is_some place && rises_from 0 (instances_of ran.events)) ≡ true → ReadsText xs
     by None ends reads = absurd (cc reads)
     by (Some place) ends reads =
         record { ran = ran; place = place; is = is; ends = ends; rise = reads }
@@ -55,7 +55,7 @@ form_read f = text_read (form_lexemes f) (run (form_lexemes f) start) refl (form
 
 -- the file of the form
 form_file : FirstForm → File
-form_file f = let r = form_read f in file_of r.ran.founds r.place
+form_file f = let r = form_read f in file_of r.ran.events r.place
 
 form_is_text : (f : FirstForm) → IsText (form_lexemes f) (form_file f)
 unfolding form_file
@@ -77,7 +77,7 @@ form_is_file f input form =
 form_is_apart : (f : FirstForm) → AreApart (form_file f).instances
 unfolding form_file
 form_is_apart f =
-    let r = form_read f in rising_are_apart 0 (instances_of r.ran.founds) r.rise
+    let r = form_read f in rising_are_apart 0 (instances_of r.ran.events) r.rise
 
 -- every input of the first form is an exchange text
 pub forms_are_texts : FormsAreTexts

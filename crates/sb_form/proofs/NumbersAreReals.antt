@@ -90,6 +90,7 @@ abbrev pub real_of : ℤ → Piece
 real_of n =
     record { gap = 0; of_kind = kind.Real; size = length (number_text n); text = number_text n }
 
+-- a short number is the first token of the bytes, where no digit or letter goes on with it
 pub number_is_first : (n : ℤ) (rest : List ℕ) → IsShort n → EndsReal rest
     → IsFirst (real_of n) (number_text n ++ rest)
 number_is_first n rest short ends = record {

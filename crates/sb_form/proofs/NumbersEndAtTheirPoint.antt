@@ -22,6 +22,7 @@ digits_next ds es r s left right same =
     append_cancel_left es _ _ (ap (λ l. l ++ point ∷ r) (sym digits) ∙ same) in
     (digits, cc)
 
+-- a decimal with its point is read in one way
 pub decimal_next : (m n : ℕ) (r s : List ℕ) → m < 1000000 → n < 1000000
     → decimal m ++ point ∷ r ≡ decimal n ++ point ∷ s → (m ≡ n) × (r ≡ s)
 decimal_next m n r s left right same =
