@@ -5,6 +5,7 @@ ghost use Rattle.sb_texts.specs.Pieces.{piece_text};
 
 use crate::bytes::append;
 use crate::numbers::{append_number, append_padded, append_reference, append_signed, append_whole};
+use crate::references::append_references;
 use sb_list::Text;
 use std::alloc::AllocError;
 
@@ -17,10 +18,12 @@ pub enum Piece<'a> {
     Number(u64),
     /// A signed number in decimal: `-25`.
     Signed(i64),
-    /// A number behind as many zeros as bring it to the width: `00042`.
-    Padded { number: u64, width: usize },
+    /// A number behind as many zeros as bring it to this width: 42 at width 5 is `00042`.
+    Padded(u64, usize),
     /// The number of an instance: `#101`.
     Reference(u64),
+    /// The numbers of instances with commas between them: `#109,#119`.
+    References(&'a [u64]),
     /// A whole number with a point behind it: `-100.`.
     Whole(i64),
 }
@@ -45,8 +48,9 @@ fn append_piece(text: &mut Text, piece: Piece) -> Result<(), AllocError>
         Piece::Bytes(bytes) => append(text, bytes),
         Piece::Number(number) => append_number(text, number),
         Piece::Signed(number) => append_signed(text, number),
-        Piece::Padded { number, width } => append_padded(text, number, width),
+        Piece::Padded(number, width) => append_padded(text, number, width),
         Piece::Reference(number) => append_reference(text, number),
+        Piece::References(numbers) => append_references(text, numbers),
         Piece::Whole(number) => append_whole(text, number),
     }
 }

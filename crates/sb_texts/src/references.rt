@@ -1,9 +1,9 @@
-ghost use Rattle.std.specs.Prelude.{◌≡◌, ◌++◌, OnOk, OnErr};
+ghost use Rattle.std.specs.Prelude.{◌≡◌, ◌++◌, OnOk, OnErr, codes};
 ghost use Rattle.sb_texts.specs.Begun.{BeginsWith};
-ghost use Rattle.sb_texts.specs.Numerals.{references};
+ghost use Rattle.sb_texts.specs.Numerals.{reference, references};
 
+use crate::bytes::append;
 use crate::numbers::append_reference;
-use crate::pieces::{Piece, append_all};
 use sb_list::Text;
 use std::alloc::AllocError;
 
@@ -18,7 +18,16 @@ pub fn append_references(text: &mut Text, numbers: &[u64]) -> Result<(), AllocEr
     };
     append_reference(text, *first)?;
     for number in rest {
-        append_all(text, &[Piece::Bytes(b","), Piece::Reference(*number)])?;
+        append_next(text, *number)?;
     }
     Ok(())
+}
+
+/// Appends a number that is not the first.
+fn append_next(text: &mut Text, number: u64) -> Result<(), AllocError>
+    ensures ok { OnOk result (text.new ≡ text.old ++ (codes "," ++ reference number)) }
+    ensures err { OnErr result (BeginsWith text.new text.old) }
+{
+    append(text, b",")?;
+    append_reference(text, number)
 }

@@ -35,22 +35,21 @@ fn pieces_stand_in_order(rt: HostRuntime) -> Result<(), Fail> {
         &[
             Piece::Reference(8),
             Piece::Bytes(b"=IFCWALL('"),
-            Piece::Padded {
-                number: 8,
-                width: 22,
-            },
+            Piece::Padded(8, 22),
             Piece::Bytes(b"',"),
             Piece::Whole(0),
             Piece::Bytes(b","),
             Piece::Signed(-5),
             Piece::Bytes(b","),
             Piece::Number(10),
-            Piece::Bytes(b");\n"),
+            Piece::Bytes(b",("),
+            Piece::References(&[1, 2]),
+            Piece::Bytes(b"));\n"),
         ],
     )?;
     assert_eq!(rt;
         text.bytes(),
-        b"#8=IFCWALL('0000000000000000000008',0.,-5,10);\n".as_slice(),
+        b"#8=IFCWALL('0000000000000000000008',0.,-5,10,(#1,#2));\n".as_slice(),
         "a line of an exchange text"
     );
     Ok(())
