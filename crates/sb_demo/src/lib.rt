@@ -11,7 +11,8 @@ mod demo;
 mod error;
 mod numbering;
 mod relations;
-//mod tests;
+#[cfg(test)]
+mod tests;
 
 pub use demo::demo_text;
 pub use error::DemoError;
