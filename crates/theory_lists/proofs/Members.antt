@@ -19,6 +19,13 @@ module _ {X : Type 0} where
   all_follow step [] all = tt
   all_follow step (x ∷ xs) all = (step x all.0, all_follow step xs all.1)
 
+  -- two that hold of all hold together
+  pub all_both : (P Q : X → Type 0) (xs : List X) → AllByRecursion P xs → AllByRecursion Q xs
+      → AllByRecursion (λ x. P x × Q x) xs
+  all_both P Q [] first second = tt
+  all_both P Q (x ∷ xs) first second =
+      ((first.0, second.0), all_both P Q xs first.1 second.1)
+
   -- what holds of all images holds of the items, in this form
   pub all_of_images : {Y : Type 0} (P : Y → Type 0) (f : X → Y) (xs : List X)
       → AllByRecursion P (map f xs) → AllByRecursion (λ x. P (f x)) xs
