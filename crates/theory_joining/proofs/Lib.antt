@@ -1,0 +1,20 @@
+-- The laws by topic.
+
+-- a run and the patch that it goes on with
+pub mod GoesOn
+-- what runs add to the marks of a list
+pub mod MarksOfPut
+-- the list stays spaced
+pub mod PutIsSpaced
+-- the step from the beginning of a slab to its end
+pub mod JoinedOn
+-- the end: spaced is trimmed
+pub mod JoinedIsTrimmed
+-- the runs of two stretches of cells
+pub mod RunsMerge
+-- runs from cells: patches that never touch
+pub mod RunsStayApart
+-- with the marks of the cells
+pub mod RunsKeepMarks
+-- so they are the runs of the slab
+pub mod RunsOfCells

@@ -1,0 +1,23 @@
+//! Joining: how the runs of slabs become a trimmed list of patches, slab after slab. Theory alone:
+//! the functions have no body, their contracts are the laws.
+#![tactic(auto)]
+
+ghost use Rattle.theory_joining.specs.Laws.{HasStep, HasTrimmedEnd, HasRunsOfCells, HasMerge};
+
+/// The step from slab to slab: what is joined up to the beginning of a slab is joined up to its end
+/// once the runs of the slab are put to it. The marks are of any type.
+pub fn joined_on<M>()
+    ensures step { HasStep M }
+{}
+
+/// The end: what is joined up to an abscissa is a trimmed list of patches.
+pub fn joined_is_trimmed<M>()
+    ensures trimmed { HasTrimmedEnd M }
+{}
+
+/// The runs of a slab are those of its cells, where neighbours of one mark become one; and the runs
+/// of two stretches of cells are merged where they meet.
+pub fn runs_of_cells<M>()
+    ensures runs { HasRunsOfCells M }
+    ensures merged { HasMerge M }
+{}
