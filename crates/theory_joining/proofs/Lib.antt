@@ -18,3 +18,5 @@ pub mod RunsStayApart
 pub mod RunsKeepMarks
 -- so they are the runs of the slab
 pub mod RunsOfCells
+-- slab after slab, from the first to the last
+pub mod JoinOfSlabs

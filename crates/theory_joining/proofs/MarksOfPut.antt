@@ -1,5 +1,5 @@
--- Off the line on which they begin, runs that are put to a list add to its marks what they mark, and
--- nothing else.
+-- Off the line on which they begin, runs that are put to a list add to its marks what they mark,
+-- and nothing else.
 use Rattle.std.proofs.Common.{◌≡◌, refl, sym, ap₂, inl, inr, ◌⊎◌, ⊎_elim, pos}
 use Rattle.std.proofs.Common.{Bool, true, false, ◌&&◌, if◌then◌else◌, List, [], ◌∷◌, ◌∙◌}
 use Rattle.std.proofs.lemmas.Bool.{and_parts, and_from}
@@ -9,15 +9,18 @@ use Rattle.theory_numbers.specs.Rationals.{IsBelow, IsSame, is_below}
 use Rattle.theory_numbers.proofs.Signs.{test_less, less_from}
 use Rattle.theory_numbers.proofs.Rationals.{below_trans, number_cases, same_sym, same_trans}
 use Rattle.theory_numbers.proofs.Rationals.{at_most_below_trans}
-use Rattle.theory_plane.specs.Points.{FacePoint, IsFacePoint, abscissa_of, is_above_side, is_under_side}
+use Rattle.theory_plane.specs.Points.{FacePoint, IsFacePoint, abscissa_of, is_above_side}
+use Rattle.theory_plane.specs.Points.{is_under_side}
 use Rattle.theory_plane.specs.Regions.{Region, is_inside, is_spanned}
 use Rattle.theory_patches.specs.Marked.{MarkedPatch, IsPatch}
 use Rattle.theory_patches.specs.Sheets.{IsMarkedAt}
 use Rattle.theory_patches.proofs.NoneBetween.{at_most_from_same}
-use Rattle.theory_patches.proofs.MarkedAt.{Marks, marked_first, marked_later, marked_cases, none_marked}
+use Rattle.theory_patches.proofs.MarkedAt.{Marks, marked_first, marked_later, marked_cases}
+use Rattle.theory_patches.proofs.MarkedAt.{none_marked}
 use Rattle.theory_joining.specs.Put.{goes_on, carried_on, put, put_all}
 use Rattle.theory_joining.specs.Laws.{TellsEqual}
-use Rattle.theory_joining.proofs.GoesOn.{GoesOn, goes_on_from, carried_on_is_patch, ends_beyond_joint}
+use Rattle.theory_joining.proofs.GoesOn.{GoesOn, goes_on_from, carried_on_is_patch}
+use Rattle.theory_joining.proofs.GoesOn.{ends_beyond_joint}
 
 -- the point lies between the sides of the region
 abbrev pub is_between_sides : Region → FacePoint → Bool
@@ -100,7 +103,8 @@ module _ {M : Type 0} (point : FacePoint) (point_in : IsFacePoint point) (mark :
         is : IsInsideBy (carried_on p r).region point
         is = inside_parts (carried_on p r).region point marks.inside
 
-        from : (IsBelow (abscissa_of point) p.region.high ⊎ IsSame (abscissa_of point) p.region.high)
+        from : (IsBelow (abscissa_of point) p.region.high
+            ⊎ IsSame (abscissa_of point) p.region.high)
             ⊎ IsBelow p.region.high (abscissa_of point)
             → Marks p point mark ⊎ Marks r point mark
         from (inl (inl less)) =

@@ -14,7 +14,8 @@ use Rattle.theory_plane.proofs.Points.{above_is, under_is, on_is}
 use Rattle.theory_plane.proofs.Clearance as clearances
 use Rattle.theory_patches.specs.Marked.{MarkedPatch}
 use Rattle.theory_patches.specs.Sheets.{Sheet, IsOffCuts, IsMarkedAt}
-use Rattle.theory_patches.proofs.MarkedAt.{Marks, marked_first, marked_later, marked_cases, none_marked}
+use Rattle.theory_patches.proofs.MarkedAt.{Marks, marked_first, marked_later, marked_cases}
+use Rattle.theory_patches.proofs.MarkedAt.{none_marked}
 use Rattle.theory_joining.specs.Runs.{IsRunOver, IsInSlab}
 use Rattle.theory_joining.specs.Cells.{IsClearOver, IsOfCuts, is_one_run}
 use Rattle.theory_joining.specs.Cells.{raised, lay_under, runs_of}

@@ -1,5 +1,6 @@
 -- The laws of joining.
-use Rattle.std.specs.Prelude.{◌≡◌, Bool, IsTrue, Decides, List, ◌++◌}
+use Rattle.std.specs.Prelude.{◌≡◌, Bool, IsTrue, Decides, List, [], ◌++◌}
+use Rattle.std.specs.List.{AllByRecursion}
 use Rattle.theory_numbers.specs.Arrows.{Arrow}
 use Rattle.theory_plane.specs.Points.{FacePoint}
 use Rattle.theory_lists.specs.Members.{Stands}
@@ -10,6 +11,7 @@ use Rattle.theory_joining.specs.Runs.{IsSlab, AreRunsOver}
 use Rattle.theory_joining.specs.Joined.{IsJoinedUpTo}
 use Rattle.theory_joining.specs.Put.{put_all}
 use Rattle.theory_joining.specs.Cells.{AreCellsOver, runs_of, merge}
+use Rattle.theory_joining.specs.Slabs.{SlabRuns, AreRunsOfSlab, Follow, join, IsJoinOf}
 
 -- the test tells whether two marks are equal
 abbrev pub TellsEqual : {M : Type 0} → (M → M → Bool) → Type 0
@@ -49,3 +51,11 @@ abbrev pub HasMerge : Type 0 → Type 0
 HasMerge M =
     (same : M → M → Bool) (cs ds : List (MarkedPatch M)) → TellsEqual same
     → runs_of same (cs ++ ds) ≡ merge same (runs_of same cs) (runs_of same ds)
+
+-- slab after slab: joining leaves a trimmed list with the marks of the runs
+abbrev pub HasJoin : Type 0 → Type 0
+HasJoin M =
+    (sheet : Sheet) (same : M → M → Bool) (first end : Arrow) (slabs : List (SlabRuns M))
+    → IsSheet sheet → TellsEqual same → AllByRecursion (AreRunsOfSlab sheet) slabs
+    → Follow first slabs end → Stands end sheet.abscissae
+    → IsJoinOf sheet slabs (join same slabs [])

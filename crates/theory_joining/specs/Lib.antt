@@ -3,4 +3,5 @@ pub mod Runs
 pub mod Joined
 pub mod Put
 pub mod Cells
+pub mod Slabs
 pub mod Laws

@@ -1,5 +1,5 @@
--- A region is uncrossed exactly where it is at its ends, and open strictly between them; and what is
--- open there is a region.
+-- A region is uncrossed exactly where it is at its ends, and open strictly between them; and what
+-- is open there is a region.
 use Rattle.std.proofs.Common.{◌≡◌, ◌⊎◌, inl, inr, arith, ℤ, pos, ◌<ℤ◌}
 use Rattle.std.proofs.Common.{◌≤ℤ◌, Bool, true, false, not, ◌&&◌}
 use Rattle.std.proofs.lemmas.Int.{ints}
@@ -8,8 +8,8 @@ use Rattle.std.proofs.lemmas.Bool.{not_from_false}
 use Rattle.std.specs.Ordering.{int_eq}
 use Rattle.std.specs.Cmp.{signed_Decides}
 use Rattle.theory_numbers.specs.Arrows.{Arrow, cross, opposite}
-use Rattle.theory_numbers.specs.Rationals.{IsRational, IsBelow, IsAtMost, IsSame, is_below, value_at}
-use Rattle.theory_numbers.specs.Rationals.{mediant}
+use Rattle.theory_numbers.specs.Rationals.{IsRational, IsBelow, IsAtMost, IsSame, is_below}
+use Rattle.theory_numbers.specs.Rationals.{value_at, mediant}
 use Rattle.theory_numbers.proofs.Signs.{test_less, less_from, test_at_most, at_most_from}
 use Rattle.theory_numbers.proofs.Products.{weak_product, weak_factor}
 use Rattle.theory_numbers.proofs.Rationals.{between, value_at_same, number_cases, below_clash}
