@@ -20,3 +20,5 @@ pub mod RunsKeepMarks
 pub mod RunsOfCells
 -- slab after slab, from the first to the last
 pub mod JoinOfSlabs
+mod Examples
+mod Refused

@@ -1,16 +1,27 @@
 -- The runs of the cells of a slab are the runs of the slab.
-use Rattle.std.proofs.Common.{Bool, List}
+use Rattle.std.proofs.Common.{◌≡◌, Bool, true, false, List}
 use Rattle.theory_numbers.specs.Arrows.{Arrow}
-use Rattle.theory_plane.specs.Points.{FacePoint}
+use Rattle.theory_plane.specs.Sides.{LineSide}
+use Rattle.theory_plane.specs.Points.{FacePoint, is_on_side}
+use Rattle.theory_lists.specs.Members.{Stands}
+use Rattle.theory_lists.proofs.Members.{all_stands}
 use Rattle.theory_patches.specs.Marked.{MarkedPatch}
 use Rattle.theory_patches.specs.Sheets.{Sheet}
 use Rattle.theory_joining.specs.Runs.{AreRunsOver}
-use Rattle.theory_joining.specs.Cells.{AreCellsOver}
-use Rattle.theory_joining.specs.Cells.{runs_of}
+use Rattle.theory_joining.specs.Cells.{IsOfCuts, AreCellsOver, runs_of}
 use Rattle.theory_joining.specs.Laws.{TellsEqual, Passes, HasRunsOfCells}
 use Rattle.theory_joining.proofs.RunsStayApart.{runs_are_runs, runs_are_apart, runs_rise}
 use Rattle.theory_joining.proofs.RunsStayApart.{runs_are_settled}
 use Rattle.theory_joining.proofs.RunsKeepMarks.{runs_mark, runs_mark_no_more}
+
+-- no point of a side that is one of the cuts is off the cuts
+pub listed_is_of_cuts : (sheet : Sheet) (side : LineSide) → Stands side sheet.cuts
+    → IsOfCuts sheet side
+listed_is_of_cuts sheet side listed point point_in off on =
+    clash (all_stands (λ cut. is_on_side cut point ≡ false) side sheet.cuts off.no_cut listed) on
+  where
+    clash : {b : Bool} → b ≡ false → b ≡ true → ⊥
+    clash none both = cc
 
 module _ (cur next : Arrow) {M : Type 0} (same : M → M → Bool) (tells : TellsEqual same)
     (sheet : Sheet) where
