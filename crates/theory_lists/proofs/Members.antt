@@ -1,7 +1,7 @@
 -- What holds of all items of a list holds of one that stands in it; two items are one, or stand at
 -- different places; what a list has at a place stands in it.
 use Rattle.std.proofs.Common.{◌≡◌, sym, ◌∙◌, inl, inr, ◌⊎◌, subst, List, [], ◌∷◌, map}
-use Rattle.std.proofs.Common.{ℕ, zero, suc, Some, None, slice_get}
+use Rattle.std.proofs.Common.{ℕ, zero, suc, Some, slice_get}
 use Rattle.std.specs.List.{AllByRecursion}
 use Rattle.std.proofs.lemmas.Option.{same_Some, none-some}
 use Rattle.theory_lists.specs.Members.{Stands, AllOfTwo}
