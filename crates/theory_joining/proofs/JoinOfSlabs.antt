@@ -5,7 +5,6 @@ use Rattle.std.specs.List.{AllByRecursion}
 use Rattle.theory_numbers.specs.Arrows.{Arrow}
 use Rattle.theory_numbers.specs.Rationals.{IsRational, IsBelow}
 use Rattle.theory_numbers.proofs.Rationals.{below_trans, below_irrefl}
-use Rattle.theory_numbers.proofs.Rationals.{below_at_most_trans}
 use Rattle.theory_plane.specs.Points.{FacePoint, IsFacePoint, abscissa_of}
 use Rattle.theory_lists.specs.Members.{Stands}
 use Rattle.theory_lists.proofs.Members.{all_stands}
@@ -14,13 +13,14 @@ use Rattle.theory_patches.specs.Sheets.{Sheet, IsSheet, IsOffCuts, IsMarkedAt}
 use Rattle.theory_patches.proofs.MarkedAt.{marked_in_first, marked_in_second, marked_in_either}
 use Rattle.theory_patches.proofs.MarkedAt.{none_marked}
 use Rattle.theory_joining.specs.Runs.{IsRunOver, IsInSlab, AreRunsOver}
-use Rattle.theory_joining.specs.Joined.{IsPatchUpTo, IsJoinedUpTo}
+use Rattle.theory_joining.specs.Joined.{IsJoinedUpTo}
 use Rattle.theory_joining.specs.Put.{put_all}
 use Rattle.theory_joining.specs.Slabs.{SlabRuns, AreRunsOfSlab, Follow, all_runs, join, IsJoinOf}
 use Rattle.theory_joining.specs.Laws.{TellsEqual, HasJoin}
 use Rattle.theory_joining.proofs.MarksOfPut.{inside_parts}
 use Rattle.theory_joining.proofs.JoinedOn.{joined_on}
 use Rattle.theory_joining.proofs.JoinedIsTrimmed.{joined_is_trimmed}
+use Rattle.theory_joining.proofs.JoinedIsOne.{joined_ends}
 
 -- ---- the beginning and the end
 
@@ -40,17 +40,6 @@ module _ {M : Type 0} (sheet : Sheet) (Has : FacePoint → M → Type 0) where
               λ has. absurd (none point point_in off before mark has),
             );
       }
-
-  -- what is joined up to a number has no mark beyond it
-  pub joined_ends : (cur : Arrow) → IsRational cur → (ps : List (MarkedPatch M))
-      → IsJoinedUpTo sheet Has cur ps → (point : FacePoint) → IsFacePoint point → (mark : M)
-      → IsMarkedAt ps point mark → IsBelow (abscissa_of point) cur
-  joined_ends cur cur_in ps joined point point_in mark (p, stands, has_mark, inside) =
-      let p_in =
-      all_stands (λ q. IsPatchUpTo sheet cur q.region) p ps joined.patches stands
-      in
-      below_at_most_trans (abscissa_of point) p.region.high cur point_in
-      p_in.patch.region.high_in cur_in (inside_parts p.region point inside).before p_in.within
 
 -- ---- slab after slab, for any relation of points and marks
 

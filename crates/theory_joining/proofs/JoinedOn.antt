@@ -2,6 +2,8 @@
 -- the slab are put to it.
 use Rattle.std.proofs.Common.{◌≡◌, ◌↔◌, sym, subst, inl, inr, ◌⊎◌, Bool, List}
 use Rattle.std.specs.List.{AllByRecursion}
+use Rattle.std.proofs.Common.{[], ◌∷◌}
+use Rattle.std.proofs.lemmas.List.Sorted.{IsPermutation-refl}
 use Rattle.theory_numbers.specs.Arrows.{Arrow}
 use Rattle.theory_numbers.specs.Rationals.{IsRational, IsBelow, IsSame}
 use Rattle.theory_numbers.proofs.Rationals.{number_cases, below_clash}
@@ -14,10 +16,10 @@ use Rattle.theory_patches.specs.Marked.{MarkedPatch, IsPatch}
 use Rattle.theory_patches.specs.Sheets.{Sheet, IsSheet, IsOffCuts, IsMarkedAt}
 use Rattle.theory_joining.specs.Runs.{IsSlab, IsRunOver, AreApartIfAlike, AreRunsOver}
 use Rattle.theory_joining.specs.Joined.{IsPatchUpTo, IsJoinedUpTo}
-use Rattle.theory_joining.specs.Put.{put_all}
-use Rattle.theory_joining.specs.Laws.{TellsEqual, Passes, HasStep}
-use Rattle.theory_joining.proofs.MarksOfPut.{inside_parts, put_all_marks, put_all_marks_no_more}
-use Rattle.theory_joining.proofs.PutIsSpaced.{put_all_up_to, put_all_is_spaced}
+use Rattle.theory_joining.specs.Put.{put, put_all, ArePutTo}
+use Rattle.theory_joining.specs.Laws.{TellsEqual, Passes, HasStep, HasStepInAnyOrder}
+use Rattle.theory_joining.proofs.MarksOfPut.{inside_parts, runs_add_marks, runs_add_no_more}
+use Rattle.theory_joining.proofs.PutIsSpaced.{runs_up_to, runs_stay_spaced}
 
 module _ (sheet : Sheet) (sheet_in : IsSheet sheet) (cur next : Arrow)
     (slab : IsSlab sheet cur next) where
@@ -51,8 +53,9 @@ module _ (sheet : Sheet) (sheet_in : IsSheet sheet) (cur next : Arrow)
       p_in.within))
 
   module _ {M : Type 0} (Has : FacePoint → M → Type 0) (same : M → M → Bool)
-      (tells : TellsEqual same) (ps rs : List (MarkedPatch M))
-      (joined : IsJoinedUpTo sheet Has cur ps) (runs : AreRunsOver sheet Has cur next rs) where
+      (tells : TellsEqual same) (ps rs qs : List (MarkedPatch M))
+      (joined : IsJoinedUpTo sheet Has cur ps) (runs : AreRunsOver sheet Has cur next rs)
+      (are_put : ArePutTo same rs ps qs) where
     patches : AllByRecursion (λ p. IsPatch p.region) ps
     patches = all_follow (λ p p_in. p_in.patch) ps joined.patches
 
@@ -89,22 +92,22 @@ module _ (sheet : Sheet) (sheet_in : IsSheet sheet) (cur next : Arrow)
           below_at_most_trans (abscissa_of point) p.region.high cur point_in
           p_in.patch.region.high_in cur_in (inside_parts p.region point inside).before p_in.within
 
-      no_more : IsMarkedAt (put_all same rs ps) point mark
+      no_more : IsMarkedAt qs point mark
           → IsMarkedAt rs point mark ⊎ IsMarkedAt ps point mark
       no_more =
-          put_all_marks_no_more point point_in mark same tells rs are_runs
+          runs_add_no_more point point_in mark same tells rs are_runs
           (all_follow
           (λ r r_is at.
           not_at_cur (subst (λ n. IsSame n (abscissa_of point)) r_is.begins at))
           rs runs.runs)
-          ps patches
+          ps qs are_put patches
 
       all_there : IsMarkedAt rs point mark ⊎ IsMarkedAt ps point mark
-          → IsMarkedAt (put_all same rs ps) point mark
-      all_there = put_all_marks point point_in mark same tells rs are_runs ps patches
+          → IsMarkedAt qs point mark
+      all_there = runs_add_marks point point_in mark same tells rs are_runs ps qs are_put patches
 
       marks_before_end : IsBelow (abscissa_of point) next
-          → IsMarkedAt (put_all same rs ps) point mark ↔ Has point mark
+          → IsMarkedAt qs point mark ↔ Has point mark
       marks_before_end before = (λ marked. to (no_more marked), λ has. back has)
         where
           to : IsMarkedAt rs point mark ⊎ IsMarkedAt ps point mark → Has point mark
@@ -126,24 +129,47 @@ module _ (sheet : Sheet) (sheet_in : IsSheet sheet) (cur next : Arrow)
           from has (inl (inr at)) = absurd (not_at_cur at)
           from has (inr earlier) = inr ((joined.marks point point_in off earlier mark).1 has)
 
-          back : Has point mark → IsMarkedAt (put_all same rs ps) point mark
+          back : Has point mark → IsMarkedAt qs point mark
           back has = all_there (from has (number_cases cur (abscissa_of point)))
 
-    -- the step, for marks of any type and any relation of points and marks
-    pub joined_on : IsJoinedUpTo sheet Has next (put_all same rs ps)
-    joined_on =
+    -- the step, for marks of any type and any relation of points and marks, in whatever order the
+    -- patches stand after each put
+    pub joined_in_any_order : IsJoinedUpTo sheet Has next qs
+    joined_in_any_order =
         record {
           patches =
-              put_all_up_to sheet cur next slab same tells rs runs.runs ps patches_up_to;
+              runs_up_to sheet cur next slab same tells rs runs.runs ps qs are_put patches_up_to;
           spaced =
-              put_all_is_spaced sheet cur next slab same tells rs runs.runs runs.apart ps
+              runs_stay_spaced sheet cur next slab same tells rs runs.runs runs.apart ps qs are_put
               patches_up_to from_list joined.spaced;
           marks =
               λ point point_in off before mark.
               marks_before_end point point_in off mark before;
         }
 
+-- all runs are put to a list one by one
+put_all_is_put : {M : Type 0} (same : M → M → Bool) (rs ps : List (MarkedPatch M))
+    → ArePutTo same rs ps (put_all same rs ps)
+put_all_is_put same [] ps = IsPermutation-refl ps
+put_all_is_put same (r ∷ rs) ps =
+    (put same r ps, IsPermutation-refl (put same r ps), put_all_is_put same rs (put same r ps))
+
+-- so it is with the list to which all runs are put
+pub joined_on : {M : Type 0} (sheet : Sheet) → IsSheet sheet → (cur next : Arrow)
+    → IsSlab sheet cur next → (Has : FacePoint → M → Type 0) (same : M → M → Bool)
+    → TellsEqual same → (ps rs : List (MarkedPatch M)) → IsJoinedUpTo sheet Has cur ps
+    → AreRunsOver sheet Has cur next rs → IsJoinedUpTo sheet Has next (put_all same rs ps)
+joined_on sheet sheet_in cur next slab Has same tells ps rs joined runs =
+    joined_in_any_order sheet sheet_in cur next slab Has same tells ps rs (put_all same rs ps)
+    joined runs (put_all_is_put same rs ps)
+
 -- the step as the contract has it
 pub has_step : (M : Type 0) → HasStep M
 has_step M sheet has same cur next ps rs sheet_in tells slab joined runs =
     joined_on sheet sheet_in cur next slab (Passes has) same tells ps rs joined runs
+
+-- and its other clause
+pub has_step_in_any_order : (M : Type 0) → HasStepInAnyOrder M
+has_step_in_any_order M sheet has same cur next ps rs qs sheet_in tells slab joined runs are_put =
+    joined_in_any_order sheet sheet_in cur next slab (Passes has) same tells ps rs qs joined runs
+    are_put

@@ -6,10 +6,14 @@ pub mod GoesOn
 pub mod MarksOfPut
 -- the list stays spaced
 pub mod PutIsSpaced
+-- what a put does, patch by patch
+pub mod PutByKey
 -- the step from the beginning of a slab to its end
 pub mod JoinedOn
 -- the end: spaced is trimmed
 pub mod JoinedIsTrimmed
+-- and one list
+pub mod JoinedIsOne
 -- the runs of two stretches of cells
 pub mod RunsMerge
 -- runs from cells: patches that never touch

@@ -17,7 +17,10 @@ use Rattle.theory_patches.specs.Sheets.{IsMarkedAt}
 use Rattle.theory_patches.proofs.NoneBetween.{at_most_from_same}
 use Rattle.theory_patches.proofs.MarkedAt.{Marks, marked_first, marked_later, marked_cases}
 use Rattle.theory_patches.proofs.MarkedAt.{none_marked}
-use Rattle.theory_joining.specs.Put.{goes_on, carried_on, put, put_all}
+use Rattle.theory_joining.specs.Put.{goes_on, carried_on, put, ArePutTo}
+use Rattle.std.proofs.lemmas.List.Sorted.{IsPermutation-sym}
+use Rattle.theory_lists.proofs.InAnyOrder.{all_permuted}
+use Rattle.theory_patches.proofs.TrimmedInAnyOrder.{marked_permuted}
 use Rattle.theory_joining.specs.Laws.{TellsEqual}
 use Rattle.theory_joining.proofs.GoesOn.{GoesOn, goes_on_from, carried_on_is_patch}
 use Rattle.theory_joining.proofs.GoesOn.{ends_beyond_joint}
@@ -233,48 +236,59 @@ put_patches same tells r r_in ps patches =
 module _ {M : Type 0} (point : FacePoint) (point_in : IsFacePoint point) (mark : M)
     (same : M → M → Bool) (tells : TellsEqual same) where
   -- the list keeps its marks and has those of the runs
-  pub put_all_marks : (rs : List (MarkedPatch M)) → AllByRecursion (λ r. IsPatch r.region) rs
-      → (ps : List (MarkedPatch M)) → AllByRecursion (λ p. IsPatch p.region) ps
-      → IsMarkedAt rs point mark ⊎ IsMarkedAt ps point mark
-      → IsMarkedAt (put_all same rs ps) point mark
-  put_all_marks [] runs ps patches (inl new) = absurd (none_marked point mark new)
-  put_all_marks [] runs ps patches (inr old) = old
-  put_all_marks (r ∷ rs) runs ps patches marks =
-      put_all_marks rs runs.1 (put same r ps) (put_patches same tells r runs.0 ps patches)
+  pub runs_add_marks : (rs : List (MarkedPatch M)) → AllByRecursion (λ r. IsPatch r.region) rs
+      → (ps qs : List (MarkedPatch M)) → ArePutTo same rs ps qs
+      → AllByRecursion (λ p. IsPatch p.region) ps
+      → IsMarkedAt rs point mark ⊎ IsMarkedAt ps point mark → IsMarkedAt qs point mark
+  runs_add_marks [] runs ps qs are_put patches (inl new) = absurd (none_marked point mark new)
+  runs_add_marks [] runs ps qs are_put patches (inr old) =
+      marked_permuted ps qs are_put point mark old
+  runs_add_marks (r ∷ rs) runs ps qs (ms, permuted, are_put) patches marks =
+      runs_add_marks rs runs.1 ms qs are_put
+      (all_permuted (λ p. IsPatch p.region) (put same r ps) ms permuted
+      (put_patches same tells r runs.0 ps patches))
       (from marks)
     where
+      there : Marks r point mark ⊎ IsMarkedAt ps point mark → IsMarkedAt ms point mark
+      there marked =
+          marked_permuted (put same r ps) ms permuted point mark
+          (put_marks point point_in mark same tells r runs.0 ps patches marked)
+
       of_runs : Marks r point mark ⊎ IsMarkedAt rs point mark
-          → IsMarkedAt rs point mark ⊎ IsMarkedAt (put same r ps) point mark
-      of_runs (inl first) =
-          inr (put_marks point point_in mark same tells r runs.0 ps patches (inl first))
+          → IsMarkedAt rs point mark ⊎ IsMarkedAt ms point mark
+      of_runs (inl first) = inr (there (inl first))
       of_runs (inr later) = inl later
 
       from : IsMarkedAt (r ∷ rs) point mark ⊎ IsMarkedAt ps point mark
-          → IsMarkedAt rs point mark ⊎ IsMarkedAt (put same r ps) point mark
+          → IsMarkedAt rs point mark ⊎ IsMarkedAt ms point mark
       from (inl new) = of_runs (marked_cases point mark r rs new)
-      from (inr old) = inr (put_marks point point_in mark same tells r runs.0 ps patches (inr old))
+      from (inr old) = inr (there (inr old))
 
   -- and no more, but on the line on which the runs begin
-  pub put_all_marks_no_more : (rs : List (MarkedPatch M))
-      → AllByRecursion (λ r. IsPatch r.region) rs
+  pub runs_add_no_more : (rs : List (MarkedPatch M)) → AllByRecursion (λ r. IsPatch r.region) rs
       → AllByRecursion (λ r. IsSame r.region.low (abscissa_of point) → ⊥) rs
-      → (ps : List (MarkedPatch M)) → AllByRecursion (λ p. IsPatch p.region) ps
-      → IsMarkedAt (put_all same rs ps) point mark
+      → (ps qs : List (MarkedPatch M)) → ArePutTo same rs ps qs
+      → AllByRecursion (λ p. IsPatch p.region) ps → IsMarkedAt qs point mark
       → IsMarkedAt rs point mark ⊎ IsMarkedAt ps point mark
-  put_all_marks_no_more [] runs off ps patches marked = inr marked
-  put_all_marks_no_more (r ∷ rs) runs off ps patches marked =
+  runs_add_no_more [] runs off ps qs are_put patches marked =
+      inr (marked_permuted qs ps (IsPermutation-sym ps qs are_put) point mark marked)
+  runs_add_no_more (r ∷ rs) runs off ps qs (ms, permuted, are_put) patches marked =
       from
-      (put_all_marks_no_more rs runs.1 off.1 (put same r ps)
-      (put_patches same tells r runs.0 ps patches) marked)
+      (runs_add_no_more rs runs.1 off.1 ms qs are_put
+      (all_permuted (λ p. IsPatch p.region) (put same r ps) ms permuted
+      (put_patches same tells r runs.0 ps patches))
+      marked)
     where
       of_put : Marks r point mark ⊎ IsMarkedAt ps point mark
           → IsMarkedAt (r ∷ rs) point mark ⊎ IsMarkedAt ps point mark
       of_put (inl new) = inl (marked_first point mark r rs new)
       of_put (inr old) = inr old
 
-      from : IsMarkedAt rs point mark ⊎ IsMarkedAt (put same r ps) point mark
+      from : IsMarkedAt rs point mark ⊎ IsMarkedAt ms point mark
           → IsMarkedAt (r ∷ rs) point mark ⊎ IsMarkedAt ps point mark
       from (inl later) = inl (marked_later point mark r rs later)
       from (inr there) =
           of_put
-          (put_marks_no_more point point_in mark same tells r runs.0 off.0 ps patches there)
+          (put_marks_no_more point point_in mark same tells r runs.0 off.0 ps patches
+          (marked_permuted ms (put same r ps) (IsPermutation-sym (put same r ps) ms permuted) point
+          mark there))

@@ -22,7 +22,9 @@ use Rattle.theory_patches.proofs.NoneBetween.{at_most_from_same}
 use Rattle.theory_patches.proofs.Spaced.{IsOver, spaced_sym}
 use Rattle.theory_joining.specs.Runs.{IsSlab, IsRunOver, AreApartIfAlike}
 use Rattle.theory_joining.specs.Joined.{IsPatchUpTo, AreSpacedIfAlike}
-use Rattle.theory_joining.specs.Put.{ends_where_begins, goes_on, carried_on, put, put_all}
+use Rattle.theory_joining.specs.Put.{ends_where_begins, goes_on, carried_on, put, ArePutTo}
+use Rattle.std.proofs.Common.{IsPermutation}
+use Rattle.theory_lists.proofs.InAnyOrder.{all_permuted, two_permuted}
 use Rattle.theory_joining.specs.Laws.{TellsEqual}
 use Rattle.theory_joining.proofs.GoesOn.{GoesOn, goes_on_from, carried_on_is_patch}
 use Rattle.theory_joining.proofs.MarksOfPut.{all_put}
@@ -249,35 +251,46 @@ module _ (sheet : Sheet) (cur next : Arrow) (slab : IsSlab sheet cur next) where
 
   module _ {M : Type 0} (same : M → M → Bool) (tells : TellsEqual same) where
     -- the patches reach up to the end of the slab after all puts
-    pub put_all_up_to : (rs : List (MarkedPatch M))
-        → AllByRecursion (λ r. IsRunOver cur next r.region) rs → (ps : List (MarkedPatch M))
-        → AllByRecursion (λ p. IsPatchUpTo sheet next p.region) ps
-        → AllByRecursion (λ p. IsPatchUpTo sheet next p.region) (put_all same rs ps)
-    put_all_up_to [] runs ps patches = patches
-    put_all_up_to (r ∷ rs) runs ps patches =
-        put_all_up_to rs runs.1 (put same r ps) (put_up_to same tells r runs.0 ps patches)
+    pub runs_up_to : (rs : List (MarkedPatch M))
+        → AllByRecursion (λ r. IsRunOver cur next r.region) rs → (ps qs : List (MarkedPatch M))
+        → ArePutTo same rs ps qs → AllByRecursion (λ p. IsPatchUpTo sheet next p.region) ps
+        → AllByRecursion (λ p. IsPatchUpTo sheet next p.region) qs
+    runs_up_to [] runs ps qs are_put patches =
+        all_permuted (λ p. IsPatchUpTo sheet next p.region) ps qs are_put patches
+    runs_up_to (r ∷ rs) runs ps qs (ms, permuted, are_put) patches =
+        runs_up_to rs runs.1 ms qs are_put
+        (all_permuted (λ p. IsPatchUpTo sheet next p.region) (put same r ps) ms permuted
+        (put_up_to same tells r runs.0 ps patches))
 
     -- runs that are apart from each other and from the list are apart after one of them is put
-    still_apart : (r : MarkedPatch M) → IsRunOver cur next r.region → (ps : List (MarkedPatch M))
+    still_apart : (r : MarkedPatch M) → IsRunOver cur next r.region
+        → (ps ms : List (MarkedPatch M)) → IsPermutation (put same r ps) ms
         → (rs : List (MarkedPatch M)) → AllByRecursion (λ s. IsRunOver cur next s.region) rs
         → AllByRecursion (AreApartIfAlike sheet r) rs
         → AllByRecursion (λ s. AllByRecursion (λ p. AreApartIfAlike sheet p s) ps) rs
-        → AllByRecursion (λ s. AllByRecursion (λ p. AreApartIfAlike sheet p s) (put same r ps)) rs
-    still_apart r r_is ps rs runs apart from_list =
-        all_follow (λ s is. put_stays_apart same tells r r_is s is.0 is.1.0 ps is.1.1) rs
-        (all_both _ _ rs runs (all_both _ _ rs apart from_list))
+        → AllByRecursion (λ s. AllByRecursion (λ p. AreApartIfAlike sheet p s) ms) rs
+    still_apart r r_is ps ms permuted rs runs apart from_list =
+        all_follow
+        (λ s is.
+        all_permuted (λ p. AreApartIfAlike sheet p s) (put same r ps) ms permuted
+        (put_stays_apart same tells r r_is s is.0 is.1.0 ps is.1.1))
+        rs (all_both _ _ rs runs (all_both _ _ rs apart from_list))
 
     -- so the list stays spaced
-    pub put_all_is_spaced : (rs : List (MarkedPatch M))
+    pub runs_stay_spaced : (rs : List (MarkedPatch M))
         → AllByRecursion (λ r. IsRunOver cur next r.region) rs
-        → AllOfTwo (AreApartIfAlike sheet) rs → (ps : List (MarkedPatch M))
-        → AllByRecursion (λ p. IsPatchUpTo sheet next p.region) ps
+        → AllOfTwo (AreApartIfAlike sheet) rs → (ps qs : List (MarkedPatch M))
+        → ArePutTo same rs ps qs → AllByRecursion (λ p. IsPatchUpTo sheet next p.region) ps
         → AllByRecursion (λ s. AllByRecursion (λ p. AreApartIfAlike sheet p s) ps) rs
-        → AllOfTwo (AreSpacedIfAlike sheet) ps
-        → AllOfTwo (AreSpacedIfAlike sheet) (put_all same rs ps)
-    put_all_is_spaced [] runs apart ps patches from_list spaced = spaced
-    put_all_is_spaced (r ∷ rs) runs apart ps patches from_list spaced =
-        put_all_is_spaced rs runs.1 apart.1 (put same r ps)
-        (put_up_to same tells r runs.0 ps patches)
-        (still_apart r runs.0 ps rs runs.1 apart.0 from_list.1)
-        (put_is_spaced same tells r runs.0 ps patches from_list.0 spaced)
+        → AllOfTwo (AreSpacedIfAlike sheet) ps → AllOfTwo (AreSpacedIfAlike sheet) qs
+    runs_stay_spaced [] runs apart ps qs are_put patches from_list spaced =
+        two_permuted (AreSpacedIfAlike sheet) (λ p q two. spaced_if_alike_sym sheet p q two) ps qs
+        are_put spaced
+    runs_stay_spaced (r ∷ rs) runs apart ps qs (ms, permuted, are_put) patches from_list spaced =
+        runs_stay_spaced rs runs.1 apart.1 ms qs are_put
+        (all_permuted (λ p. IsPatchUpTo sheet next p.region) (put same r ps) ms permuted
+        (put_up_to same tells r runs.0 ps patches))
+        (still_apart r runs.0 ps ms permuted rs runs.1 apart.0 from_list.1)
+        (two_permuted (AreSpacedIfAlike sheet) (λ p q two. spaced_if_alike_sym sheet p q two)
+        (put same r ps) ms permuted
+        (put_is_spaced same tells r runs.0 ps patches from_list.0 spaced))

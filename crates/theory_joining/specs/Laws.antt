@@ -1,5 +1,5 @@
 -- The laws of joining.
-use Rattle.std.specs.Prelude.{◌≡◌, Bool, IsTrue, Decides, List, [], ◌++◌}
+use Rattle.std.specs.Prelude.{◌≡◌, Bool, IsTrue, Decides, List, [], ◌++◌, IsPermutation}
 use Rattle.std.specs.List.{AllByRecursion}
 use Rattle.theory_numbers.specs.Arrows.{Arrow}
 use Rattle.theory_plane.specs.Points.{FacePoint}
@@ -9,7 +9,7 @@ use Rattle.theory_patches.specs.Sheets.{Sheet, IsSheet}
 use Rattle.theory_patches.specs.Trimmed.{IsTrimmedList}
 use Rattle.theory_joining.specs.Runs.{IsSlab, AreRunsOver}
 use Rattle.theory_joining.specs.Joined.{IsJoinedUpTo}
-use Rattle.theory_joining.specs.Put.{put_all}
+use Rattle.theory_joining.specs.Put.{put_all, ArePutTo}
 use Rattle.theory_joining.specs.Cells.{AreCellsOver, runs_of, merge}
 use Rattle.theory_joining.specs.Slabs.{SlabRuns, AreRunsOfSlab, Follow, join, IsJoinOf}
 
@@ -31,12 +31,28 @@ HasStep M =
     → IsJoinedUpTo sheet (Passes has) cur ps → AreRunsOver sheet (Passes has) cur next rs
     → IsJoinedUpTo sheet (Passes has) next (put_all same rs ps)
 
+-- and whatever order the patches stand in after each put
+abbrev pub HasStepInAnyOrder : Type 0 → Type 0
+HasStepInAnyOrder M =
+    (sheet : Sheet) (has : FacePoint → M → Bool) (same : M → M → Bool) (cur next : Arrow)
+    (ps rs qs : List (MarkedPatch M))
+    → IsSheet sheet → TellsEqual same → IsSlab sheet cur next
+    → IsJoinedUpTo sheet (Passes has) cur ps → AreRunsOver sheet (Passes has) cur next rs
+    → ArePutTo same rs ps qs → IsJoinedUpTo sheet (Passes has) next qs
+
 -- what is joined up to an abscissa is trimmed
 abbrev pub HasTrimmedEnd : Type 0 → Type 0
 HasTrimmedEnd M =
     (sheet : Sheet) (has : FacePoint → M → Bool) (cur : Arrow) (ps : List (MarkedPatch M))
     → Stands cur sheet.abscissae → IsJoinedUpTo sheet (Passes has) cur ps
     → IsTrimmedList sheet ps
+
+-- and there is one such list: of two the one is the other in another order
+abbrev pub HasOneJoin : Type 0 → Type 0
+HasOneJoin M =
+    (sheet : Sheet) (has : FacePoint → M → Bool) (cur : Arrow) (ps qs : List (MarkedPatch M))
+    → IsSheet sheet → Stands cur sheet.abscissae → IsJoinedUpTo sheet (Passes has) cur ps
+    → IsJoinedUpTo sheet (Passes has) cur qs → IsPermutation ps qs
 
 -- the runs of the cells of a slab are the runs of the slab
 abbrev pub HasRunsOfCells : Type 0 → Type 0

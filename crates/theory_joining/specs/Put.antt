@@ -1,6 +1,6 @@
 -- Put: how a run carries a joined list on. It goes on with the patch that ends where it begins, if
 -- that has its sides and its mark; else it is a patch of its own.
-use Rattle.std.specs.Prelude.{pos, Bool, ◌&&◌, if◌then◌else◌, List, [], ◌∷◌}
+use Rattle.std.specs.Prelude.{pos, Bool, ◌&&◌, if◌then◌else◌, List, [], ◌∷◌, IsPermutation}
 use Rattle.std.specs.Ordering.{int_eq}
 use Rattle.theory_numbers.specs.Arrows.{cross}
 use Rattle.theory_plane.specs.Regions.{Region, have_same_sides}
@@ -42,3 +42,11 @@ abbrev pub put_all : {M : Type 0} → (M → M → Bool) → List (MarkedPatch M
     → List (MarkedPatch M)
 put_all same [] ps = ps
 put_all same (r ∷ rs) ps = put_all same rs (put same r ps)
+
+-- the runs are put one by one, and after each put the patches may stand in another order: so keeps
+-- them who looks them up by a key
+abbrev pub ArePutTo : {M : Type 0} → (M → M → Bool) → List (MarkedPatch M) → List (MarkedPatch M)
+    → List (MarkedPatch M) → Type 0
+ArePutTo same [] ps qs = IsPermutation ps qs
+ArePutTo {M} same (r ∷ rs) ps qs =
+    (ms : List (MarkedPatch M)) × IsPermutation (put same r ps) ms × ArePutTo same rs ms qs

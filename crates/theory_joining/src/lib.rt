@@ -5,18 +5,22 @@
 //! number; `specs/Put.antt` says how a run carries a list on. The laws are in `specs/Laws.antt`.
 #![tactic(auto)]
 
-ghost use Rattle.theory_joining.specs.Laws.{HasStep, HasTrimmedEnd, HasJoin};
-ghost use Rattle.theory_joining.specs.Laws.{HasRunsOfCells, HasMerge};
+ghost use Rattle.theory_joining.specs.Laws.{HasStep, HasStepInAnyOrder, HasTrimmedEnd, HasJoin};
+ghost use Rattle.theory_joining.specs.Laws.{HasOneJoin, HasRunsOfCells, HasMerge};
 
 /// The step from slab to slab: what is joined up to the beginning of a slab is joined up to its end
-/// once the runs of the slab are put to it. The marks are of any type.
+/// once the runs of the slab are put to it, in whatever order the patches stand after each put. The
+/// marks are of any type.
 pub fn joined_on<M>()
     ensures step { HasStep M }
+    ensures in_any_order { HasStepInAnyOrder M }
 {}
 
-/// The end: what is joined up to an abscissa is a trimmed list of patches.
+/// The end: what is joined up to an abscissa is a trimmed list of patches, and there is one such
+/// list up to order.
 pub fn joined_is_trimmed<M>()
     ensures trimmed { HasTrimmedEnd M }
+    ensures one_list { HasOneJoin M }
 {}
 
 /// The whole: slabs that follow each other, with their runs, are joined to a trimmed list that puts

@@ -1,5 +1,5 @@
--- What stands in a list, what holds of all its items, or of each two whichever comes first, does not
--- see its order.
+-- What stands in a list, what holds of all its items, or of each two whichever comes first, does
+-- not see its order.
 use Rattle.std.proofs.Common.{◌≡◌, refl, sym, ◌∙◌, ap, subst₂, inl, inr, ◌⊎◌, ℕ, zero, suc}
 use Rattle.std.proofs.Common.{◌<◌, ◌≤◌, List, [], ◌∷◌, length, get_or, IsPermutation, arith}
 use Rattle.std.proofs.ByRecursion.{All-get_or, All-from_get_or, all_shuffled}
