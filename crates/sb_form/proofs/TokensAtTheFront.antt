@@ -11,9 +11,9 @@ use Rattle.sb_lex.specs.declared.kinds.Kind.{Kind}
 use Rattle.sb_lex.specs.declared.kinds.Token.{Token}
 use Rattle.sb_lex.specs.Bytes.{is_white}
 use Rattle.sb_lex.specs.Kinds.{BlankPiece, Blank}
-use Rattle.sb_lex.specs.Steps.{Found, scan}
+use Rattle.sb_lex.specs.Scanning.{Scanned, scan}
 use Rattle.sb_lex.specs.Tokens.{IsGap, IsNext, AreTokensFrom}
-use Rattle.sb_lex.proofs.PiecesJoin.{repeated_cons, repeated_nothing}
+use Rattle.theory_bytes.proofs.RepeatsGrow.{repeated_cons, repeated_nothing}
 use Rattle.sb_lex.proofs.OneAnswer.{token_of, found_token}
 use Rattle.sb_step.specs.Lexemes.{Lexeme, lexeme_at, lexemes}
 
@@ -45,7 +45,7 @@ lead_append (p ∷ ps) qs bytes mid rest first second =
 -- computing
 
 -- the piece that ends with what is found behind so many white space bytes
-abbrev pub piece_by : ℕ → List ℕ → Found → Option Piece
+abbrev pub piece_by : ℕ → List ℕ → Scanned → Option Piece
 piece_by gap bytes None = None
 piece_by gap bytes (Some x) =
     Some (record { gap = gap; of_kind = x.0; size = x.1; text = take x.1 bytes })
@@ -96,7 +96,7 @@ abbrev pub IsFirstIf : Option Piece → List ℕ → Type 0
 IsFirstIf None bytes = Unit {0}
 IsFirstIf (Some p) bytes = IsFirst p bytes
 
-piece_by_is_first : (bytes : List ℕ) (gap : ℕ) (o : Found) → Blank (take gap bytes)
+piece_by_is_first : (bytes : List ℕ) (gap : ℕ) (o : Scanned) → Blank (take gap bytes)
     → gap ≤ length bytes → scan (drop gap bytes) ≡ o
     → IsFirstIf (piece_by gap (drop gap bytes) o) bytes
 piece_by_is_first bytes gap None blank within found = tt

@@ -1,7 +1,7 @@
 -- The first form among the exchange texts.
 use Rattle.std.specs.Prelude.{ℕ, List}
 use Rattle.sb_step.specs.Indexed.{Indexed}
-use Rattle.sb_step.specs.Answers.{IsIndexed}
+use Rattle.sb_step.specs.IndexAnswers.{IsIndexed}
 use Rattle.sb_form.specs.FirstForm.{IsFormOf}
 use Rattle.sb_form.specs.declared.matcher.FirstForm.{FirstForm}
 

@@ -1,5 +1,5 @@
 pub mod Numbers
 pub mod FirstForm
 pub mod Meaning
-pub mod Steps
+pub mod ThreeNumbers
 pub mod AsText

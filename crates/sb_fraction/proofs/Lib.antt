@@ -1,2 +1,2 @@
-pub mod GreatestDivisor
-pub mod LowestTerms
+-- The laws that the calls cite.
+mod ReducedInBounds

@@ -2,16 +2,18 @@
 use Rattle.std.proofs.Common.{◌≡◌, ℕ, suc, ◌+◌, ◌<◌, Bool, true, false, ◌&&◌, eqb, List, [], ◌∷◌, ◌++◌, Option, Some, None, length, get_or, sym, refl, ap, ◌∙◌, subst, arith, one-add}
 use Rattle.std.specs.Prelude.{codes}
 use Rattle.std.proofs.lemmas.Bool.{cond_both, cond-false, and_parts, eqb-true, both_ways, and_right, and_from, eq-eqb, false_from_ne_true}
-use Rattle.sb_lex.specs.Sets.{Text, ◌⋅◌, Holds}
+use Rattle.theory_bytes.specs.Sets.{Text, ◌⋅◌, Holds}
+use Rattle.sb_lex.specs.Bytes as byte
 use Rattle.sb_lex.specs.Kinds.{Unclosed, IsComment}
-use Rattle.sb_lex.specs.Steps.{after, close_at, closed_len, comment_len}
-use Rattle.sb_lex.proofs.PiecesJoin.{Stands, Ends, stands_so_long, stands_joined, stands_text, around, around_append, around_length}
+use Rattle.sb_lex.specs.Scanning.{after, close_at, closed_len, comment_len}
+use Rattle.theory_bytes.proofs.PrefixesJoin.{IsPrefix, HasPrefix, prefix_so_long, prefix_joined, prefix_text}
+use Rattle.theory_bytes.proofs.JoinedHasParts.{around, around_append, around_length}
 
 -- the text before the next `*/`
 pub record Closing (bytes : List ℕ) (n : ℕ) : Type 0 where
   pub text : List ℕ
   pub rest : List ℕ
-  pub joined : bytes ≡ text ++ (42 ∷ 47 ∷ rest)
+  pub joined : bytes ≡ text ++ (byte.asterisk ∷ byte.slash ∷ rest)
   pub long : length text ≡ n
   pub unclosed : Unclosed text
 
@@ -22,10 +24,10 @@ IsClosing (Some n) bytes = Closing bytes n
 
 -- `*/` is at the front
 abbrev pub closes : ℕ → List ℕ → Bool
-closes b bs = eqb b 42 && eqb (get_or bs 0 0) 47
+closes b bs = eqb b byte.asterisk && eqb (get_or bs 0 0) byte.slash
 
 nothing_holds : Holds (codes "*/") [] → ⊥
-nothing_holds h = elim h.before as (λ l. [] ≡ l ++ (42 ∷ 47 ∷ h.after) → ⊥)
+nothing_holds h = elim h.before as (λ l. [] ≡ l ++ (byte.asterisk ∷ byte.slash ∷ h.after) → ⊥)
     [ [] ↦ λ e. cc | x ∷ xs ↦ λ e. cc ] h.found
 
 holds_later : (b : ℕ) (text : List ℕ) → Holds (codes "*/") text → Holds (codes "*/") (b ∷ text)
@@ -37,34 +39,34 @@ holds_later b text h = record {
 }
 
 closing_here : (b : ℕ) (bs : List ℕ) → closes b bs ≡ true → Closing (b ∷ bs) 0
-closing_here b [] closed = absurd (both_ways (closes b []) (and_right (eqb b 42) (eqb 0 47) refl)
+closing_here b [] closed = absurd (both_ways (closes b []) (and_right (eqb b byte.asterisk) (eqb 0 byte.slash) refl)
     closed)
 closing_here b (c ∷ bs) closed =
-    let parts = and_parts (eqb b 42) (eqb c 47) closed in
+    let parts = and_parts (eqb b byte.asterisk) (eqb c byte.slash) closed in
     record {
       text = [];
       rest = bs;
-      joined = λ i. eqb-true b 42 parts.0 i ∷ (eqb-true c 47 parts.1 i ∷ bs);
+      joined = λ i. eqb-true b byte.asterisk parts.0 i ∷ (eqb-true c byte.slash parts.1 i ∷ bs);
       long = refl;
       unclosed = λ h. nothing_holds h;
     }
 
 -- one byte more at the front, unless `*/` begins with it, leaves a text unclosed
-unclosed_more : (b : ℕ) (text rest : List ℕ) → closes b (text ++ (42 ∷ 47 ∷ rest)) ≡ false
+unclosed_more : (b : ℕ) (text rest : List ℕ) → closes b (text ++ (byte.asterisk ∷ byte.slash ∷ rest)) ≡ false
     → Unclosed text → Unclosed (b ∷ text)
 unclosed_more b text rest apart unclosed h = at_front h.before h.found
   where
-    at_front : (before : List ℕ) → b ∷ text ≡ before ++ (42 ∷ 47 ∷ h.after) → ⊥
+    at_front : (before : List ℕ) → b ∷ text ≡ before ++ (byte.asterisk ∷ byte.slash ∷ h.after) → ⊥
     at_front [] found =
-        let first : b ≡ 42 = cc in
-        let behind : text ≡ 47 ∷ h.after = cc in
-        let second : get_or (text ++ (42 ∷ 47 ∷ rest)) 0 0 ≡ 47 = ap
-        (λ l. get_or (l ++ (42 ∷ 47 ∷ rest)) 0 0) behind in
-        both_ways (closes b (text ++ (42 ∷ 47 ∷ rest))) apart
-        (and_from (eqb b 42) (eqb (get_or (text ++ (42 ∷ 47 ∷ rest)) 0 0) 47)
-        (eq-eqb b 42 first) (eq-eqb (get_or (text ++ (42 ∷ 47 ∷ rest)) 0 0) 47 second))
+        let first : b ≡ byte.asterisk = cc in
+        let behind : text ≡ byte.slash ∷ h.after = cc in
+        let second : get_or (text ++ (byte.asterisk ∷ byte.slash ∷ rest)) 0 0 ≡ byte.slash = ap
+        (λ l. get_or (l ++ (byte.asterisk ∷ byte.slash ∷ rest)) 0 0) behind in
+        both_ways (closes b (text ++ (byte.asterisk ∷ byte.slash ∷ rest))) apart
+        (and_from (eqb b byte.asterisk) (eqb (get_or (text ++ (byte.asterisk ∷ byte.slash ∷ rest)) 0 0) byte.slash)
+        (eq-eqb b byte.asterisk first) (eq-eqb (get_or (text ++ (byte.asterisk ∷ byte.slash ∷ rest)) 0 0) byte.slash second))
     at_front (x ∷ before) found =
-        let later : text ≡ before ++ (42 ∷ 47 ∷ h.after) = cc in
+        let later : text ≡ before ++ (byte.asterisk ∷ byte.slash ∷ h.after) = cc in
         unclosed (record { before = before; after = h.after; found = later })
 
 closing_more : (b : ℕ) (bs : List ℕ) (o : Option ℕ) → closes b bs ≡ false → IsClosing o bs
@@ -86,19 +88,19 @@ closing_found (b ∷ bs) =
     (closing_here b bs) (λ apart. closing_more b bs (close_at bs) apart (closing_found bs))
 
 not_closed_here : (b : ℕ) (text rest : List ℕ) → Unclosed (b ∷ text)
-    → closes b (text ++ (42 ∷ 47 ∷ rest)) ≡ false
-not_closed_here b [] rest unclosed = and_right (eqb b 42) (eqb 42 47) refl
+    → closes b (text ++ (byte.asterisk ∷ byte.slash ∷ rest)) ≡ false
+not_closed_here b [] rest unclosed = and_right (eqb b byte.asterisk) (eqb byte.asterisk byte.slash) refl
 not_closed_here b (c ∷ text) rest unclosed =
-    false_from_ne_true (closes b (c ∷ text ++ (42 ∷ 47 ∷ rest))) (λ closed.
-    let parts = and_parts (eqb b 42) (eqb c 47) closed in
+    false_from_ne_true (closes b (c ∷ text ++ (byte.asterisk ∷ byte.slash ∷ rest))) (λ closed.
+    let parts = and_parts (eqb b byte.asterisk) (eqb c byte.slash) closed in
     unclosed (record {
       before = [];
       after = text;
-      found = λ i. eqb-true b 42 parts.0 i ∷ (eqb-true c 47 parts.1 i ∷ text);
+      found = λ i. eqb-true b byte.asterisk parts.0 i ∷ (eqb-true c byte.slash parts.1 i ∷ text);
     }))
 
 -- and it is found
-pub close_at-text : (text rest : List ℕ) → Unclosed text → close_at (text ++ (42 ∷ 47 ∷ rest))
+pub close_at-text : (text rest : List ℕ) → Unclosed text → close_at (text ++ (byte.asterisk ∷ byte.slash ∷ rest))
     ≡ Some (length text)
 close_at-text [] rest unclosed = refl
 close_at-text (b ∷ text) rest unclosed =
@@ -115,39 +117,39 @@ comment_len-comment xs rest is =
     (close_at-text t.inside rest t.is)
     ∙ omega (arith, around_length (codes "/*") (codes "*/") Unclosed xs t)
 
-comment_stands : (bs : List ℕ) (o : Option ℕ) → IsClosing o bs → 0 < closed_len o → Ends IsComment
-    (47 ∷ 42 ∷ bs) (closed_len o)
-comment_stands bs None c some = absurd (omega arith)
-comment_stands bs (Some n) c some =
-    let inside : Stands Unclosed bs (42 ∷ 47 ∷ c.rest) n = record
+comment_at_front : (bs : List ℕ) (o : Option ℕ) → IsClosing o bs → 0 < closed_len o → HasPrefix IsComment
+    (byte.slash ∷ byte.asterisk ∷ bs) (closed_len o)
+comment_at_front bs None c some = absurd (omega arith)
+comment_at_front bs (Some n) c some =
+    let inside : IsPrefix Unclosed bs (byte.asterisk ∷ byte.slash ∷ c.rest) n = record
     { text = c.text; joined = c.joined; long = c.long; is = c.unclosed } in
     record {
       rest = c.rest;
-      stands =
-          stands_so_long IsComment (47 ∷ 42 ∷ bs) c.rest (2 + (n + 2)) (n + 4) (omega arith)
-          (stands_joined (Text (codes "/*")) (Unclosed ⋅ Text (codes "*/")) (47 ∷ 42 ∷ bs) bs
-          c.rest 2 (n + 2) (stands_text (codes "/*") bs 2 refl)
-          (stands_joined Unclosed (Text (codes "*/")) bs (42 ∷ 47 ∷ c.rest) c.rest n 2 inside
-          (stands_text (codes "*/") c.rest 2 refl)));
+      prefix =
+          prefix_so_long IsComment (byte.slash ∷ byte.asterisk ∷ bs) c.rest (2 + (n + 2)) (n + 4) (omega arith)
+          (prefix_joined (Text (codes "/*")) (Unclosed ⋅ Text (codes "*/")) (byte.slash ∷ byte.asterisk ∷ bs) bs
+          c.rest 2 (n + 2) (prefix_text (codes "/*") bs 2 refl)
+          (prefix_joined Unclosed (Text (codes "*/")) bs (byte.asterisk ∷ byte.slash ∷ c.rest) c.rest n 2 inside
+          (prefix_text (codes "*/") c.rest 2 refl)));
     }
 
 -- where a length is found, a comment so long stands there
-pub comment_found : (bytes : List ℕ) → 0 < comment_len bytes → Ends IsComment bytes
+pub comment_found : (bytes : List ℕ) → 0 < comment_len bytes → HasPrefix IsComment bytes
     (comment_len bytes)
 unfolding comment_len
 comment_found [] some = absurd (omega arith)
 comment_found (x ∷ []) some = absurd
     (omega (
       arith,
-      cond-false (eqb x 47 && eqb 0 42) (closed_len (close_at [])) 0
-          (and_right (eqb x 47) (eqb 0 42) refl),
+      cond-false (eqb x byte.slash && eqb 0 byte.asterisk) (closed_len (close_at [])) 0
+          (and_right (eqb x byte.slash) (eqb 0 byte.asterisk) refl),
     ))
 comment_found (x ∷ y ∷ bs) some =
-    let opened = eqb x 47 && eqb y 42 in
-    let P : ℕ → Type 0 = λ n. 0 < n → Ends IsComment (x ∷ y ∷ bs) n in
+    let opened = eqb x byte.slash && eqb y byte.asterisk in
+    let P : ℕ → Type 0 = λ n. 0 < n → HasPrefix IsComment (x ∷ y ∷ bs) n in
     cond_both opened (closed_len (close_at bs)) 0 P
-    (λ both more. let parts = and_parts (eqb x 47) (eqb y 42) both in let Q : List ℕ
-    → Type 0 = λ l. Ends IsComment l (closed_len (close_at bs)) in subst Q
-    (λ i. sym (eqb-true x 47 parts.0) i ∷ (sym (eqb-true y 42 parts.1) i ∷ bs))
-    (comment_stands bs (close_at bs) (closing_found bs) more))
+    (λ both more. let parts = and_parts (eqb x byte.slash) (eqb y byte.asterisk) both in let Q : List ℕ
+    → Type 0 = λ l. HasPrefix IsComment l (closed_len (close_at bs)) in subst Q
+    (λ i. sym (eqb-true x byte.slash parts.0) i ∷ (sym (eqb-true y byte.asterisk parts.1) i ∷ bs))
+    (comment_at_front bs (close_at bs) (closing_found bs) more))
     (λ other none. absurd (omega arith)) some

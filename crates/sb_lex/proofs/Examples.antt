@@ -7,10 +7,10 @@ use Rattle.sb_lex.specs.declared.kinds.Kind.TheVariants as kind
 use Rattle.sb_lex.specs.declared.kinds.Mark.TheVariants as mark
 use Rattle.sb_lex.specs.declared.kinds.Word.TheVariants as word
 use Rattle.sb_lex.specs.declared.kinds.Token.{Token}
-use Rattle.sb_lex.specs.Sets.{Begins}
+use Rattle.theory_bytes.specs.Sets.{Begins}
 use Rattle.sb_lex.specs.Kinds.{BlankPiece}
 use Rattle.sb_lex.specs.Tokens.{IsCandidate, IsToken}
-use Rattle.sb_lex.specs.Steps.{scan, scan_letters, scan_exclamation, scan_name, scan_number, scan_enumeration, scan_binary, exponent_len, comment_len, piece_len}
+use Rattle.sb_lex.specs.Scanning.{scan, scan_letters, scan_exclamation, scan_name, scan_unsigned, scan_enumeration, scan_binary, exponent_len, comment_len, piece_len}
 use Rattle.sb_lex.proofs.OneAnswer.{token_of, found_token, no_token_found, no_blank_found}
 
 -- the token at the front of a text is of this kind, and so long
@@ -58,23 +58,23 @@ unfolding scan_name
 the_greatest_name = first (codes "#4294967295") (kind.Name 4294967295) 11 refl
 
 an_integer : IsFirst (codes "+1") (kind.Integer) 2
-unfolding scan_number
+unfolding scan_unsigned
 an_integer = first (codes "+1") (kind.Integer) 2 refl
 
 a_real : IsFirst (codes "-1.") (kind.Real) 3
-unfolding scan_number exponent_len
+unfolding scan_unsigned exponent_len
 a_real = first (codes "-1.") (kind.Real) 3 refl
 
 a_real_before_a_letter : IsFirst (codes "1.E") (kind.Real) 2
-unfolding scan_number exponent_len
+unfolding scan_unsigned exponent_len
 a_real_before_a_letter = first (codes "1.E") (kind.Real) 2 refl
 
 an_exponent : IsFirst (codes "1.E+05") (kind.Real) 6
-unfolding scan_number exponent_len
+unfolding scan_unsigned exponent_len
 an_exponent = first (codes "1.E+05") (kind.Real) 6 refl
 
 a_real_before_a_point : IsFirst (codes "1..T.") (kind.Real) 2
-unfolding scan_number exponent_len
+unfolding scan_unsigned exponent_len
 a_real_before_a_point = first (codes "1..T.") (kind.Real) 2 refl
 
 a_doubled_apostrophe : IsFirst (codes "'a''b'") (kind.Str) 6
@@ -115,7 +115,7 @@ unfolding comment_len scan_enumeration
 a_point_before_a_digit = bad (codes ".5") refl refl
 
 a_sign_alone : IsBad (codes "+")
-unfolding comment_len scan_number
+unfolding comment_len scan_unsigned
 a_sign_alone = bad (codes "+") refl refl
 
 an_open_string : IsBad (codes "'a''b")

@@ -6,28 +6,30 @@ use Rattle.std.specs.List.{concat, AllByRecursion}
 use Rattle.std.proofs.lemmas.Bool.{cond_both}
 use Rattle.std.proofs.lemmas.List.{append_cancel_left}
 use Rattle.sb_lex.specs.Bytes.{is_white}
-use Rattle.sb_lex.specs.Sets.{Byte}
+use Rattle.theory_bytes.specs.Sets.{Byte}
 use Rattle.sb_lex.specs.Kinds.{Unclosed, IsComment, BlankPiece, Blank}
-use Rattle.sb_lex.specs.Steps.{comment_len, piece_len}
-use Rattle.sb_lex.proofs.PiecesJoin.{Ends, stands_as, stands_byte, text_is, repeated_push, around, around_length}
+use Rattle.sb_lex.specs.Scanning.{comment_len, piece_len}
+use Rattle.theory_bytes.proofs.PrefixesJoin.{HasPrefix, prefix_as, prefix_byte, text_is}
+use Rattle.theory_bytes.proofs.JoinedHasParts.{around, around_length}
+use Rattle.theory_bytes.proofs.RepeatsGrow.{repeated_push}
 use Rattle.sb_lex.proofs.CommentsClose.{comment_len-comment, comment_found}
 
 -- where a length is found, a piece so long stands there
-pub piece_found : (bytes : List ℕ) → 0 < piece_len bytes → Ends BlankPiece bytes (piece_len bytes)
+pub piece_found : (bytes : List ℕ) → 0 < piece_len bytes → HasPrefix BlankPiece bytes (piece_len bytes)
 unfolding comment_len
 piece_found [] some = absurd (omega arith)
 piece_found (b ∷ bs) some =
-    let P : ℕ → Type 0 = λ n. 0 < n → Ends BlankPiece (b ∷ bs) n in
+    let P : ℕ → Type 0 = λ n. 0 < n → HasPrefix BlankPiece (b ∷ bs) n in
     cond_both (is_white b) 1 (comment_len (b ∷ bs)) P
     (λ white more. record {
       rest = bs;
-      stands = stands_as (Byte is_white) BlankPiece (b ∷ bs)
-          bs 1 (λ xs is. inl is) (stands_byte is_white b bs white);
+      prefix = prefix_as (Byte is_white) BlankPiece (b ∷ bs)
+          bs 1 (λ xs is. inl is) (prefix_byte is_white b bs white);
     })
     (λ other more. let c = comment_found (b ∷ bs) more in record {
       rest = c.rest;
-      stands = stands_as IsComment BlankPiece (b ∷ bs) c.rest
-          (comment_len (b ∷ bs)) (λ xs is. inr is) c.stands;
+      prefix = prefix_as IsComment BlankPiece (b ∷ bs) c.rest
+          (comment_len (b ∷ bs)) (λ xs is. inr is) c.prefix;
     }) some
 
 -- the length of a piece at the front, whatever follows it
@@ -51,8 +53,8 @@ pub blank_more : (rest : List ℕ) (at n : ℕ) → n ≡ piece_len (drop at res
 blank_more rest at n size some blank =
     let e = piece_found (drop at rest) (omega arith) in
     let piece : BlankPiece (take n (drop at rest)) =
-    subst BlankPiece (text_is BlankPiece (drop at rest) e.rest (piece_len (drop at rest)) e.stands
-    ∙ ap (λ k. take k (drop at rest)) (sym size)) e.stands.is in
+    subst BlankPiece (text_is BlankPiece (drop at rest) e.rest (piece_len (drop at rest)) e.prefix
+    ∙ ap (λ k. take k (drop at rest)) (sym size)) e.prefix.is in
     subst Blank (sym (take-add at n rest))
     (repeated_push BlankPiece (take at rest) (take n (drop at rest)) blank piece)
 

@@ -1,6 +1,4 @@
 pub mod StringsByRuns
-pub mod RunsAreLongest
-pub mod PiecesJoin
 pub mod CommentsClose
 pub mod StringsEnd
 pub mod GapsAgree

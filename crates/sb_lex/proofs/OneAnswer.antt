@@ -1,23 +1,29 @@
 -- To a call for the next token there is one answer.
-use Rattle.std.proofs.Common.{◌≡◌, ◌≢◌, ℕ, ◌+◌, ◌-◌, ◌<◌, ◌≤◌, ◌↔◌, true, cond, ◌&&◌, eqb, leb, List, ◌∷◌, ◌++◌, Option, Some, None, Result, Ok, Err, length, take, drop, sym, refl, ap, ◌∙◌, subst, ⊎_elim, inl, inr, arith, drop_at, length-append, length-take-le, length-drop, drop-drop, take-append-drop, le_refl}
+use Rattle.std.proofs.Common.{◌≡◌, ◌≢◌, ℕ, ◌+◌, ◌-◌, ◌<◌, ◌≤◌, ◌↔◌, true, cond, ◌&&◌, eqb, leb, List, ◌∷◌, ◌++◌, Option, Some, None, Result, Ok, Err, length, take, drop, sym, refl, ap, ◌∙◌, subst, ⊎_elim, inl, inr, arith, drop_at, length-append, length-drop, drop-drop, le_refl}
 use Rattle.std.specs.Prelude.{codes, slice_range}
 use Rattle.std.proofs.lemmas.Bool.{cond_both, cond-true, cond-false, eqb-true, eq-eqb, ne_eqb, and_parts, or_cases, leb-true, cases_lt, eqb-false}
+use Rattle.std.proofs.Math.Arith.{le-zero}
 use Rattle.std.proofs.lemmas.Option.{none-some}
 use Rattle.std.proofs.lemmas.List.{drop_all}
+use Rattle.std.proofs.lemmas.List.Folds.{drop_split}
+use Rattle.theory_bytes.proofs.InsidesAreBetween.{slice_length}
+use Rattle.sb_lex.specs.Bytes as byte
 use Rattle.sb_lex.specs.declared.kinds.Kind.{Kind}
 use Rattle.sb_lex.specs.declared.kinds.Token.{Token}
 use Rattle.sb_lex.specs.declared.kinds.BadToken.{BadToken}
 use Rattle.sb_lex.specs.declared.kinds.Mark.TheVariants as mark
-use Rattle.sb_lex.specs.declared.dispatch.Head.{Head}
-use Rattle.sb_lex.specs.declared.dispatch.Head.TheVariants as head
-use Rattle.sb_lex.specs.Bytes.{begins_with, is_white}
-use Rattle.sb_lex.specs.Sets.{Begins}
+use Rattle.sb_lex.specs.declared.first_byte.Head.{Head}
+use Rattle.sb_lex.specs.declared.first_byte.Head.TheVariants as head
+use Rattle.sb_lex.specs.Bytes.{is_white}
+use Rattle.theory_bytes.specs.Sets.{begins_with}
+use Rattle.theory_bytes.specs.Sets.{Begins}
 use Rattle.sb_lex.specs.Kinds.{IsOf, not_after, Unclosed, BlankPiece}
-use Rattle.sb_lex.specs.Tokens.{IsCandidate, IsToken, IsGap, Reading, Answers}
-use Rattle.sb_lex.specs.Steps.{Found, head_of, scan_at, scan, comment_len, piece_len}
-use Rattle.sb_lex.proofs.PiecesJoin.{text_is, around, around_append}
+use Rattle.sb_lex.specs.Tokens.{IsCandidate, IsToken, IsGap, Reading, IsTokenAnswer}
+use Rattle.sb_lex.specs.Scanning.{Scanned, head_of, scan_at, scan, comment_len, piece_len}
+use Rattle.theory_bytes.proofs.PrefixesJoin.{text_is}
+use Rattle.theory_bytes.proofs.JoinedHasParts.{around, around_append}
 use Rattle.sb_lex.proofs.GapsAgree.{piece_found, piece_len-piece, blanks_agree}
-use Rattle.sb_lex.proofs.ScannedIsToken.{Front, IsFront, HeadFits, head_fits, scan_front, le_zero}
+use Rattle.sb_lex.proofs.ScannedIsToken.{Front, IsFront, HeadFits, head_fits, scan_front}
 use Rattle.sb_lex.proofs.TokenIsScanned.{Covers, scan_covers}
 
 -- a token at a place, by its length
@@ -26,25 +32,13 @@ token_of k from n = record { kind = k; start = from; end = from + n }
 
 -- what stands at a place, and what follows it
 
-sliced : (input : List ℕ) (from to : ℕ) → from ≤ to → drop from input ≡ slice_range input from to
-    ++ drop to input
-sliced input from to ordered =
-    sym (take-append-drop (to - from) (drop from input)) ∙ ap (λ l. slice_range input from to ++ l)
-    (drop-drop (to - from) from input ∙ ap (λ k. drop k input) (omega arith))
-
--- what stands at a span is as long as the span
-pub slice_length : (input : List ℕ) (from to : ℕ) → from ≤ to → to ≤ length input
-    → length (slice_range input from to) ≡ to - from
-slice_length input from to ordered within =
-    length-take-le (to - from) (drop from input) (omega (arith, length-drop from input))
-
 front_from_candidate : (input : List ℕ) (t : Token) → IsCandidate input t
     → Front (drop t.start input) t.kind (t.end - t.start)
 front_from_candidate input t c = record {
   rest = drop t.end input;
-  stands = record {
+  prefix = record {
     text = slice_range input t.start t.end;
-    joined = sliced input t.start t.end c.ordered;
+    joined = drop_split input t.start t.end c.ordered;
     long = slice_length input t.start t.end c.ordered c.within;
     is = c.of_kind;
   };
@@ -56,10 +50,10 @@ candidate_from_front : (input : List ℕ) (from : ℕ) (k : Kind) (n : ℕ) → 
 candidate_from_front input from k n within f =
     let bytes = drop from input in
     let size : from + n - from ≡ n = omega arith in
-    let text : f.stands.text ≡ slice_range input from (from + n) =
-    text_is (IsOf k) bytes f.rest n f.stands ∙ ap (λ m. take m bytes) (sym size) in
+    let text : f.prefix.text ≡ slice_range input from (from + n) =
+    text_is (IsOf k) bytes f.rest n f.prefix ∙ ap (λ m. take m bytes) (sym size) in
     let rest : f.rest ≡ drop (from + n) input =
-    sym (drop_at f.stands.text f.rest n f.stands.long) ∙ ap (drop n) (sym f.stands.joined)
+    sym (drop_at f.prefix.text f.rest n f.prefix.long) ∙ ap (drop n) (sym f.prefix.joined)
     ∙ drop-drop n from input in
     record {
       ordered = omega arith;
@@ -67,20 +61,20 @@ candidate_from_front input from k n within f =
           omega (
             arith,
             length-drop from input,
-            ap length f.stands.joined,
+            ap length f.prefix.joined,
             length-append
-                f.stands.text f.rest,
-            f.stands.long,
+                f.prefix.text f.rest,
+            f.prefix.long,
           );
-      of_kind = subst (IsOf k) text f.stands.is;
+      of_kind = subst (IsOf k) text f.prefix.is;
       free = ap (begins_with (not_after k)) (sym rest) ∙ f.free;
     }
 
 front_covered : (bytes : List ℕ) (k : Kind) (n : ℕ) → Front bytes k n → Covers (scan bytes) k n
 front_covered bytes k n f =
-    subst (λ l. Covers (scan l) k n) (sym f.stands.joined)
-    (subst (Covers (scan (f.stands.text ++ f.rest)) k) f.stands.long
-    (scan_covers k f.stands.text f.rest f.stands.is f.free))
+    subst (λ l. Covers (scan l) k n) (sym f.prefix.joined)
+    (subst (Covers (scan (f.prefix.text ++ f.rest)) k) f.prefix.long
+    (scan_covers k f.prefix.text f.rest f.prefix.is f.free))
 
 candidate_covered : (input : List ℕ) (t : Token) → IsCandidate input t
     → Covers (scan (drop t.start input)) t.kind (t.end - t.start)
@@ -114,7 +108,7 @@ no_token_found input place none t candidate same =
     (candidate_covered input t candidate)
 
 -- the token is what is found
-pub token_found : (input : List ℕ) (t : Token) (o : Found) → IsToken input t
+pub token_found : (input : List ℕ) (t : Token) (o : Scanned) → IsToken input t
     → scan (drop t.start input) ≡ o → o ≡ Some (t.kind, t.end - t.start)
 token_found input t None token found =
     absurd (no_token_found input t.start found t token.candidate refl)
@@ -128,7 +122,7 @@ token_found input t (Some x) token found =
     let size : x.1 ≡ t.end - t.start = omega (arith, covered.0, longest, c.ordered) in
     λ i. Some (covered.1 size i, size i)
 
-none_found : (input : List ℕ) (place : ℕ) (o : Found) → place ≤ length input
+none_found : (input : List ℕ) (place : ℕ) (o : Scanned) → place ≤ length input
     → ((t : Token) → IsCandidate input t → t.start ≢ place) → scan (drop place input) ≡ o → o ≡ None
 none_found input place None within no_token found = refl
 none_found input place (Some x) within no_token found =
@@ -136,20 +130,20 @@ none_found input place (Some x) within no_token found =
 
 -- white space and comments begin no token
 
-low_head : (h : Head) (b : ℕ) → b ≤ 32 → HeadFits h b → h ≡ head.Other
+low_head : (h : Head) (b : ℕ) → b ≤ byte.space → HeadFits h b → h ≡ head.Other
 low_head head.Letter b low fits =
-    ⊎_elim (λ (capital : (leb 65 b && leb b 90) ≡ true). absurd
-    (omega (arith, leb-true 65 b (and_parts (leb 65 b) (leb b 90) capital).0)))
-    (λ underscore. absurd (omega (arith, eqb-true b 95 underscore)))
-    (or_cases _ (eqb b 95) fits)
+    ⊎_elim (λ (capital : (leb byte.capital_a b && leb b byte.capital_z) ≡ true). absurd
+    (omega (arith, leb-true byte.capital_a b (and_parts (leb byte.capital_a b) (leb b byte.capital_z) capital).0)))
+    (λ underscore. absurd (omega (arith, eqb-true b byte.underscore underscore)))
+    (or_cases _ (eqb b byte.underscore) fits)
 low_head head.Digit b low fits = absurd
-    (omega (arith, leb-true 48 b (and_parts (leb 48 b) (leb b 57) fits).0))
+    (omega (arith, leb-true byte.zero b (and_parts (leb byte.zero b) (leb b byte.nine) fits).0))
 low_head head.Sign b low fits =
-    ⊎_elim (λ plus. absurd (omega (arith, eqb-true b 43 plus)))
-    (λ minus. absurd (omega (arith, eqb-true b 45 minus))) (or_cases (eqb b 43) (eqb b 45) fits)
+    ⊎_elim (λ plus. absurd (omega (arith, eqb-true b byte.plus plus)))
+    (λ minus. absurd (omega (arith, eqb-true b byte.minus minus))) (or_cases (eqb b byte.plus) (eqb b byte.minus) fits)
 low_head head.Exclamation b low fits = absurd (omega arith)
 low_head head.Hash b low fits = absurd (omega arith)
-low_head head.Apostrophe b low fits = absurd (omega (arith, eqb-true b 39 fits))
+low_head head.Apostrophe b low fits = absurd (omega (arith, eqb-true b byte.apostrophe fits))
 low_head head.Point b low fits = absurd (omega arith)
 low_head head.Quote b low fits = absurd (omega arith)
 low_head (head.Mark mark.Dollar) b low fits = absurd (omega arith)
@@ -161,10 +155,10 @@ low_head (head.Mark mark.Semicolon) b low fits = absurd (omega arith)
 low_head (head.Mark mark.Equals) b low fits = absurd (omega arith)
 low_head head.Other b low fits = refl
 
-white_is_low : (b : ℕ) → is_white b ≡ true → b ≤ 32
+white_is_low : (b : ℕ) → is_white b ≡ true → b ≤ byte.space
 white_is_low b white =
-    ⊎_elim (λ (control : (leb 9 b && leb b 13) ≡ true). omega (arith, leb-true b 13 (and_parts (leb 9 b) (leb b 13) control).1))
-    (λ space. omega (arith, eqb-true b 32 space)) (or_cases _ (eqb b 32) white)
+    ⊎_elim (λ (control : (leb byte.tab b && leb b byte.carriage_return) ≡ true). omega (arith, leb-true b byte.carriage_return (and_parts (leb byte.tab b) (leb b byte.carriage_return) control).1))
+    (λ space. omega (arith, eqb-true b byte.space space)) (or_cases _ (eqb b byte.space) white)
 
 blank_is_no_token : (text rest : List ℕ) → BlankPiece text → scan (text ++ rest) ≡ None
 blank_is_no_token text rest (inl white) =
@@ -181,10 +175,10 @@ stops_at_token bytes x found =
     ⊎_elim
     (λ some.
     let e = piece_found bytes some in
-    let none : scan bytes ≡ None = ap scan e.stands.joined ∙ blank_is_no_token e.stands.text e.rest
-    e.stands.is in
+    let none : scan bytes ≡ None = ap scan e.prefix.joined ∙ blank_is_no_token e.prefix.text e.rest
+    e.prefix.is in
     absurd (none-some x (sym none ∙ found)))
-    (λ none. le_zero (piece_len bytes) none)
+    (λ none. le-zero none)
     (cases_lt 0 (piece_len bytes))
 
 stops_at_bad : (bytes : List ℕ) → (Begins BlankPiece bytes → ⊥) → piece_len bytes ≡ 0
@@ -194,12 +188,12 @@ stops_at_bad bytes no_blank =
     let e = piece_found bytes some in
     absurd (no_blank
     (record {
-      front = e.stands.text;
+      front = e.prefix.text;
       rest = e.rest;
-      joined = e.stands.joined;
-      is = e.stands.is;
+      joined = e.prefix.joined;
+      is = e.prefix.is;
     })))
-    (λ none. le_zero (piece_len bytes) none)
+    (λ none. le-zero none)
     (cases_lt 0 (piece_len bytes))
 
 -- where no length is found no piece begins
@@ -222,7 +216,7 @@ abbrev pub Answer : Type 0
 Answer = Result (Option Token) BadToken
 
 -- the answer by what is found where the gap ends
-abbrev pub answer_by : Found → ℕ → ℕ → Answer
+abbrev pub answer_by : Scanned → ℕ → ℕ → Answer
 answer_by (Some x) place size = Ok (Some (token_of x.0 place x.1))
 answer_by None place size = cond (eqb place size) (Ok None) (Err (record { 0 = place }))
 
@@ -232,14 +226,14 @@ pub record Stop (input : List ℕ) (from place : ℕ) : Type 0 where
   pub stops : piece_len (drop place input) ≡ 0
 
 -- this answer is so
-pub answer_holds : (input : List ℕ) (from place : ℕ) (o : Found) → Stop input from place
-    → scan (drop place input) ≡ o → Answers (record { input = input; place = from })
+pub answer_holds : (input : List ℕ) (from place : ℕ) (o : Scanned) → Stop input from place
+    → scan (drop place input) ≡ o → IsTokenAnswer (record { input = input; place = from })
     (answer_by o place (length input))
 answer_holds input from place (Some x) stop found =
     record { gap = stop.gap; token = found_token input place x stop.gap.within found }
 answer_holds input from place None stop found =
     cond_both (eqb place (length input)) (Ok None) (Err (record { 0 = place }))
-    (Answers (record { input = input; place = from }))
+    (IsTokenAnswer (record { input = input; place = from }))
     (λ at_end. subst (IsGap input from) (eqb-true place (length input) at_end) stop.gap)
     (λ before. record {
       gap = stop.gap;
@@ -257,7 +251,7 @@ pub record Answered (input : List ℕ) (from : ℕ) (answer : Answer) : Type 0 w
 
 -- and an answer that is so is this one
 pub answered : (input : List ℕ) (from : ℕ) (answer : Answer)
-    → Answers (record { input = input; place = from }) answer → Answered input from answer
+    → IsTokenAnswer (record { input = input; place = from }) answer → Answered input from answer
 answered input from (Ok (Some t)) next =
     let found : scan (drop t.start input) ≡ Some (t.kind, t.end - t.start) =
     token_found input t (scan (drop t.start input)) next.token refl in
@@ -299,7 +293,7 @@ answered input from (Err bad) is =
 -- two gaps from one place end at one place
 stops_agree : (input : List ℕ) (from p q : ℕ) → Stop input from p → Stop input from q → p ≡ q
 stops_agree input from p q a b =
-    let same = sym (sliced input from p a.gap.ordered) ∙ sliced input from q b.gap.ordered in
+    let same = sym (drop_split input from p a.gap.ordered) ∙ drop_split input from q b.gap.ordered in
     let as_long = blanks_agree (slice_range input from p) (slice_range input from q) (drop p input)
     (drop q input) a.gap.blank b.gap.blank same a.stops b.stops in
     omega (
@@ -313,7 +307,7 @@ stops_agree input from p q a b =
     )
 
 -- there is one answer
-pub answers_agree : (at : Reading) (r q : Answer) → Answers at r → Answers at q → r ≡ q
+pub answers_agree : (at : Reading) (r q : Answer) → IsTokenAnswer at r → IsTokenAnswer at q → r ≡ q
 answers_agree at r q a b =
     let first = answered at.input at.place r a in
     let second = answered at.input at.place q b in
@@ -322,10 +316,10 @@ answers_agree at r q a b =
     ∙ sym second.answer_is
 
 -- an answer that holds is given exactly where another holds that is the same
-pub answer_pins : (at : Reading) (r q : Answer) → Answers at r
-    → (r ≡ q) ↔ Answers at q
+pub answer_pins : (at : Reading) (r q : Answer) → IsTokenAnswer at r
+    → (r ≡ q) ↔ IsTokenAnswer at q
 answer_pins at r q holds = (
-  λ same. subst (Answers at) same holds,
+  λ same. subst (IsTokenAnswer at) same holds,
   λ other. answers_agree at
       r q holds other,
 )

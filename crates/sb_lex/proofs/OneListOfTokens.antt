@@ -1,15 +1,15 @@
 -- Each input has one list of tokens with one end, and the calls give it.
 use Rattle.std.proofs.Common.{◌≡◌, ℕ, suc, zero, ◌+◌, ◌-◌, ◌<◌, ◌≤◌, List, [], ◌∷◌, ◌++◌, Ok, Err, Option, Some, None, length, take, drop, sym, refl, ap, ap₂, ◌∙◌, subst, ⊎_elim, arith, length-append, length-drop, drop-drop, take-add, take_at, drop_at}
+use Rattle.std.proofs.Math.Arith.{le-zero}
 use Rattle.std.proofs.lemmas.Bool.{cases_lt}
 use Rattle.std.proofs.lemmas.Option.{some_pair_parts}
 use Rattle.sb_lex.specs.declared.kinds.Token.{Token}
 use Rattle.sb_lex.specs.declared.kinds.BadToken.{BadToken}
 use Rattle.sb_lex.specs.Kinds.{BlankPiece, Blank}
-use Rattle.sb_lex.specs.Steps.{Found, scan, piece_len}
-use Rattle.sb_lex.specs.Tokens.{IsNext, AreTokensFrom, Reading, Answers, moved, Calls, EachInputHasTokens, TokensAreUnique, CallsGiveTokens, OneTokenAtAPlace}
-use Rattle.sb_lex.proofs.PiecesJoin.{repeated_cons, repeated_nothing}
+use Rattle.sb_lex.specs.Scanning.{Scanned, scan, piece_len}
+use Rattle.sb_lex.specs.Tokens.{IsNext, AreTokensFrom, Reading, IsTokenAnswer, moved, Calls, EachInputHasTokens, TokensAreUnique, TokensFollowEachPlace, TokensBehindAPlaceAreUnique, CallsGiveTokens, OneTokenAtAPlace}
+use Rattle.theory_bytes.proofs.RepeatsGrow.{repeated_cons, repeated_nothing}
 use Rattle.sb_lex.proofs.GapsAgree.{piece_found}
-use Rattle.sb_lex.proofs.ScannedIsToken.{le_zero}
 use Rattle.sb_lex.proofs.OneAnswer.{Answer, answer_by, Stop, answer_holds, answers_agree, token_found}
 use Rattle.sb_lex.proofs.TokensHaveBytes.{next_lies}
 
@@ -51,21 +51,21 @@ gap_exists zero bytes fits =
     let e = piece_found bytes some in
     absurd (omega (
       arith,
-      ap length e.stands.joined,
-      length-append e.stands.text e.rest,
-      e.stands.long,
+      ap length e.prefix.joined,
+      length-append e.prefix.text e.rest,
+      e.prefix.long,
     )))
-    (λ none. gap_stops bytes (le_zero (piece_len bytes) none))
+    (λ none. gap_stops bytes (le-zero none))
     (cases_lt 0 (piece_len bytes))
 gap_exists (suc fuel) bytes fits =
     ⊎_elim
     (λ some.
     let e = piece_found bytes some in
     let shorter : length e.rest ≤ fuel =
-    omega (arith, ap length e.stands.joined, length-append e.stands.text e.rest, e.stands.long) in
-    subst Gap (sym e.stands.joined)
-    (gap_more e.stands.text e.rest e.stands.is (gap_exists fuel e.rest shorter)))
-    (λ none. gap_stops bytes (le_zero (piece_len bytes) none))
+    omega (arith, ap length e.prefix.joined, length-append e.prefix.text e.rest, e.prefix.long) in
+    subst Gap (sym e.prefix.joined)
+    (gap_more e.prefix.text e.rest e.prefix.is (gap_exists fuel e.rest shorter)))
+    (λ none. gap_stops bytes (le-zero none))
     (cases_lt 0 (piece_len bytes))
 
 -- a gap of the bytes that are left is one of the input
@@ -85,7 +85,7 @@ stop_from_gap input from within g =
 -- there is an answer
 pub record HasAnswer (at : Reading) : Type 0 where
   pub answer : Answer
-  pub holds : Answers at answer
+  pub holds : IsTokenAnswer at answer
 
 answer_exists : (input : List ℕ) (from : ℕ) → from ≤ length input
     → HasAnswer (record { input = input; place = from })
@@ -112,7 +112,7 @@ next_goes_on input from t next =
     (omega (arith, lies.behind, lies.some), lies.within)
 
 tokens_by : (fuel : ℕ) (input : List ℕ) (from : ℕ) → length input ≤ from + fuel → (answer : Answer)
-    → Answers (record { input = input; place = from }) answer → HasTokens input from
+    → IsTokenAnswer (record { input = input; place = from }) answer → HasTokens input from
 tokens_by fuel input from enough (Ok None) holds = record { tokens = []; fault = None; are = holds }
 tokens_by fuel input from enough (Err bad) holds = record
     { tokens = []; fault = Some bad; are = holds }
@@ -124,14 +124,18 @@ tokens_by (suc fuel) input from enough (Ok (Some t)) holds =
     let more = tokens_by fuel input t.end (omega arith) a.answer a.holds in
     record { tokens = t ∷ more.tokens; fault = more.fault; are = (holds, more.are) }
 
-tokens_from : (input : List ℕ) (from : ℕ) → from ≤ length input → HasTokens input from
-tokens_from input from within =
+has_tokens : (input : List ℕ) (from : ℕ) → from ≤ length input → HasTokens input from
+has_tokens input from within =
     let a = answer_exists input from within in
     tokens_by (length input) input from (omega arith) a.answer a.holds
 
-tokens_agree : (input : List ℕ) (from : ℕ) (ts us : List Token) (fault other : Option BadToken)
-    → AreTokensFrom input from ts fault → AreTokensFrom input from us other → (ts ≡ us)
-    × (fault ≡ other)
+-- from each place on there are tokens
+pub tokens_follow : TokensFollowEachPlace
+tokens_follow input from within =
+    let h = has_tokens input from within in (h.tokens, h.fault, h.are)
+
+-- and no others
+pub tokens_agree : TokensBehindAPlaceAreUnique
 tokens_agree input from [] [] None None a b = (refl, refl)
 tokens_agree input from [] [] None (Some bad) a b =
     let same = answers_agree (record { input = input; place = from }) (Ok None) (Err bad) a b in cc
@@ -165,7 +169,7 @@ tokens_agree input from (t ∷ ts) (u ∷ us) fault other a b =
 -- each input has tokens
 pub each_input_has_tokens : EachInputHasTokens
 each_input_has_tokens input =
-    let h = tokens_from input 0 (omega arith) in (h.tokens, h.fault, h.are)
+    let h = has_tokens input 0 (omega arith) in (h.tokens, h.fault, h.are)
 
 -- and no others
 pub tokens_are_unique : TokensAreUnique
@@ -203,7 +207,7 @@ pub one_token_at_a_place : OneTokenAtAPlace
 one_token_at_a_place input t u is other same =
     let first = token_found input t (scan (drop t.start input)) is refl in
     let second = token_found input u (scan (drop u.start input)) other refl in
-    let found : ◌≡◌ {A = Found} (Some (t.kind, t.end - t.start)) (Some (u.kind, u.end - u.start)) =
+    let found : ◌≡◌ {A = Scanned} (Some (t.kind, t.end - t.start)) (Some (u.kind, u.end - u.start)) =
     sym first ∙ ap (λ k. scan (drop k input)) same ∙ second in
     let parts = some_pair_parts t.kind u.kind (t.end - t.start) (u.end - u.start) found in
     let ends : t.end ≡ u.end =

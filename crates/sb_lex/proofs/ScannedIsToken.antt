@@ -1,40 +1,39 @@
 -- What is found at the front is a string of its kind.
-use Rattle.std.proofs.Common.{◌≡◌, ◌≢◌, ℕ, ◌+◌, ◌^◌, ◌<◌, ◌≤◌, Bool, true, false, cond, ◌&&◌, eqb, ltb, leb, List, [], ◌∷◌, Option, Some, None, length, get_or, take, drop, sym, refl, ap, ◌∙◌, subst, ⊎_elim, arith, one-add, drop_at, zero-add}
+use Rattle.std.proofs.Common.{◌≡◌, ◌≢◌, ℕ, ◌+◌, ◌^◌, ◌<◌, Bool, true, false, cond, ◌&&◌, eqb, ltb, leb, List, [], ◌∷◌, Option, Some, None, length, get_or, take, drop, sym, refl, ap, ◌∙◌, subst, ⊎_elim, arith, one-add, drop_at, zero-add}
 use Rattle.std.specs.Prelude.{codes, nat_eq}
 use Rattle.std.specs.List.{prefix_len, starts_with, AllByRecursion}
 use Rattle.std.specs.Char.{is_ascii_digit}
 use Rattle.std.specs.Str.Parse.{digits_value}
 use Rattle.std.proofs.lemmas.Bool.{cond_both, eqb-true, eqb-false, ltb-true, and_parts, and_from, or_left, cases_lt, le-leb, leb-true}
+use Rattle.std.proofs.Math.Arith.{le-zero}
 use Rattle.std.proofs.lemmas.Bool.Decides.{Decides-eqb}
 use Rattle.std.proofs.lemmas.Slice.Eq.{starts_is}
+use Rattle.sb_lex.specs.Bytes as byte
 use Rattle.sb_lex.specs.declared.kinds.Kind.{Kind}
 use Rattle.sb_lex.specs.declared.kinds.Kind.TheVariants as kind
 use Rattle.sb_lex.specs.declared.kinds.Word.{Word}
 use Rattle.sb_lex.specs.declared.kinds.Word.TheVariants as word
-use Rattle.sb_lex.specs.declared.dispatch.Head.{Head}
-use Rattle.sb_lex.specs.declared.dispatch.Head.TheVariants as head
-use Rattle.sb_lex.specs.Bytes.{begins_with, is_letter, is_word_byte, is_hex, is_filling, is_sign, is_apostrophe}
-use Rattle.sb_lex.specs.Sets.{Text, Byte, Bytes, SomeBytes, ◌⋅◌, Optional, Repeated}
-use Rattle.sb_lex.specs.Kinds.{word_text, mark_byte, Digits, Signed, Numeral, Letters, IsName, Exponent, StringPiece, HexDigits, IsOf, not_after}
-use Rattle.sb_lex.specs.Steps.{Found, longer, heads, first_head, head_of, scan_words, or_keyword, scan_letters, scan_exclamation, scan_name, sign_len, exponent_len, fraction_len, scan_number, string_len, as_string, scan_enumeration, scan_binary, scan_at, scan}
-use Rattle.sb_lex.proofs.RunsAreLongest.{cut}
-use Rattle.sb_lex.proofs.PiecesJoin.{Stands, Ends, stands_so_long, stands_as, stands_joined, stands_text, stands_byte, stands_run, stands_some, stands_begun, stands_nothing, stands_optional, stands_at, text_is}
+use Rattle.sb_lex.specs.declared.first_byte.Head.{Head}
+use Rattle.sb_lex.specs.declared.first_byte.Head.TheVariants as head
+use Rattle.sb_lex.specs.Bytes.{is_letter, is_word_byte, is_hex, is_filling, is_sign, is_apostrophe}
+use Rattle.theory_bytes.specs.Sets.{begins_with}
+use Rattle.theory_bytes.specs.Sets.{Text, Byte, Bytes, SomeBytes, ◌⋅◌, Optional, Repeated}
+use Rattle.sb_lex.specs.Kinds.{numbers_end, word_text, mark_byte, Digits, Signed, Numeral, Letters, IsName, Exponent, StringPiece, HexDigits, IsOf, not_after}
+use Rattle.sb_lex.specs.Scanning.{Scanned, longer, heads, first_head, head_of, scan_words, or_keyword, scan_letters, scan_exclamation, scan_name, sign_len, exponent_len, fraction_len, scan_unsigned, string_len, as_string, scan_enumeration, scan_binary, scan_at, scan}
+use Rattle.theory_bytes.proofs.RunsAreLongest.{cut}
+use Rattle.theory_bytes.proofs.PrefixesJoin.{IsPrefix, HasPrefix, prefix_so_long, prefix_as, prefix_joined, prefix_text, prefix_byte, prefix_run, prefix_some, prefix_begun, prefix_nothing, prefix_optional, prefix_at, text_is}
 use Rattle.sb_lex.proofs.StringsEnd.{IsEnding, ending_found}
 
 -- a string of the kind stands at the front, so long, and what may not follow it does not
 pub record Front (bytes : List ℕ) (k : Kind) (n : ℕ) : Type 0 where
   pub rest : List ℕ
-  pub stands : Stands (IsOf k) bytes rest n
+  pub prefix : IsPrefix (IsOf k) bytes rest n
   pub free : begins_with (not_after k) rest ≡ false
 
 -- what was found stands at the front
-abbrev pub IsFront : Found → List ℕ → Type 0
+abbrev pub IsFront : Scanned → List ℕ → Type 0
 IsFront None bytes = Unit {0}
 IsFront (Some x) bytes = Front bytes x.0 x.1
-
--- a number that is not above 0
-pub le_zero : (n : ℕ) → n ≤ 0 → n ≡ 0
-le_zero n none = omega arith
 
 positive : (n : ℕ) → n ≢ 0 → 0 < n
 positive n some = omega arith
@@ -48,11 +47,11 @@ abbrev pub HeadFits : Head → ℕ → Type 0
 HeadFits head.Letter b = is_letter b ≡ true
 HeadFits head.Digit b = is_ascii_digit b ≡ true
 HeadFits head.Sign b = is_sign b ≡ true
-HeadFits head.Exclamation b = b ≡ 33
-HeadFits head.Hash b = b ≡ 35
+HeadFits head.Exclamation b = b ≡ byte.exclamation
+HeadFits head.Hash b = b ≡ byte.hash
 HeadFits head.Apostrophe b = is_apostrophe b ≡ true
-HeadFits head.Point b = b ≡ 46
-HeadFits head.Quote b = b ≡ 34
+HeadFits head.Point b = b ≡ byte.point
+HeadFits head.Quote b = b ≡ byte.quote
 HeadFits (head.Mark m) b = b ≡ mark_byte m
 HeadFits head.Other b = Unit {0}
 
@@ -75,24 +74,24 @@ rows_fit = (
     (
       λ b e. e,
       (
-        λ b. eqb-true b 33,
+        λ b. eqb-true b byte.exclamation,
         (
-          λ b. eqb-true b 35,
+          λ b. eqb-true b byte.hash,
           (
             λ b e. e,
             (
-              λ b. eqb-true b 46,
+              λ b. eqb-true b byte.point,
               (
-                λ b. eqb-true b 34,
+                λ b. eqb-true b byte.quote,
                 (
-                  λ b. eqb-true b 36,
+                  λ b. eqb-true b byte.dollar,
                   (
-                    λ b. eqb-true b 42,
+                    λ b. eqb-true b byte.asterisk,
                     (
-                      λ b. eqb-true b 40,
+                      λ b. eqb-true b byte.open_parenthesis,
                       (
-                        λ b. eqb-true b 41,
-                        (λ b. eqb-true b 44, (λ b. eqb-true b 59, (λ b. eqb-true b 61, tt))),
+                        λ b. eqb-true b byte.close_parenthesis,
+                        (λ b. eqb-true b byte.comma, (λ b. eqb-true b byte.semicolon, (λ b. eqb-true b byte.equals, tt))),
                       ),
                     ),
                   ),
@@ -124,9 +123,9 @@ run_stops test bytes =
 pub letter_is_word_byte : (b : ℕ) → is_letter b ≡ true → is_word_byte b ≡ true
 letter_is_word_byte b letter = or_left (is_letter b) (is_ascii_digit b) letter
 
-letters_stand : (b : ℕ) (bs : List ℕ) → is_letter b ≡ true → Stands Letters (b ∷ bs)
+letters_stand : (b : ℕ) (bs : List ℕ) → is_letter b ≡ true → IsPrefix Letters (b ∷ bs)
     (drop (prefix_len is_word_byte (b ∷ bs)) (b ∷ bs)) (prefix_len is_word_byte (b ∷ bs))
-letters_stand b bs letter = stands_begun is_letter is_word_byte b bs letter
+letters_stand b bs letter = prefix_begun is_letter is_word_byte b bs letter
     (letter_is_word_byte b letter)
 
 keyword_front : (b : ℕ) (bs : List ℕ) → is_letter b ≡ true → Front (b ∷ bs) kind.Keyword
@@ -136,10 +135,10 @@ keyword_front b bs letter =
     let rest = drop n (b ∷ bs) in
     record {
       rest = rest;
-      stands =
-          stands_so_long (IsOf kind.Keyword) (b ∷ bs) rest (0 + n) n (zero-add n)
-          (stands_joined (Optional (Text (codes "!"))) Letters (b ∷ bs) (b ∷ bs) rest 0 n
-          (stands_nothing (Text (codes "!")) (b ∷ bs)) (letters_stand b bs letter));
+      prefix =
+          prefix_so_long (IsOf kind.Keyword) (b ∷ bs) rest (0 + n) n (zero-add n)
+          (prefix_joined (Optional (Text (codes "!"))) Letters (b ∷ bs) (b ∷ bs) rest 0 n
+          (prefix_nothing (Text (codes "!")) (b ∷ bs)) (letters_stand b bs letter));
       free = nothing_barred rest;
     }
 
@@ -149,7 +148,7 @@ word_front w bytes n long starts =
     let rest = drop (length (word_text w)) bytes in
     record {
       rest = rest;
-      stands = record {
+      prefix = record {
         text = word_text w;
         joined = (starts_is Decides-eqb bytes (word_text w)
             (starts_with nat_eq bytes (word_text w)) refl).0 starts;
@@ -166,7 +165,7 @@ words_front bytes =
     (λ other. cond_both (starts_with nat_eq bytes (word_text word.Last)) _ None
     (λ o. IsFront o bytes) (word_front word.Last bytes 16 refl) (λ none. tt))
 
-or_keyword_front : (bytes : List ℕ) (n : ℕ) (o : Found) → Front bytes kind.Keyword n
+or_keyword_front : (bytes : List ℕ) (n : ℕ) (o : Scanned) → Front bytes kind.Keyword n
     → IsFront o bytes → IsFront (or_keyword n o) bytes
 or_keyword_front bytes n None keyword front = keyword
 or_keyword_front bytes n (Some x) keyword front = front
@@ -177,31 +176,31 @@ unfolding scan_letters
 letters_front b bs letter =
     let n = prefix_len is_word_byte (b ∷ bs) in
     let keyword = keyword_front b bs letter in
-    cond_both (eqb (get_or (b ∷ bs) n 0) 45) (or_keyword n (scan_words (b ∷ bs)))
+    cond_both (eqb (get_or (b ∷ bs) n 0) byte.minus) (or_keyword n (scan_words (b ∷ bs)))
     (Some (kind.Keyword, n)) (λ o. IsFront o (b ∷ bs))
     (λ dash. or_keyword_front (b ∷ bs) n (scan_words (b ∷ bs)) keyword (words_front (b ∷ bs)))
     (λ other. keyword)
 
-exclamation_front : (bs : List ℕ) → IsFront (scan_exclamation (33 ∷ bs)) (33 ∷ bs)
+exclamation_front : (bs : List ℕ) → IsFront (scan_exclamation (byte.exclamation ∷ bs)) (byte.exclamation ∷ bs)
 unfolding scan_exclamation
 exclamation_front [] = tt
 exclamation_front (b ∷ bs) =
     let n = prefix_len is_word_byte (b ∷ bs) in
     let rest = drop n (b ∷ bs) in
-    cond_both (is_letter b) (Some (kind.Keyword, 1 + n)) None (λ o. IsFront o (33 ∷ b ∷ bs))
+    cond_both (is_letter b) (Some (kind.Keyword, 1 + n)) None (λ o. IsFront o (byte.exclamation ∷ b ∷ bs))
     (λ letter. record {
       rest = rest;
-      stands =
-          stands_joined (Optional (Text (codes "!"))) Letters (33 ∷ b ∷ bs) (b ∷ bs) rest 1 n
-          (stands_optional (Text (codes "!")) (33 ∷ b ∷ bs) (b ∷ bs) 1
-          (stands_text (codes "!") (b ∷ bs) 1 refl)) (letters_stand b bs letter);
+      prefix =
+          prefix_joined (Optional (Text (codes "!"))) Letters (byte.exclamation ∷ b ∷ bs) (b ∷ bs) rest 1 n
+          (prefix_optional (Text (codes "!")) (byte.exclamation ∷ b ∷ bs) (b ∷ bs) 1
+          (prefix_text (codes "!") (b ∷ bs) 1 refl)) (letters_stand b bs letter);
       free = nothing_barred rest;
     }) (λ other. tt)
 
 -- names
 
 name_stands : (bs : List ℕ) (number : ℕ) → digits_value 10 (take (prefix_len is_ascii_digit bs) bs)
-    ≡ number → 0 < number → number < 2 ^ 32 → Stands (IsName number) (35 ∷ bs)
+    ≡ number → 0 < number → number < numbers_end → IsPrefix (IsName number) (byte.hash ∷ bs)
     (drop (prefix_len is_ascii_digit bs) bs) (1 + prefix_len is_ascii_digit bs)
 name_stands bs number value positive fits =
     let n = prefix_len is_ascii_digit bs in
@@ -209,10 +208,10 @@ name_stands bs number value positive fits =
     let some : 0 < n =
     ⊎_elim (λ some. some)
     (λ none. absurd
-    (omega (arith, value, ap (λ k. digits_value 10 (take k bs)) (le_zero n none))))
+    (omega (arith, value, ap (λ k. digits_value 10 (take k bs)) (le-zero none))))
     (cases_lt 0 n) in
-    let digits = stands_some is_ascii_digit bs some in
-    let numeral : Stands (Numeral number) bs rest n = record {
+    let digits = prefix_some is_ascii_digit bs some in
+    let numeral : IsPrefix (Numeral number) bs rest n = record {
       text = digits.text;
       joined = digits.joined;
       long = digits.long;
@@ -221,61 +220,61 @@ name_stands bs number value positive fits =
         value = ap (digits_value 10) (text_is (SomeBytes is_ascii_digit) bs rest n digits) ∙ value;
       };
     } in
-    stands_as (Text (codes "#") ⋅ Numeral number) (IsName number) (35 ∷ bs) rest (1 + n)
+    prefix_as (Text (codes "#") ⋅ Numeral number) (IsName number) (byte.hash ∷ bs) rest (1 + n)
     (λ xs written. record
     { written = written; in_range = record { positive = positive; fits = fits } })
-    (stands_joined (Text (codes "#")) (Numeral number) (35 ∷ bs) bs rest 1 n
-    (stands_text (codes "#") bs 1 refl) numeral)
+    (prefix_joined (Text (codes "#")) (Numeral number) (byte.hash ∷ bs) bs rest 1 n
+    (prefix_text (codes "#") bs 1 refl) numeral)
 
-name_front : (bs : List ℕ) → IsFront (scan_name (35 ∷ bs)) (35 ∷ bs)
+name_front : (bs : List ℕ) → IsFront (scan_name (byte.hash ∷ bs)) (byte.hash ∷ bs)
 unfolding scan_name
 name_front bs =
     let n = prefix_len is_ascii_digit bs in
     let number = digits_value 10 (take n bs) in
-    cond_both (ltb 0 number && ltb number (2 ^ 32)) (Some (kind.Name number, 1 + n)) None
-    (λ o. IsFront o (35 ∷ bs))
-    (λ in_range. let parts = and_parts (ltb 0 number) (ltb number (2 ^ 32)) in_range in record {
+    cond_both (ltb 0 number && ltb number numbers_end) (Some (kind.Name number, 1 + n)) None
+    (λ o. IsFront o (byte.hash ∷ bs))
+    (λ in_range. let parts = and_parts (ltb 0 number) (ltb number numbers_end) in_range in record {
       rest = drop n bs;
-      stands = name_stands bs number refl (ltb-true 0 number parts.0)
-          (ltb-true number (2 ^ 32) parts.1);
+      prefix = name_stands bs number refl (ltb-true 0 number parts.0)
+          (ltb-true number numbers_end parts.1);
       free = run_stops is_ascii_digit bs;
     }) (λ other. tt)
 
 -- numbers
 
-sign_stands : (bytes : List ℕ) → Stands (Optional (Byte is_sign)) bytes
+sign_stands : (bytes : List ℕ) → IsPrefix (Optional (Byte is_sign)) bytes
     (drop (sign_len bytes) bytes) (sign_len bytes)
-sign_stands [] = stands_nothing (Byte is_sign) []
+sign_stands [] = prefix_nothing (Byte is_sign) []
 sign_stands (b ∷ bs) =
-    let P : ℕ → Type 0 = λ n. Stands (Optional (Byte is_sign)) (b ∷ bs) (drop n (b ∷ bs)) n in
-    cond_both (is_sign b) 1 0 P (λ sign. stands_optional (Byte is_sign) (b ∷ bs) bs 1
-    (stands_byte is_sign b bs sign)) (λ other. stands_nothing (Byte is_sign) (b ∷ bs))
+    let P : ℕ → Type 0 = λ n. IsPrefix (Optional (Byte is_sign)) (b ∷ bs) (drop n (b ∷ bs)) n in
+    cond_both (is_sign b) 1 0 P (λ sign. prefix_optional (Byte is_sign) (b ∷ bs) bs 1
+    (prefix_byte is_sign b bs sign)) (λ other. prefix_nothing (Byte is_sign) (b ∷ bs))
 
-no_exponent : (bytes : List ℕ) → Ends (Optional Exponent) bytes 0
-no_exponent bytes = record { rest = bytes; stands = stands_nothing Exponent bytes }
+no_exponent : (bytes : List ℕ) → HasPrefix (Optional Exponent) bytes 0
+no_exponent bytes = record { rest = bytes; prefix = prefix_nothing Exponent bytes }
 
-exponent_stands : (b : ℕ) (bs : List ℕ) (n : ℕ) → b ≡ 69 → n ≡ prefix_len is_ascii_digit
-    (drop (sign_len bs) bs) → 0 < n → Ends (Optional Exponent) (b ∷ bs) (1 + sign_len bs + n)
+exponent_stands : (b : ℕ) (bs : List ℕ) (n : ℕ) → b ≡ byte.capital_e → n ≡ prefix_len is_ascii_digit
+    (drop (sign_len bs) bs) → 0 < n → HasPrefix (Optional Exponent) (b ∷ bs) (1 + sign_len bs + n)
 exponent_stands b bs n is_e size some =
     let behind = drop (sign_len bs) bs in
     let m = prefix_len is_ascii_digit behind in
     let rest = drop m behind in
-    let letter : Stands (Text (codes "E")) (b ∷ bs) bs 1 =
-    record { text = 69 ∷ []; joined = ap (λ c. c ∷ bs) is_e; long = refl; is = refl } in
+    let letter : IsPrefix (Text (codes "E")) (b ∷ bs) bs 1 =
+    record { text = byte.capital_e ∷ []; joined = ap (λ c. c ∷ bs) is_e; long = refl; is = refl } in
     let signed =
-    stands_joined (Optional (Byte is_sign)) Digits bs behind rest (sign_len bs) m (sign_stands bs)
-    (stands_some is_ascii_digit behind (omega arith)) in
+    prefix_joined (Optional (Byte is_sign)) Digits bs behind rest (sign_len bs) m (sign_stands bs)
+    (prefix_some is_ascii_digit behind (omega arith)) in
     record {
       rest = rest;
-      stands =
-          stands_so_long (Optional Exponent) (b ∷ bs) rest (1 + (sign_len bs + m))
+      prefix =
+          prefix_so_long (Optional Exponent) (b ∷ bs) rest (1 + (sign_len bs + m))
           (1 + sign_len bs + n) (omega arith)
-          (stands_optional Exponent (b ∷ bs) rest (1 + (sign_len bs + m))
-          (stands_joined (Text (codes "E")) (Signed Digits) (b ∷ bs) bs rest 1
+          (prefix_optional Exponent (b ∷ bs) rest (1 + (sign_len bs + m))
+          (prefix_joined (Text (codes "E")) (Signed Digits) (b ∷ bs) bs rest 1
           (sign_len bs + m) letter signed));
     }
 
-exponent_ends : (bytes : List ℕ) → Ends (Optional Exponent) bytes (exponent_len bytes)
+exponent_ends : (bytes : List ℕ) → HasPrefix (Optional Exponent) bytes (exponent_len bytes)
 unfolding exponent_len
 exponent_ends [] = no_exponent []
 exponent_ends (b ∷ bs) =
@@ -283,21 +282,21 @@ exponent_ends (b ∷ bs) =
     let n = prefix_len is_ascii_digit (drop signed (b ∷ bs)) in
     let behind : drop signed (b ∷ bs) ≡ drop (sign_len bs) bs = ap (λ k. drop k (b ∷ bs))
     (one-add (sign_len bs)) in
-    cond_both (eqb b 69 && ltb 0 n) (signed + n) 0 (λ m. Ends (Optional Exponent) (b ∷ bs) m)
-    (λ both. let parts = and_parts (eqb b 69) (ltb 0 n) both in exponent_stands b bs n
-    (eqb-true b 69 parts.0) (ap (prefix_len is_ascii_digit) behind) (ltb-true 0 n parts.1))
+    cond_both (eqb b byte.capital_e && ltb 0 n) (signed + n) 0 (λ m. HasPrefix (Optional Exponent) (b ∷ bs) m)
+    (λ both. let parts = and_parts (eqb b byte.capital_e) (ltb 0 n) both in exponent_stands b bs n
+    (eqb-true b byte.capital_e parts.0) (ap (prefix_len is_ascii_digit) behind) (ltb-true 0 n parts.1))
     (λ other. no_exponent (b ∷ bs))
 
-fraction_ends : (bytes : List ℕ) → Ends (Bytes is_ascii_digit ⋅ Optional Exponent) bytes
+fraction_ends : (bytes : List ℕ) → HasPrefix (Bytes is_ascii_digit ⋅ Optional Exponent) bytes
     (fraction_len bytes)
 fraction_ends bytes =
     let n = prefix_len is_ascii_digit bytes in
     let e = exponent_ends (drop n bytes) in
     record {
       rest = e.rest;
-      stands =
-          stands_joined (Bytes is_ascii_digit) (Optional Exponent) bytes (drop n bytes) e.rest n
-          (exponent_len (drop n bytes)) (stands_run is_ascii_digit bytes) e.stands;
+      prefix =
+          prefix_joined (Bytes is_ascii_digit) (Optional Exponent) bytes (drop n bytes) e.rest n
+          (exponent_len (drop n bytes)) (prefix_run is_ascii_digit bytes) e.prefix;
     }
 
 -- a number without its sign
@@ -307,152 +306,152 @@ Unsigned kind.Real = Digits ⋅ Text (codes ".") ⋅ Bytes is_ascii_digit ⋅ Op
 Unsigned _ = λ xs. ⊥
 
 -- what was found is a number without its sign
-abbrev pub IsUnsigned : Found → List ℕ → Type 0
+abbrev pub IsUnsigned : Scanned → List ℕ → Type 0
 IsUnsigned None bytes = Unit {0}
-IsUnsigned (Some x) bytes = Ends (Unsigned x.0) bytes x.1
+IsUnsigned (Some x) bytes = HasPrefix (Unsigned x.0) bytes x.1
 
 real_found : (bytes : List ℕ) (n : ℕ) → n ≡ prefix_len is_ascii_digit bytes → 0 < n → get_or bytes
-    n 0 ≡ 46 → Ends (Unsigned kind.Real) bytes (n + 1 + fraction_len (drop (n + 1) bytes))
+    n 0 ≡ byte.point → HasPrefix (Unsigned kind.Real) bytes (n + 1 + fraction_len (drop (n + 1) bytes))
 real_found bytes n size some point =
     let f = fraction_ends (drop (n + 1) bytes) in
     let m = fraction_len (drop (n + 1) bytes) in
-    let digits : Stands Digits bytes (drop n bytes) n =
-    subst (λ k. Stands Digits bytes (drop k bytes) k) (sym size)
-    (stands_some is_ascii_digit bytes (omega arith)) in
+    let digits : IsPrefix Digits bytes (drop n bytes) n =
+    subst (λ k. IsPrefix Digits bytes (drop k bytes) k) (sym size)
+    (prefix_some is_ascii_digit bytes (omega arith)) in
     record {
       rest = f.rest;
-      stands =
-          stands_so_long (Unsigned kind.Real) bytes f.rest (n + (1 + m)) (n + 1 + m) (omega arith)
-          (stands_joined Digits (Text (codes ".") ⋅ Bytes is_ascii_digit ⋅ Optional Exponent)
+      prefix =
+          prefix_so_long (Unsigned kind.Real) bytes f.rest (n + (1 + m)) (n + 1 + m) (omega arith)
+          (prefix_joined Digits (Text (codes ".") ⋅ Bytes is_ascii_digit ⋅ Optional Exponent)
           bytes (drop n bytes) f.rest n (1 + m) digits
-          (stands_joined (Text (codes ".")) (Bytes is_ascii_digit ⋅ Optional Exponent)
+          (prefix_joined (Text (codes ".")) (Bytes is_ascii_digit ⋅ Optional Exponent)
           (drop n bytes) (drop (n + 1) bytes) f.rest 1 m
-          (stands_at 46 bytes n (omega arith) point) f.stands));
+          (prefix_at byte.point bytes n (omega arith) point) f.prefix));
     }
 
-number_found : (bytes : List ℕ) → IsUnsigned (scan_number bytes) bytes
-unfolding scan_number
+number_found : (bytes : List ℕ) → IsUnsigned (scan_unsigned bytes) bytes
+unfolding scan_unsigned
 number_found bytes =
     let n = prefix_len is_ascii_digit bytes in
-    let real : Found = Some (kind.Real, n + 1 + fraction_len (drop (n + 1) bytes)) in
-    let integer : Found = Some (kind.Integer, n) in
-    cond_both (eqb n 0) None (cond (eqb (get_or bytes n 0) 46) real integer)
+    let real : Scanned = Some (kind.Real, n + 1 + fraction_len (drop (n + 1) bytes)) in
+    let integer : Scanned = Some (kind.Integer, n) in
+    cond_both (eqb n 0) None (cond (eqb (get_or bytes n 0) byte.point) real integer)
     (λ o. IsUnsigned o bytes) (λ none. tt)
     (λ other. let some : 0 < n = positive n (eqb-false n 0 other) in cond_both
-    (eqb (get_or bytes n 0) 46) real integer (λ o. IsUnsigned o bytes)
-    (λ point. real_found bytes n refl some (eqb-true (get_or bytes n 0) 46 point))
-    (λ plain. record { rest = drop n bytes; stands = stands_some is_ascii_digit bytes some }))
+    (eqb (get_or bytes n 0) byte.point) real integer (λ o. IsUnsigned o bytes)
+    (λ point. real_found bytes n refl some (eqb-true (get_or bytes n 0) byte.point point))
+    (λ plain. record { rest = drop n bytes; prefix = prefix_some is_ascii_digit bytes some }))
 
-number_front : (k : Kind) (bytes rest : List ℕ) (n : ℕ) → Stands (Signed (Unsigned k)) bytes rest n
+number_front : (k : Kind) (bytes rest : List ℕ) (n : ℕ) → IsPrefix (Signed (Unsigned k)) bytes rest n
     → Front bytes k n
 number_front kind.Integer bytes rest n s = record
-    { rest = rest; stands = s; free = nothing_barred rest }
+    { rest = rest; prefix = s; free = nothing_barred rest }
 number_front kind.Real bytes rest n s = record
-    { rest = rest; stands = s; free = nothing_barred rest }
+    { rest = rest; prefix = s; free = nothing_barred rest }
 number_front _ bytes rest n s = absurd s.is.second
 
-unsigned_front : (bytes : List ℕ) (o : Found) → IsUnsigned o bytes → IsFront o bytes
+unsigned_front : (bytes : List ℕ) (o : Scanned) → IsUnsigned o bytes → IsFront o bytes
 unsigned_front bytes None e = tt
 unsigned_front bytes (Some x) e =
-    number_front x.0 bytes e.rest x.1 (stands_so_long (Signed (Unsigned x.0)) bytes e.rest
-    (0 + x.1) x.1 (zero-add x.1) (stands_joined (Optional (Byte is_sign)) (Unsigned x.0) bytes
-    bytes e.rest 0 x.1 (stands_nothing (Byte is_sign) bytes) e.stands))
+    number_front x.0 bytes e.rest x.1 (prefix_so_long (Signed (Unsigned x.0)) bytes e.rest
+    (0 + x.1) x.1 (zero-add x.1) (prefix_joined (Optional (Byte is_sign)) (Unsigned x.0) bytes
+    bytes e.rest 0 x.1 (prefix_nothing (Byte is_sign) bytes) e.prefix))
 
-signed_front : (b : ℕ) (bytes : List ℕ) (o : Found) → is_sign b ≡ true → IsUnsigned o bytes
+signed_front : (b : ℕ) (bytes : List ℕ) (o : Scanned) → is_sign b ≡ true → IsUnsigned o bytes
     → IsFront (longer 1 o) (b ∷ bytes)
 signed_front b bytes None sign e = tt
 signed_front b bytes (Some x) sign e =
     number_front x.0 (b ∷ bytes) e.rest (1 + x.1)
-    (stands_joined (Optional (Byte is_sign)) (Unsigned x.0) (b ∷ bytes) bytes e.rest 1 x.1
-    (stands_optional (Byte is_sign) (b ∷ bytes) bytes 1 (stands_byte is_sign b bytes sign))
-    e.stands)
+    (prefix_joined (Optional (Byte is_sign)) (Unsigned x.0) (b ∷ bytes) bytes e.rest 1 x.1
+    (prefix_optional (Byte is_sign) (b ∷ bytes) bytes 1 (prefix_byte is_sign b bytes sign))
+    e.prefix)
 
 -- strings, enumerations and binaries
 
-string_front : (bs : List ℕ) (o : Option ℕ) → IsEnding o bs → IsFront (as_string o) (39 ∷ bs)
+string_front : (bs : List ℕ) (o : Option ℕ) → IsEnding o bs → IsFront (as_string o) (byte.apostrophe ∷ bs)
 string_front bs None e = tt
 string_front bs (Some n) e =
-    let inside : Stands (Repeated StringPiece) bs (39 ∷ e.rest) (length e.inside) =
+    let inside : IsPrefix (Repeated StringPiece) bs (byte.apostrophe ∷ e.rest) (length e.inside) =
     record { text = e.inside; joined = e.joined; long = refl; is = e.pieces } in
-    let last = stands_text (codes "'") e.rest 1 refl in
+    let last = prefix_text (codes "'") e.rest 1 refl in
     record {
       rest = e.rest;
-      stands =
-          stands_so_long (IsOf kind.Str) (39 ∷ bs) e.rest (1 + (length e.inside + 1)) (1 + n)
+      prefix =
+          prefix_so_long (IsOf kind.Str) (byte.apostrophe ∷ bs) e.rest (1 + (length e.inside + 1)) (1 + n)
           (omega (arith, e.long))
-          (stands_joined (Text (codes "'")) (Repeated StringPiece ⋅ Text (codes "'")) (39 ∷ bs)
-          bs e.rest 1 (length e.inside + 1) (stands_text (codes "'") bs 1 refl)
-          (stands_joined (Repeated StringPiece) (Text (codes "'")) bs (39 ∷ e.rest) e.rest
+          (prefix_joined (Text (codes "'")) (Repeated StringPiece ⋅ Text (codes "'")) (byte.apostrophe ∷ bs)
+          bs e.rest 1 (length e.inside + 1) (prefix_text (codes "'") bs 1 refl)
+          (prefix_joined (Repeated StringPiece) (Text (codes "'")) bs (byte.apostrophe ∷ e.rest) e.rest
           (length e.inside) 1 inside last));
       free = e.alone;
     }
 
 -- a byte, a set of strings so long, and the same byte again
-between_stand : (b : ℕ) (P : List ℕ → Type 0) (bs : List ℕ) (n : ℕ) → 0 < b → Stands P bs
-    (drop n bs) n → get_or (b ∷ bs) (1 + n) 0 ≡ b → Stands (Text (b ∷ []) ⋅ P ⋅ Text (b ∷ []))
+between_stand : (b : ℕ) (P : List ℕ → Type 0) (bs : List ℕ) (n : ℕ) → 0 < b → IsPrefix P bs
+    (drop n bs) n → get_or (b ∷ bs) (1 + n) 0 ≡ b → IsPrefix (Text (b ∷ []) ⋅ P ⋅ Text (b ∷ []))
     (b ∷ bs) (drop (n + 1) bs) (n + 2)
 between_stand b P bs n positive inside closed =
     let last : get_or bs n 0 ≡ b = ap (λ k. get_or (b ∷ bs) k 0) (sym (one-add n)) ∙ closed in
-    stands_so_long (Text (b ∷ []) ⋅ P ⋅ Text (b ∷ [])) (b ∷ bs) (drop (n + 1) bs) (1 + (n + 1))
-    (n + 2) (omega arith) (stands_joined (Text (b ∷ [])) (P ⋅ Text (b ∷ [])) (b ∷ bs) bs
-    (drop (n + 1) bs) 1 (n + 1) (stands_text (b ∷ []) bs 1 refl)
-    (stands_joined P (Text (b ∷ [])) bs (drop n bs) (drop (n + 1) bs) n 1 inside
-    (stands_at b bs n positive last)))
+    prefix_so_long (Text (b ∷ []) ⋅ P ⋅ Text (b ∷ [])) (b ∷ bs) (drop (n + 1) bs) (1 + (n + 1))
+    (n + 2) (omega arith) (prefix_joined (Text (b ∷ [])) (P ⋅ Text (b ∷ [])) (b ∷ bs) bs
+    (drop (n + 1) bs) 1 (n + 1) (prefix_text (b ∷ []) bs 1 refl)
+    (prefix_joined P (Text (b ∷ [])) bs (drop n bs) (drop (n + 1) bs) n 1 inside
+    (prefix_at b bs n positive last)))
 
-enumeration_front : (bs : List ℕ) → IsFront (scan_enumeration (46 ∷ bs)) (46 ∷ bs)
+enumeration_front : (bs : List ℕ) → IsFront (scan_enumeration (byte.point ∷ bs)) (byte.point ∷ bs)
 unfolding scan_enumeration
 enumeration_front [] = tt
 enumeration_front (b ∷ bs) =
     let n = prefix_len is_word_byte (b ∷ bs) in
     let rest = drop (n + 1) (b ∷ bs) in
-    let closed = eqb (get_or (46 ∷ b ∷ bs) (1 + n) 0) 46 in
+    let closed = eqb (get_or (byte.point ∷ b ∷ bs) (1 + n) 0) byte.point in
     cond_both (is_letter b && closed) (Some (kind.Enumeration, n + 2)) None
-    (λ o. IsFront o (46 ∷ b ∷ bs)) (λ both. let parts = and_parts (is_letter b) closed both in
+    (λ o. IsFront o (byte.point ∷ b ∷ bs)) (λ both. let parts = and_parts (is_letter b) closed both in
     record {
       rest = rest;
-      stands =
-          between_stand 46 Letters (b ∷ bs) n (omega arith) (letters_stand b bs parts.0)
-          (eqb-true (get_or (46 ∷ b ∷ bs) (1 + n) 0) 46 parts.1);
+      prefix =
+          between_stand byte.point Letters (b ∷ bs) n (omega arith) (letters_stand b bs parts.0)
+          (eqb-true (get_or (byte.point ∷ b ∷ bs) (1 + n) 0) byte.point parts.1);
       free = nothing_barred rest;
     }) (λ other. tt)
 
 -- the first digit of a binary is a hexadecimal digit
 pub filling_is_hex : (b : ℕ) → is_filling b ≡ true → is_hex b ≡ true
 filling_is_hex b filling =
-    let parts = and_parts (leb 48 b) (leb b 51) filling in
-    let low = leb-true b 51 parts.1 in
+    let parts = and_parts (leb byte.zero b) (leb b byte.three) filling in
+    let low = leb-true b byte.three parts.1 in
     or_left (is_ascii_digit b) _
-    (and_from (leb 48 b) (leb b 57) parts.0 (le-leb b 57 (omega arith)))
+    (and_from (leb byte.zero b) (leb b byte.nine) parts.0 (le-leb b byte.nine (omega arith)))
 
-binary_front : (bs : List ℕ) → IsFront (scan_binary (34 ∷ bs)) (34 ∷ bs)
+binary_front : (bs : List ℕ) → IsFront (scan_binary (byte.quote ∷ bs)) (byte.quote ∷ bs)
 unfolding scan_binary
 binary_front [] = tt
 binary_front (b ∷ bs) =
     let n = prefix_len is_hex (b ∷ bs) in
     let rest = drop (n + 1) (b ∷ bs) in
-    let closed = eqb (get_or (34 ∷ b ∷ bs) (1 + n) 0) 34 in
+    let closed = eqb (get_or (byte.quote ∷ b ∷ bs) (1 + n) 0) byte.quote in
     cond_both (is_filling b && closed) (Some (kind.Binary, n + 2)) None
-    (λ o. IsFront o (34 ∷ b ∷ bs)) (λ both. let parts = and_parts (is_filling b) closed both in
+    (λ o. IsFront o (byte.quote ∷ b ∷ bs)) (λ both. let parts = and_parts (is_filling b) closed both in
     record {
       rest = rest;
-      stands =
-          between_stand 34 HexDigits (b ∷ bs) n (omega arith)
-          (stands_begun is_filling is_hex b bs parts.0 (filling_is_hex b parts.0))
-          (eqb-true (get_or (34 ∷ b ∷ bs) (1 + n) 0) 34 parts.1);
+      prefix =
+          between_stand byte.quote HexDigits (b ∷ bs) n (omega arith)
+          (prefix_begun is_filling is_hex b bs parts.0 (filling_is_hex b parts.0))
+          (eqb-true (get_or (byte.quote ∷ b ∷ bs) (1 + n) 0) byte.quote parts.1);
       free = nothing_barred rest;
     }) (λ other. tt)
 
 head_front : (h : Head) (b : ℕ) (bs : List ℕ) → HeadFits h b → IsFront (scan_at h (b ∷ bs)) (b ∷ bs)
 head_front head.Letter b bs fits = letters_front b bs fits
-head_front head.Digit b bs fits = unsigned_front (b ∷ bs) (scan_number (b ∷ bs))
+head_front head.Digit b bs fits = unsigned_front (b ∷ bs) (scan_unsigned (b ∷ bs))
     (number_found (b ∷ bs))
-head_front head.Sign b bs fits = signed_front b bs (scan_number bs) fits (number_found bs)
+head_front head.Sign b bs fits = signed_front b bs (scan_unsigned bs) fits (number_found bs)
 head_front head.Exclamation b bs fits = subst (λ c. IsFront (scan_exclamation (c ∷ bs)) (c ∷ bs))
     (sym fits) (exclamation_front bs)
 head_front head.Hash b bs fits = subst (λ c. IsFront (scan_name (c ∷ bs)) (c ∷ bs)) (sym fits)
     (name_front bs)
 head_front head.Apostrophe b bs fits =
-    subst (λ c. IsFront (as_string (string_len bs)) (c ∷ bs)) (sym (eqb-true b 39 fits))
+    subst (λ c. IsFront (as_string (string_len bs)) (c ∷ bs)) (sym (eqb-true b byte.apostrophe fits))
     (string_front bs (string_len bs) (ending_found bs))
 head_front head.Point b bs fits = subst (λ c. IsFront (scan_enumeration (c ∷ bs)) (c ∷ bs))
     (sym fits) (enumeration_front bs)
@@ -460,7 +459,7 @@ head_front head.Quote b bs fits = subst (λ c. IsFront (scan_binary (c ∷ bs)) 
     (binary_front bs)
 head_front (head.Mark m) b bs fits = record {
   rest = bs;
-  stands = record {
+  prefix = record {
     text = mark_byte m ∷ [];
     joined = ap (λ c. c ∷ bs) fits;
     long = refl;

@@ -4,8 +4,9 @@ use Rattle.std.specs.List.{prefix_len}
 use Rattle.std.proofs.lemmas.Bool.{cases_Bool, not_from_true, not_from_false, not-false, eq-eqb, ne_eqb}
 use Rattle.std.proofs.lemmas.List.{drop_more, drop_all}
 use Rattle.std.proofs.lemmas.List.Sums.{prefix_len_stops}
+use Rattle.sb_lex.specs.Bytes as byte
 use Rattle.sb_lex.specs.Bytes.{is_apostrophe}
-use Rattle.sb_lex.specs.Steps.{after, string_len}
+use Rattle.sb_lex.specs.Scanning.{after, string_len}
 
 -- a byte that stands for itself
 abbrev pub is_plain : ℕ → Bool
@@ -45,16 +46,16 @@ string_len-run (b ∷ bs) =
     (cases_Bool (is_apostrophe b))
 
 -- an apostrophe with none behind it ends the string
-string_len-end : (b : ℕ) (bs : List ℕ) → is_apostrophe b ≡ true → get_or bs 0 0 ≢ 39
+string_len-end : (b : ℕ) (bs : List ℕ) → is_apostrophe b ≡ true → get_or bs 0 0 ≢ byte.apostrophe
     → string_len (b ∷ bs) ≡ Some 1
 string_len-end b [] ends other = rw ends
-string_len-end b (c ∷ bs) ends other = rw (ends, ne_eqb c 39 other)
+string_len-end b (c ∷ bs) ends other = rw (ends, ne_eqb c byte.apostrophe other)
 
 -- two apostrophes stand for one
-string_len-pair : (b : ℕ) (bs : List ℕ) → is_apostrophe b ≡ true → get_or bs 0 0 ≡ 39
+string_len-pair : (b : ℕ) (bs : List ℕ) → is_apostrophe b ≡ true → get_or bs 0 0 ≡ byte.apostrophe
     → string_len (b ∷ bs) ≡ after 2 (string_len (drop 1 bs))
 string_len-pair b [] ends twice = absurd (omega arith)
-string_len-pair b (c ∷ bs) ends twice = rw (ends, eq-eqb c 39 twice)
+string_len-pair b (c ∷ bs) ends twice = rw (ends, eq-eqb c byte.apostrophe twice)
 
 module _ (rest : List ℕ) (at n : ℕ)
     (so_far : string_len rest ≡ after at (string_len (drop at rest)))
@@ -90,14 +91,14 @@ module _ (rest : List ℕ) (at n : ℕ)
         get_or-drop (at + n + 1) rest 0 0 ∙ ap (λ k. get_or rest k 0) (add-zero (at + n + 1))
 
     -- the string ends here
-    pub string_ends : get_or rest (at + n + 1) 0 ≢ 39 → string_len rest ≡ Some (at + n + 1)
+    pub string_ends : get_or rest (at + n + 1) 0 ≢ byte.apostrophe → string_len rest ≡ Some (at + n + 1)
     string_ends other =
         passed ∙ ap (λ l. after (at + n) (string_len l)) here ∙ ap (after (at + n))
         (string_len-end (get_or rest (at + n) 0) (drop (at + n + 1) rest) apostrophe_here
         (λ same. other (sym behind ∙ same)))
 
     -- two apostrophes, and on
-    pub string_goes_on : get_or rest (at + n + 1) 0 ≡ 39 → string_len rest ≡ after (at + n + 2)
+    pub string_goes_on : get_or rest (at + n + 1) 0 ≡ byte.apostrophe → string_len rest ≡ after (at + n + 2)
         (string_len (drop (at + n + 2) rest))
     string_goes_on twice =
         let tail : drop 1 (drop (at + n + 1) rest) ≡ drop (at + n + 2) rest =

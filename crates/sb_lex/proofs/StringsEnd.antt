@@ -2,18 +2,20 @@
 use Rattle.std.proofs.Common.{◌≡◌, ℕ, suc, true, false, cond, List, [], ◌∷◌, ◌++◌, Option, Some, None, length, sym, refl, ap, ◌∙◌, subst, ⊎_elim, inl, inr, arith, one-add}
 use Rattle.std.specs.List.{concat, AllByRecursion}
 use Rattle.std.proofs.lemmas.Bool.{cond_both, eqb-true, not-true, not_from_false}
-use Rattle.sb_lex.specs.Bytes.{is_apostrophe, begins_with}
-use Rattle.sb_lex.specs.Sets.{Repeated}
+use Rattle.sb_lex.specs.Bytes as byte
+use Rattle.sb_lex.specs.Bytes.{is_apostrophe}
+use Rattle.theory_bytes.specs.Sets.{begins_with}
+use Rattle.theory_bytes.specs.Sets.{Repeated}
 use Rattle.sb_lex.specs.Kinds.{StringPiece}
-use Rattle.sb_lex.specs.Steps.{after, string_len}
-use Rattle.sb_lex.proofs.PiecesJoin.{repeated_cons, repeated_nothing}
+use Rattle.sb_lex.specs.Scanning.{after, string_len}
+use Rattle.theory_bytes.proofs.RepeatsGrow.{repeated_cons, repeated_nothing}
 use Rattle.sb_lex.proofs.StringsByRuns.{string_len-plain}
 
 -- the inside of a string, its last apostrophe and what follows
 pub record Ending (bytes : List ℕ) (n : ℕ) : Type 0 where
   pub inside : List ℕ
   pub rest : List ℕ
-  pub joined : bytes ≡ inside ++ (39 ∷ rest)
+  pub joined : bytes ≡ inside ++ (byte.apostrophe ∷ rest)
   pub long : suc (length inside) ≡ n
   pub pieces : Repeated StringPiece inside
   pub alone : begins_with is_apostrophe rest ≡ false
@@ -28,7 +30,7 @@ ending_here : (b : ℕ) (bs : List ℕ) → is_apostrophe b ≡ true → begins_
 ending_here b bs ends alone = record {
   inside = [];
   rest = bs;
-  joined = ap (λ c. c ∷ bs) (eqb-true b 39 ends);
+  joined = ap (λ c. c ∷ bs) (eqb-true b byte.apostrophe ends);
   long = refl;
   pieces = repeated_nothing StringPiece;
   alone = alone;
@@ -54,11 +56,11 @@ ending_after_pair : (b c : ℕ) (bs : List ℕ) (o : Option ℕ) → is_apostrop
     c ≡ true → IsEnding o bs → IsEnding (after 2 o) (b ∷ c ∷ bs)
 ending_after_pair b c bs None first second e = tt
 ending_after_pair b c bs (Some n) first second e = record {
-  inside = 39 ∷ 39 ∷ e.inside;
+  inside = byte.apostrophe ∷ byte.apostrophe ∷ e.inside;
   rest = e.rest;
-  joined = λ i. eqb-true b 39 first i ∷ (eqb-true c 39 second i ∷ e.joined i);
+  joined = λ i. eqb-true b byte.apostrophe first i ∷ (eqb-true c byte.apostrophe second i ∷ e.joined i);
   long = omega (arith, e.long);
-  pieces = repeated_cons StringPiece (39 ∷ 39 ∷ []) e.inside (inr refl) e.pieces;
+  pieces = repeated_cons StringPiece (byte.apostrophe ∷ byte.apostrophe ∷ []) e.inside (inr refl) e.pieces;
   alone = e.alone;
 }
 
@@ -76,19 +78,19 @@ ending_found (b ∷ c ∷ bs) =
     second (ending_found bs)) (λ alone. ending_here b (c ∷ bs) first alone))
     (λ plain. ending_after_plain b (c ∷ bs) (string_len (c ∷ bs)) plain (ending_found (c ∷ bs)))
 
-string_len-last : (rest : List ℕ) → begins_with is_apostrophe rest ≡ false → string_len (39 ∷ rest)
+string_len-last : (rest : List ℕ) → begins_with is_apostrophe rest ≡ false → string_len (byte.apostrophe ∷ rest)
     ≡ Some 1
 string_len-last [] alone = refl
 string_len-last (c ∷ rest) alone = rw alone refl
 
 ends_behind : (pieces : List (List ℕ)) (rest : List ℕ) → AllByRecursion StringPiece pieces
-    → begins_with is_apostrophe rest ≡ false → string_len (concat pieces ++ (39 ∷ rest)) ≡ Some
+    → begins_with is_apostrophe rest ≡ false → string_len (concat pieces ++ (byte.apostrophe ∷ rest)) ≡ Some
     (suc (length (concat pieces)))
 ends_behind [] rest each alone = string_len-last rest alone
 ends_behind (p ∷ ps) rest each alone =
-    let tail = concat ps ++ (39 ∷ rest) in
+    let tail = concat ps ++ (byte.apostrophe ∷ rest) in
     let later = ends_behind ps rest each.1 alone in
-    let P : List ℕ → Type 0 = λ l. string_len ((l ++ concat ps) ++ (39 ∷ rest)) ≡ Some
+    let P : List ℕ → Type 0 = λ l. string_len ((l ++ concat ps) ++ (byte.apostrophe ∷ rest)) ≡ Some
     (suc (length (l ++ concat ps))) in
     ⊎_elim
     (λ plain.
@@ -97,13 +99,13 @@ ends_behind (p ∷ ps) rest each alone =
     ∙ ap (after 1) later ∙ ap (λ n. Some n) (one-add (suc (length (concat ps)))) in
     subst P (sym plain.alone) at)
     (λ pair.
-    let at : P (39 ∷ 39 ∷ []) = ap (after 2) later ∙ ap (λ n. Some n) (omega arith) in
+    let at : P (byte.apostrophe ∷ byte.apostrophe ∷ []) = ap (after 2) later ∙ ap (λ n. Some n) (omega arith) in
     subst P (sym pair) at)
     each.0
 
 -- and it is found
 pub string_len-text : (inside rest : List ℕ) → Repeated StringPiece inside → begins_with
-    is_apostrophe rest ≡ false → string_len (inside ++ (39 ∷ rest)) ≡ Some (suc (length inside))
+    is_apostrophe rest ≡ false → string_len (inside ++ (byte.apostrophe ∷ rest)) ≡ Some (suc (length inside))
 string_len-text inside rest pieces alone =
-    let P : List ℕ → Type 0 = λ l. string_len (l ++ (39 ∷ rest)) ≡ Some (suc (length l)) in
+    let P : List ℕ → Type 0 = λ l. string_len (l ++ (byte.apostrophe ∷ rest)) ≡ Some (suc (length l)) in
     subst P (sym pieces.joined) (ends_behind pieces.pieces rest pieces.each alone)

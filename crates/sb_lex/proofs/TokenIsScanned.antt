@@ -9,53 +9,55 @@ use Rattle.std.proofs.lemmas.Bool.{cond_both, cond-true, eqb-true, lt-ltb, lt-le
 use Rattle.std.proofs.lemmas.Bool.Decides.{Decides-eqb}
 use Rattle.std.proofs.lemmas.List.{get_or_at}
 use Rattle.std.proofs.lemmas.Slice.Eq.{starts_is}
+use Rattle.sb_lex.specs.Bytes as byte
 use Rattle.sb_lex.specs.declared.kinds.Kind.{Kind}
 use Rattle.sb_lex.specs.declared.kinds.Kind.TheVariants as kind
 use Rattle.sb_lex.specs.declared.kinds.Mark.{Mark}
 use Rattle.sb_lex.specs.declared.kinds.Mark.TheVariants as mark
 use Rattle.sb_lex.specs.declared.kinds.Word.{Word}
 use Rattle.sb_lex.specs.declared.kinds.Word.TheVariants as word
-use Rattle.sb_lex.specs.declared.dispatch.Head.TheVariants as head
-use Rattle.sb_lex.specs.Bytes.{begins_with, is_letter, is_word_byte, is_hex, is_filling, is_sign, is_apostrophe}
-use Rattle.sb_lex.specs.Sets.{Byte, Optional, Repeated}
-use Rattle.sb_lex.specs.Kinds.{word_text, mark_byte, Digits, Signed, Numeral, Letters, IsNumber, IsName, Exponent, StringPiece, HexDigits, IsOf, not_after}
-use Rattle.sb_lex.specs.Steps.{Found, longer, head_of, scan_words, or_keyword, scan_letters, scan_exclamation, scan_name, sign_len, exponent_len, fraction_len, scan_number, as_string, scan_enumeration, scan_binary, scan_at, scan}
-use Rattle.sb_lex.proofs.RunsAreLongest.{run_is_whole, run_is_longest}
-use Rattle.sb_lex.proofs.PiecesJoin.{around, around_append, around_length, begun, some_pass}
+use Rattle.sb_lex.specs.declared.first_byte.Head.TheVariants as head
+use Rattle.sb_lex.specs.Bytes.{is_letter, is_word_byte, is_hex, is_filling, is_sign, is_apostrophe}
+use Rattle.theory_bytes.specs.Sets.{begins_with}
+use Rattle.theory_bytes.specs.Sets.{Byte, Optional, Repeated}
+use Rattle.sb_lex.specs.Kinds.{numbers_end, word_text, mark_byte, Digits, Signed, Numeral, Letters, IsInstanceNumber, IsName, Exponent, StringPiece, HexDigits, IsOf, not_after}
+use Rattle.sb_lex.specs.Scanning.{Scanned, longer, head_of, scan_words, or_keyword, scan_letters, scan_exclamation, scan_name, sign_len, exponent_len, fraction_len, scan_unsigned, as_string, scan_enumeration, scan_binary, scan_at, scan}
+use Rattle.theory_bytes.proofs.RunsAreLongest.{run_is_whole, run_is_longest}
+use Rattle.theory_bytes.proofs.JoinedHasParts.{around, around_append, around_length, begun, some_pass}
 use Rattle.sb_lex.proofs.StringsEnd.{string_len-text}
 use Rattle.sb_lex.proofs.ScannedIsToken.{filling_is_hex, letter_is_word_byte, Unsigned}
 
 -- what is found is at least so long, and of this kind if it is just so long
-abbrev pub Covers : Found → Kind → ℕ → Type 0
+abbrev pub Covers : Scanned → Kind → ℕ → Type 0
 Covers None k n = ⊥
 Covers (Some x) k n = (n ≤ x.1) × (x.1 ≡ n → x.0 ≡ k)
 
-covers_same : (o : Found) (k : Kind) (m n : ℕ) → o ≡ Some (k, m) → m ≡ n → Covers o k n
+covers_same : (o : Scanned) (k : Kind) (m n : ℕ) → o ≡ Some (k, m) → m ≡ n → Covers o k n
 covers_same o k m n found same =
     subst (λ f. Covers f k n) (sym found) (omega arith, λ equal. refl)
 
-covers_longer : (o : Found) (k : Kind) (n : ℕ) → Covers o k n → Covers (longer 1 o) k (1 + n)
+covers_longer : (o : Scanned) (k : Kind) (n : ℕ) → Covers o k n → Covers (longer 1 o) k (1 + n)
 covers_longer None k n c = c
 covers_longer (Some x) k n c = (omega (arith, c.0), λ equal. c.1 (omega arith))
 
 -- which head a byte has
 
-digit_bounds : (b : ℕ) → is_ascii_digit b ≡ true → (48 ≤ b) × (b ≤ 57)
+digit_bounds : (b : ℕ) → is_ascii_digit b ≡ true → (byte.zero ≤ b) × (b ≤ byte.nine)
 digit_bounds b digit =
-    let parts = and_parts (leb 48 b) (leb b 57) digit in
-    (leb-true 48 b parts.0, leb-true b 57 parts.1)
+    let parts = and_parts (leb byte.zero b) (leb b byte.nine) digit in
+    (leb-true byte.zero b parts.0, leb-true b byte.nine parts.1)
 
 digit_is_no_letter : (b : ℕ) → is_ascii_digit b ≡ true → is_letter b ≡ false
 digit_is_no_letter b digit =
     let high = (digit_bounds b digit).1 in
-    or_from _ (eqb b 95) (and_left (leb 65 b) (leb b 90) (lt-leb 65 b (omega arith)))
-    (ne_eqb b 95 (λ same. omega arith))
+    or_from _ (eqb b byte.underscore) (and_left (leb byte.capital_a b) (leb b byte.capital_z) (lt-leb byte.capital_a b (omega arith)))
+    (ne_eqb b byte.underscore (λ same. omega arith))
 
 digit_is_no_sign : (b : ℕ) → is_ascii_digit b ≡ true → is_sign b ≡ false
 digit_is_no_sign b digit =
     let low = (digit_bounds b digit).0 in
-    or_from (eqb b 43) (eqb b 45) (ne_eqb b 43 (λ same. omega arith))
-    (ne_eqb b 45 (λ same. omega arith))
+    or_from (eqb b byte.plus) (eqb b byte.minus) (ne_eqb b byte.plus (λ same. omega arith))
+    (ne_eqb b byte.minus (λ same. omega arith))
 
 letter_head : (b : ℕ) → is_letter b ≡ true → head_of b ≡ head.Letter
 letter_head b letter = rw letter refl
@@ -66,8 +68,8 @@ digit_head b digit = rw (digit_is_no_letter b digit, digit) refl
 sign_head : (b : ℕ) → is_sign b ≡ true → head_of b ≡ head.Sign
 sign_head b sign =
     let P : ℕ → Type 0 = λ c. head_of c ≡ head.Sign in
-    ⊎_elim (λ plus. subst P (sym (eqb-true b 43 plus)) refl)
-    (λ minus. subst P (sym (eqb-true b 45 minus)) refl) (or_cases (eqb b 43) (eqb b 45) sign)
+    ⊎_elim (λ plus. subst P (sym (eqb-true b byte.plus plus)) refl)
+    (λ minus. subst P (sym (eqb-true b byte.minus minus)) refl) (or_cases (eqb b byte.plus) (eqb b byte.minus) sign)
 
 -- words and keywords
 
@@ -90,7 +92,7 @@ keyword_or_word : (bytes : List ℕ) (n : ℕ) → n ≤ prefix_len is_word_byte
     → Covers (or_keyword (prefix_len is_word_byte bytes) (scan_words bytes)) kind.Keyword n
 keyword_or_word bytes n least =
     let m = prefix_len is_word_byte bytes in
-    let P : Found → Type 0 = λ o. Covers (or_keyword m o) kind.Keyword n in
+    let P : Scanned → Type 0 = λ o. Covers (or_keyword m o) kind.Keyword n in
     cond_both (starts_with nat_eq bytes (word_text word.First)) (Some (kind.Word word.First, 12)) _
     P (λ starts. let three : 3 ≡ m = word_begins word.First bytes starts in
     (omega arith, λ same. absurd (omega arith)))
@@ -104,12 +106,12 @@ letters_cover : (bytes : List ℕ) (n : ℕ) → n ≤ prefix_len is_word_byte b
 unfolding scan_letters
 letters_cover bytes n least =
     let m = prefix_len is_word_byte bytes in
-    cond_both (eqb (get_or bytes m 0) 45) (or_keyword m (scan_words bytes))
+    cond_both (eqb (get_or bytes m 0) byte.minus) (or_keyword m (scan_words bytes))
     (Some (kind.Keyword, m)) (λ o. Covers o kind.Keyword n)
     (λ dash. keyword_or_word bytes n least) (λ other. (least, λ same. refl))
 
 exclamation_covers : (b : ℕ) (bs : List ℕ) (n : ℕ) → is_letter b ≡ true → n ≤ prefix_len
-    is_word_byte (b ∷ bs) → Covers (scan_exclamation (33 ∷ b ∷ bs)) kind.Keyword (1 + n)
+    is_word_byte (b ∷ bs) → Covers (scan_exclamation (byte.exclamation ∷ b ∷ bs)) kind.Keyword (1 + n)
 unfolding scan_exclamation
 exclamation_covers b bs n letter least =
     let m = prefix_len is_word_byte (b ∷ bs) in
@@ -134,8 +136,8 @@ keyword_covers text rest t =
     (sym (letter_head l.byte l.is_first))
     (letters_cover (l.byte ∷ l.body ++ rest) (suc (length l.body))
     (letters_run l.byte l.body rest l.is_first l.pass)) in
-    let marked : P (33 ∷ l.byte ∷ l.body) =
-    subst (Covers (scan_exclamation (33 ∷ l.byte ∷ l.body ++ rest)) kind.Keyword)
+    let marked : P (byte.exclamation ∷ l.byte ∷ l.body) =
+    subst (Covers (scan_exclamation (byte.exclamation ∷ l.byte ∷ l.body ++ rest)) kind.Keyword)
     (one-add (suc (length l.body)))
     (exclamation_covers l.byte (l.body ++ rest) (suc (length l.body)) l.is_first
     (letters_run l.byte l.body rest l.is_first l.pass)) in
@@ -147,7 +149,7 @@ keyword_covers text rest t =
 -- names
 
 name_in_range : (bs : List ℕ) → 0 < digits_value 10 (take (prefix_len is_ascii_digit bs) bs)
-    → digits_value 10 (take (prefix_len is_ascii_digit bs) bs) < 2 ^ 32 → scan_name (35 ∷ bs)
+    → digits_value 10 (take (prefix_len is_ascii_digit bs) bs) < numbers_end → scan_name (byte.hash ∷ bs)
     ≡ Some (
       kind.Name (digits_value 10 (take (prefix_len is_ascii_digit bs) bs)),
       1 + prefix_len
@@ -156,13 +158,13 @@ name_in_range : (bs : List ℕ) → 0 < digits_value 10 (take (prefix_len is_asc
 unfolding scan_name
 name_in_range bs positive fits =
     let number = digits_value 10 (take (prefix_len is_ascii_digit bs) bs) in
-    cond-true (ltb 0 number && ltb number (2 ^ 32))
+    cond-true (ltb 0 number && ltb number numbers_end)
     (Some (kind.Name number, 1 + prefix_len is_ascii_digit bs)) None
-    (and_from (ltb 0 number) (ltb number (2 ^ 32)) (lt-ltb 0 number positive)
-    (lt-ltb number (2 ^ 32) fits))
+    (and_from (ltb 0 number) (ltb number numbers_end) (lt-ltb 0 number positive)
+    (lt-ltb number numbers_end fits))
 
-name_found : (number : ℕ) (digits rest : List ℕ) → Numeral number digits → IsNumber number
-    → begins_with is_ascii_digit rest ≡ false → scan_name (35 ∷ digits ++ rest) ≡ Some
+name_found : (number : ℕ) (digits rest : List ℕ) → Numeral number digits → IsInstanceNumber number
+    → begins_with is_ascii_digit rest ≡ false → scan_name (byte.hash ∷ digits ++ rest) ≡ Some
     (kind.Name number, 1 + length digits)
 name_found number digits rest numeral range free =
     let pass = (some_pass is_ascii_digit digits numeral.digits).0 in
@@ -180,9 +182,9 @@ name_covers number text rest name free =
     let t = name.written in
     let digits = t.back in
     let P : List ℕ → Type 0 = λ xs. Covers (scan (xs ++ rest)) (kind.Name number) (length xs) in
-    let whole : text ≡ 35 ∷ digits = t.joined ∙ ap (λ l. l ++ digits) t.first in
-    let at : P (35 ∷ digits) =
-    covers_same (scan_name (35 ∷ digits ++ rest)) (kind.Name number) (1 + length digits)
+    let whole : text ≡ byte.hash ∷ digits = t.joined ∙ ap (λ l. l ++ digits) t.first in
+    let at : P (byte.hash ∷ digits) =
+    covers_same (scan_name (byte.hash ∷ digits ++ rest)) (kind.Name number) (1 + length digits)
     (suc (length digits)) (name_found number digits rest t.second name.in_range free)
     (one-add (length digits)) in
     subst P (sym whole) at
@@ -190,17 +192,17 @@ name_covers number text rest name free =
 -- numbers
 
 exponent_long : (bs : List ℕ) (n : ℕ) → 0 < n → n ≤ prefix_len is_ascii_digit
-    (drop (sign_len bs) bs) → 1 + sign_len bs + n ≤ exponent_len (69 ∷ bs)
+    (drop (sign_len bs) bs) → 1 + sign_len bs + n ≤ exponent_len (byte.capital_e ∷ bs)
 unfolding exponent_len
 exponent_long bs n some least =
     let signed = 1 + sign_len bs in
-    let m = prefix_len is_ascii_digit (drop signed (69 ∷ bs)) in
-    let behind : drop signed (69 ∷ bs) ≡ drop (sign_len bs) bs = ap (λ k. drop k (69 ∷ bs))
+    let m = prefix_len is_ascii_digit (drop signed (byte.capital_e ∷ bs)) in
+    let behind : drop signed (byte.capital_e ∷ bs) ≡ drop (sign_len bs) bs = ap (λ k. drop k (byte.capital_e ∷ bs))
     (one-add (sign_len bs)) in
     let same : m ≡ prefix_len is_ascii_digit (drop (sign_len bs) bs) = ap
     (prefix_len is_ascii_digit) behind in
-    let found : exponent_len (69 ∷ bs) ≡ signed + m =
-    cond-true (eqb 69 69 && ltb 0 m) (signed + m) 0 (lt-ltb 0 m (omega arith)) in
+    let found : exponent_len (byte.capital_e ∷ bs) ≡ signed + m =
+    cond-true (eqb byte.capital_e byte.capital_e && ltb 0 m) (signed + m) 0 (lt-ltb 0 m (omega arith)) in
     omega arith
 
 digits_begin : (digits : List ℕ) → Digits digits → begins_with is_ascii_digit digits ≡ true
@@ -226,43 +228,43 @@ digits_long digits rest some =
 
 -- digits after an optional sign, whatever follows
 signed_digits_long : (sign digits rest : List ℕ) → Optional (Byte is_sign) sign → Digits digits
-    → 1 + (length sign + length digits) ≤ exponent_len (69 ∷ sign ++ (digits ++ rest))
+    → 1 + (length sign + length digits) ≤ exponent_len (byte.capital_e ∷ sign ++ (digits ++ rest))
 signed_digits_long sign digits rest (inl none) some =
     let long = digits_long digits rest some in
     let bare : sign_len (digits ++ rest) ≡ 0 = no_sign (digits ++ rest)
     (begins_append is_ascii_digit digits rest (digits_begin digits some)) in
     let P : List ℕ → Type 0 = λ s. 1 + (length s + length digits) ≤ exponent_len
-    (69 ∷ s ++ (digits ++ rest)) in
+    (byte.capital_e ∷ s ++ (digits ++ rest)) in
     let least : length digits ≤ prefix_len is_ascii_digit
     (drop (sign_len (digits ++ rest)) (digits ++ rest)) =
     subst (λ k. length digits ≤ prefix_len is_ascii_digit (drop k (digits ++ rest))) (sym bare)
     long.1 in
     let whole : 1 + sign_len (digits ++ rest) + length digits ≤ exponent_len
-    (69 ∷ (digits ++ rest)) = exponent_long (digits ++ rest) (length digits) long.0 least in
+    (byte.capital_e ∷ (digits ++ rest)) = exponent_long (digits ++ rest) (length digits) long.0 least in
     let at : P [] = omega arith in
     subst P (sym none) at
-signed_digits_long sign digits rest (inr byte) some =
+signed_digits_long sign digits rest (inr mark) some =
     let long = digits_long digits rest some in
-    let bs = byte.byte ∷ (digits ++ rest) in
-    let one : sign_len bs ≡ 1 = rw byte.passes refl in
+    let bs = mark.byte ∷ (digits ++ rest) in
+    let one : sign_len bs ≡ 1 = rw mark.passes refl in
     let P : List ℕ → Type 0 = λ s. 1 + (length s + length digits) ≤ exponent_len
-    (69 ∷ s ++ (digits ++ rest)) in
+    (byte.capital_e ∷ s ++ (digits ++ rest)) in
     let least : length digits ≤ prefix_len is_ascii_digit (drop (sign_len bs) bs) =
     subst (λ k. length digits ≤ prefix_len is_ascii_digit (drop k bs)) (sym one) long.1 in
-    let whole : 1 + sign_len bs + length digits ≤ exponent_len (69 ∷ bs) = exponent_long bs
+    let whole : 1 + sign_len bs + length digits ≤ exponent_len (byte.capital_e ∷ bs) = exponent_long bs
     (length digits) long.0 least in
-    let at : P (byte.byte ∷ []) = omega arith in
-    subst P (sym byte.alone) at
+    let at : P (mark.byte ∷ []) = omega arith in
+    subst P (sym mark.alone) at
 
 exponent_covers : (text rest : List ℕ) → Exponent text → length text ≤ exponent_len (text ++ rest)
 exponent_covers text rest t =
     let sign = t.second.front in
     let digits = t.second.back in
-    let whole : text ≡ 69 ∷ (sign ++ digits) = t.joined ∙ ap₂ (λ x y. x ++ y) t.first
+    let whole : text ≡ byte.capital_e ∷ (sign ++ digits) = t.joined ∙ ap₂ (λ x y. x ++ y) t.first
     t.second.joined in
     let P : List ℕ → Type 0 = λ l. length l ≤ exponent_len (l ++ rest) in
     let long = signed_digits_long sign digits rest t.second.first t.second.second in
-    let at : P (69 ∷ (sign ++ digits)) =
+    let at : P (byte.capital_e ∷ (sign ++ digits)) =
     rw (append_assoc sign digits rest) (omega (arith, length-append sign digits)) in
     subst P (sym whole) at
 
@@ -288,35 +290,35 @@ fraction_covers digits exponent rest pass (inr is) =
     (sym size) in
     omega (arith, size, ap exponent_len behind, exponent_covers exponent rest is)
 
-integer_covers : (digits rest : List ℕ) → Digits digits → Covers (scan_number (digits ++ rest))
+integer_covers : (digits rest : List ℕ) → Digits digits → Covers (scan_unsigned (digits ++ rest))
     kind.Integer (length digits)
-unfolding scan_number
+unfolding scan_unsigned
 integer_covers digits rest some =
     let long = digits_long digits rest some in
     let bytes = digits ++ rest in
     let n = prefix_len is_ascii_digit bytes in
-    let real : Found = Some (kind.Real, n + 1 + fraction_len (drop (n + 1) bytes)) in
-    let integer : Found = Some (kind.Integer, n) in
-    let P : Found → Type 0 = λ o. Covers o kind.Integer (length digits) in
-    cond_both (eqb n 0) None (cond (eqb (get_or bytes n 0) 46) real integer) P
+    let real : Scanned = Some (kind.Real, n + 1 + fraction_len (drop (n + 1) bytes)) in
+    let integer : Scanned = Some (kind.Integer, n) in
+    let P : Scanned → Type 0 = λ o. Covers o kind.Integer (length digits) in
+    cond_both (eqb n 0) None (cond (eqb (get_or bytes n 0) byte.point) real integer) P
     (λ none. let zero : n ≡ 0 = eqb-true n 0 none in omega arith)
-    (λ other. cond_both (eqb (get_or bytes n 0) 46) real integer P
+    (λ other. cond_both (eqb (get_or bytes n 0) byte.point) real integer P
     (λ point. (omega (arith, long.1), λ same. absurd (omega (arith, long.1))))
     (λ plain. (long.1, λ same. refl)))
 
 real_found : (bytes : List ℕ) (n : ℕ) → prefix_len is_ascii_digit bytes ≡ n → 0 < n → get_or bytes
-    n 0 ≡ 46 → scan_number bytes ≡ Some (kind.Real, n + 1 + fraction_len (drop (n + 1) bytes))
-unfolding scan_number
+    n 0 ≡ byte.point → scan_unsigned bytes ≡ Some (kind.Real, n + 1 + fraction_len (drop (n + 1) bytes))
+unfolding scan_unsigned
 real_found bytes n size some point =
-    let found : ℕ → Found = λ m. cond {A = Found} (eqb m 0) None
-    (cond {A = Found} (eqb (get_or bytes m 0) 46)
+    let found : ℕ → Scanned = λ m. cond {A = Scanned} (eqb m 0) None
+    (cond {A = Scanned} (eqb (get_or bytes m 0) byte.point)
     (Some (kind.Real, m + 1 + fraction_len (drop (m + 1) bytes))) (Some (kind.Integer, m))) in
     let P : ℕ → Type 0 = λ m. found m ≡ Some
     (kind.Real, n + 1 + fraction_len (drop (n + 1) bytes)) in
-    let at : P n = rw (ne_eqb n 0 (λ none. omega arith), eq-eqb (get_or bytes n 0) 46 point) refl in
+    let at : P n = rw (ne_eqb n 0 (λ none. omega arith), eq-eqb (get_or bytes n 0) byte.point point) refl in
     subst P (sym size) at
 
-real_covers : (text rest : List ℕ) → Unsigned kind.Real text → Covers (scan_number (text ++ rest))
+real_covers : (text rest : List ℕ) → Unsigned kind.Real text → Covers (scan_unsigned (text ++ rest))
     kind.Real (length text)
 real_covers text rest t =
     let digits = t.front in
@@ -324,20 +326,20 @@ real_covers text rest t =
     let n = length digits in
     let fraction = t.second.second in
     let tail = fraction.front ++ (fraction.back ++ rest) in
-    let behind : t.back ≡ 46 ∷ t.second.back = t.second.joined ∙ ap (λ l. l ++ t.second.back)
+    let behind : t.back ≡ byte.point ∷ t.second.back = t.second.joined ∙ ap (λ l. l ++ t.second.back)
     t.second.first in
     let spread : t.second.back ++ rest ≡ tail =
     ap (λ l. l ++ rest) fraction.joined ∙ append_assoc fraction.front fraction.back rest in
-    let whole : text ++ rest ≡ digits ++ (46 ∷ tail) =
+    let whole : text ++ rest ≡ digits ++ (byte.point ∷ tail) =
     ap (λ l. l ++ rest) t.joined ∙ append_assoc digits t.back rest
-    ∙ ap (λ l. digits ++ (l ++ rest)) behind ∙ ap (λ l. digits ++ (46 ∷ l)) spread in
-    let size = run_is_whole is_ascii_digit digits (46 ∷ tail) all.0 refl in
-    let after_point : drop (n + 1) (digits ++ (46 ∷ tail)) ≡ tail =
-    ap (drop (n + 1)) (sym (append_assoc digits (46 ∷ []) tail)) ∙ drop_at (digits ++ 46 ∷ []) tail
-    (n + 1) (length-append digits (46 ∷ [])) in
-    let found : scan_number (text ++ rest) ≡ Some (kind.Real, n + 1 + fraction_len tail) =
-    ap scan_number whole ∙ real_found (digits ++ (46 ∷ tail)) n size all.1
-    (get_or_at digits 46 tail 0 n refl) ∙ ap (λ l. Some (kind.Real, n + 1 + fraction_len l))
+    ∙ ap (λ l. digits ++ (l ++ rest)) behind ∙ ap (λ l. digits ++ (byte.point ∷ l)) spread in
+    let size = run_is_whole is_ascii_digit digits (byte.point ∷ tail) all.0 refl in
+    let after_point : drop (n + 1) (digits ++ (byte.point ∷ tail)) ≡ tail =
+    ap (drop (n + 1)) (sym (append_assoc digits (byte.point ∷ []) tail)) ∙ drop_at (digits ++ byte.point ∷ []) tail
+    (n + 1) (length-append digits (byte.point ∷ [])) in
+    let found : scan_unsigned (text ++ rest) ≡ Some (kind.Real, n + 1 + fraction_len tail) =
+    ap scan_unsigned whole ∙ real_found (digits ++ (byte.point ∷ tail)) n size all.1
+    (get_or_at digits byte.point tail 0 n refl) ∙ ap (λ l. Some (kind.Real, n + 1 + fraction_len l))
     after_point in
     let long = fraction_covers fraction.front fraction.back rest fraction.first fraction.second in
     let sized : length text ≡ n + (1 + (length fraction.front + length fraction.back)) =
@@ -357,14 +359,14 @@ real_begins text t =
     ap (begins_with is_ascii_digit) t.joined ∙ begins_append is_ascii_digit t.front t.back
     (digits_begin t.front t.first)
 
-digit_scan : (bytes : List ℕ) → begins_with is_ascii_digit bytes ≡ true → scan bytes ≡ scan_number
+digit_scan : (bytes : List ℕ) → begins_with is_ascii_digit bytes ≡ true → scan bytes ≡ scan_unsigned
     bytes
 digit_scan [] begins = cc
 digit_scan (b ∷ bs) begins = ap (λ h. scan_at h (b ∷ bs)) (digit_head b begins)
 
 -- a number has a digit first, or a sign and a digit
 number_covers : (k : Kind) (text rest : List ℕ) → Signed (Unsigned k) text
-    → ((digits : List ℕ) → Unsigned k digits → Covers (scan_number (digits ++ rest)) k
+    → ((digits : List ℕ) → Unsigned k digits → Covers (scan_unsigned (digits ++ rest)) k
     (length digits)) → ((digits : List ℕ) → Unsigned k digits → begins_with is_ascii_digit digits
     ≡ true) → Covers (scan (text ++ rest)) k (length text)
 number_covers k text rest t covered begins =
@@ -380,8 +382,8 @@ number_covers k text rest t covered begins =
     (λ sign. let signed : P (sign.byte ∷ digits) = subst
     (λ h. Covers (scan_at h (sign.byte ∷ digits ++ rest)) k (suc (length digits)))
     (sym (sign_head sign.byte sign.passes))
-    (subst (Covers (longer 1 (scan_number (digits ++ rest))) k) (one-add (length digits))
-    (covers_longer (scan_number (digits ++ rest)) k (length digits) inner)) in subst P
+    (subst (Covers (longer 1 (scan_unsigned (digits ++ rest))) k) (one-add (length digits))
+    (covers_longer (scan_unsigned (digits ++ rest)) k (length digits) inner)) in subst P
     (sym (t.joined ∙ ap (λ l. l ++ digits) sign.alone)) signed)
     t.first
 
@@ -406,10 +408,10 @@ behind_run b first run rest =
 
 -- the same byte before a run and behind it
 between_found : (begins : Bool) (k : Kind) (b : ℕ) (run rest : List ℕ) (n : ℕ) → begins ≡ true
-    → n ≡ length run → cond {A = Found} (begins && eqb (get_or (b ∷ run ++ (b ∷ rest)) (1 + n) 0)
+    → n ≡ length run → cond {A = Scanned} (begins && eqb (get_or (b ∷ run ++ (b ∷ rest)) (1 + n) 0)
     b) (Some (k, n + 2)) None ≡ Some (k, length run + 2)
 between_found begins k b run rest n first size =
-    let P : ℕ → Type 0 = λ m. cond {A = Found}
+    let P : ℕ → Type 0 = λ m. cond {A = Scanned}
     (begins && eqb (get_or (b ∷ run ++ (b ∷ rest)) (1 + m) 0) b) (Some (k, m + 2)) None ≡ Some
     (k, length run + 2) in
     let at : P (length run) =
@@ -420,20 +422,20 @@ between_found begins k b run rest n first size =
     subst P (sym size) at
 
 enumeration_found : (letters rest : List ℕ) → Letters letters → scan_enumeration
-    (46 ∷ letters ++ (46 ∷ rest)) ≡ Some (kind.Enumeration, length letters + 2)
+    (byte.point ∷ letters ++ (byte.point ∷ rest)) ≡ Some (kind.Enumeration, length letters + 2)
 unfolding scan_enumeration
 enumeration_found letters rest is =
     let l = begun is_letter is_word_byte letters is in
     let pass : list_all is_word_byte letters ≡ true =
     ap (list_all is_word_byte) l.whole ∙ and_from (is_word_byte l.byte)
     (list_all is_word_byte l.body) (letter_is_word_byte l.byte l.is_first) l.pass in
-    let size = run_is_whole is_word_byte letters (46 ∷ rest) pass refl in
-    let first : is_letter (get_or (letters ++ (46 ∷ rest)) 0 0) ≡ true =
-    ap (λ xs. is_letter (get_or (xs ++ (46 ∷ rest)) 0 0)) l.whole ∙ l.is_first in
-    between_found (is_letter (get_or (letters ++ (46 ∷ rest)) 0 0)) kind.Enumeration 46 letters
-    rest (prefix_len is_word_byte (letters ++ (46 ∷ rest))) first size
+    let size = run_is_whole is_word_byte letters (byte.point ∷ rest) pass refl in
+    let first : is_letter (get_or (letters ++ (byte.point ∷ rest)) 0 0) ≡ true =
+    ap (λ xs. is_letter (get_or (xs ++ (byte.point ∷ rest)) 0 0)) l.whole ∙ l.is_first in
+    between_found (is_letter (get_or (letters ++ (byte.point ∷ rest)) 0 0)) kind.Enumeration byte.point letters
+    rest (prefix_len is_word_byte (letters ++ (byte.point ∷ rest))) first size
 
-binary_found : (digits rest : List ℕ) → HexDigits digits → scan_binary (34 ∷ digits ++ (34 ∷ rest))
+binary_found : (digits rest : List ℕ) → HexDigits digits → scan_binary (byte.quote ∷ digits ++ (byte.quote ∷ rest))
     ≡ Some (kind.Binary, length digits + 2)
 unfolding scan_binary
 binary_found digits rest is =
@@ -441,11 +443,11 @@ binary_found digits rest is =
     let pass : list_all is_hex digits ≡ true =
     ap (list_all is_hex) l.whole ∙ and_from (is_hex l.byte) (list_all is_hex l.body)
     (filling_is_hex l.byte l.is_first) l.pass in
-    let size = run_is_whole is_hex digits (34 ∷ rest) pass refl in
-    let first : is_filling (get_or (digits ++ (34 ∷ rest)) 0 0) ≡ true =
-    ap (λ xs. is_filling (get_or (xs ++ (34 ∷ rest)) 0 0)) l.whole ∙ l.is_first in
-    between_found (is_filling (get_or (digits ++ (34 ∷ rest)) 0 0)) kind.Binary 34 digits rest
-    (prefix_len is_hex (digits ++ (34 ∷ rest))) first size
+    let size = run_is_whole is_hex digits (byte.quote ∷ rest) pass refl in
+    let first : is_filling (get_or (digits ++ (byte.quote ∷ rest)) 0 0) ≡ true =
+    ap (λ xs. is_filling (get_or (xs ++ (byte.quote ∷ rest)) 0 0)) l.whole ∙ l.is_first in
+    between_found (is_filling (get_or (digits ++ (byte.quote ∷ rest)) 0 0)) kind.Binary byte.quote digits rest
+    (prefix_len is_hex (digits ++ (byte.quote ∷ rest))) first size
 
 enumeration_covers : (text rest : List ℕ) → IsOf kind.Enumeration text
     → Covers (scan (text ++ rest)) kind.Enumeration (length text)

@@ -2,16 +2,17 @@
 use Rattle.std.proofs.Common.{◌≡◌, ℕ, ◌+◌, ◌≤◌, List, Ok, Err, Some, None, length, refl, ap, ◌∙◌, arith, length-append}
 use Rattle.std.specs.Prelude.{codes, slice_range}
 use Rattle.std.specs.Char.{is_ascii_digit}
+use Rattle.theory_bytes.proofs.InsidesAreBetween.{slice_length}
 use Rattle.sb_lex.specs.declared.kinds.Kind.{Kind}
 use Rattle.sb_lex.specs.declared.kinds.Kind.TheVariants as kind
 use Rattle.sb_lex.specs.declared.kinds.Word.TheVariants as word
 use Rattle.sb_lex.specs.declared.kinds.Token.{Token}
 use Rattle.sb_lex.specs.Bytes.{is_letter, is_word_byte}
-use Rattle.sb_lex.specs.Sets.{Text, ◌⋅◌, Repeated}
+use Rattle.theory_bytes.specs.Sets.{Text, ◌⋅◌, Repeated}
 use Rattle.sb_lex.specs.Kinds.{Letters, HexDigits, StringPiece, IsOf}
-use Rattle.sb_lex.specs.Tokens.{IsNext, Reading, Answers, least_length, LiesBehind, Lies}
-use Rattle.sb_lex.proofs.PiecesJoin.{around, around_length, begun, some_pass}
-use Rattle.sb_lex.proofs.OneAnswer.{Answer, slice_length}
+use Rattle.sb_lex.specs.Tokens.{IsNext, Reading, IsTokenAnswer, least_length, LiesBehind, Lies}
+use Rattle.theory_bytes.proofs.JoinedHasParts.{around, around_length, begun, some_pass}
+use Rattle.sb_lex.proofs.OneAnswer.{Answer}
 
 two_around : (a b : List ℕ) (P : List ℕ → Type 0) (text : List ℕ) → (Text a ⋅ P ⋅ Text b) text
     → length a ≡ 1 → length b ≡ 1 → 2 ≤ length text
@@ -79,7 +80,7 @@ next_lies at t next =
     }
 
 -- where an answer lies
-pub answer_lies : (at : Reading) (answer : Answer) → Answers at answer → Lies at answer
+pub answer_lies : (at : Reading) (answer : Answer) → IsTokenAnswer at answer → Lies at answer
 answer_lies at (Ok (Some t)) next = next_lies at t next
 answer_lies at (Ok None) at_end = tt
 answer_lies at (Err bad) is = (is.gap.ordered, is.within)

@@ -1,8 +1,20 @@
 -- The bytes that the grammar of tokens names, and its classes of bytes. White space is the bytes 9
 -- to 13 and 32: ISO 10303-21 allows fewer there, and this project passes over them all.
-use Rattle.std.specs.Prelude.{ℕ, Bool, false, ◌||◌, ◌==◌, List, [], ◌∷◌}
+use Rattle.std.specs.Prelude.{ℕ, Bool, ◌||◌, ◌==◌}
 use Rattle.std.specs.Int.{is_in_range}
 use Rattle.std.specs.Char.{is_ascii_digit, is_ascii_uppercase}
+
+-- the first byte of white space
+abbrev pub tab : ℕ
+tab = 9
+
+-- the last byte of white space but the space
+abbrev pub carriage_return : ℕ
+carriage_return = 13
+
+-- a byte of white space
+abbrev pub space : ℕ
+space = 32
 
 -- before a keyword that a user defines
 abbrev pub exclamation : ℕ
@@ -56,6 +68,18 @@ point = 46
 abbrev pub slash : ℕ
 slash = 47
 
+-- the first of the digits, and of those that may begin a binary
+abbrev pub zero : ℕ
+zero = 48
+
+-- the last digit that may begin a binary
+abbrev pub three : ℕ
+three = 51
+
+-- the last of the digits
+abbrev pub nine : ℕ
+nine = 57
+
 -- behind an instance
 abbrev pub semicolon : ℕ
 semicolon = 59
@@ -64,9 +88,21 @@ semicolon = 59
 abbrev pub equals : ℕ
 equals = 61
 
+-- the first capital letter, and a digit of a binary
+abbrev pub capital_a : ℕ
+capital_a = 65
+
 -- before an exponent
 abbrev pub capital_e : ℕ
 capital_e = 69
+
+-- the last digit of a binary
+abbrev pub capital_f : ℕ
+capital_f = 70
+
+-- the last capital letter
+abbrev pub capital_z : ℕ
+capital_z = 90
 
 -- a letter among the letters of keywords
 abbrev pub underscore : ℕ
@@ -82,11 +118,11 @@ is_word_byte b = is_letter b || is_ascii_digit b
 
 -- a digit of a binary, a to f only as capitals
 abbrev pub is_hex : ℕ → Bool
-is_hex b = is_ascii_digit b || is_in_range 65 70 b
+is_hex b = is_ascii_digit b || is_in_range capital_a capital_f b
 
 -- how many of the first four bits of a binary are filling: from 0 to 3
 abbrev pub is_filling : ℕ → Bool
-is_filling b = is_in_range 48 51 b
+is_filling b = is_in_range zero three b
 
 -- what may stand before a number
 abbrev pub is_sign : ℕ → Bool
@@ -94,13 +130,8 @@ is_sign b = b == plus || b == minus
 
 -- a tab, a line feed, bytes 11 and 12, a carriage return or a space
 abbrev pub is_white : ℕ → Bool
-is_white b = is_in_range 9 13 b || b == 32
+is_white b = is_in_range tab carriage_return b || b == space
 
 -- what a string begins and ends with
 abbrev pub is_apostrophe : ℕ → Bool
 is_apostrophe b = b == apostrophe
-
--- the first byte passes the test; there is one
-abbrev pub begins_with : (ℕ → Bool) → List ℕ → Bool
-begins_with test [] = false
-begins_with test (b ∷ bs) = test b

@@ -9,7 +9,7 @@ use Rattle.sb_lex.specs.declared.kinds.Mark.{Mark}
 use Rattle.sb_lex.specs.declared.kinds.Mark.TheVariants as mark
 use Rattle.sb_lex.specs.declared.kinds.Word.{Word}
 use Rattle.sb_lex.specs.declared.kinds.Word.TheVariants as word
-use Rattle.sb_lex.specs.Sets.{Text, Byte, Bytes, SomeBytes, ◌⋅◌, Optional, Repeated, Holds}
+use Rattle.theory_bytes.specs.Sets.{Text, Byte, Bytes, SomeBytes, ◌⋅◌, Optional, Repeated, Holds}
 use Rattle.sb_lex.specs.Bytes.{dollar, open_parenthesis, close_parenthesis, asterisk, comma, semicolon, equals, is_letter, is_word_byte, is_hex, is_filling, is_sign, is_white, is_apostrophe}
 
 -- the two words that stand around a text
@@ -44,15 +44,19 @@ pub record Numeral (number : ℕ) (xs : List ℕ) : Type 0 where
 abbrev pub Letters : List ℕ → Type 0
 Letters = Byte is_letter ⋅ Bytes is_word_byte
 
+-- one more than the greatest number of an instance
+abbrev pub numbers_end : ℕ
+numbers_end = 2 ^ 32
+
 -- the number of a name, from 1 to 4,294,967,295
-pub record IsNumber (number : ℕ) : Type 0 where
+pub record IsInstanceNumber (number : ℕ) : Type 0 where
   pub positive : 0 < number
-  pub fits : number < 2 ^ 32
+  pub fits : number < numbers_end
 
 -- `#` and digits that write the number
 pub record IsName (number : ℕ) (xs : List ℕ) : Type 0 where
   pub written : (Text (codes "#") ⋅ Numeral number) xs
-  pub in_range : IsNumber number
+  pub in_range : IsInstanceNumber number
 
 -- `E`, an optional sign and digits
 abbrev pub Exponent : List ℕ → Type 0

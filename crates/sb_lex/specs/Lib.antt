@@ -1,6 +1,5 @@
 -- In reading order.
-pub mod Sets
 pub mod Bytes
 pub mod Kinds
 pub mod Tokens
-pub mod Steps
+pub mod Scanning

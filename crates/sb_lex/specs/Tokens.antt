@@ -4,8 +4,8 @@ use Rattle.sb_lex.specs.declared.kinds.Kind.{Kind}
 use Rattle.sb_lex.specs.declared.kinds.Kind.TheVariants as kind
 use Rattle.sb_lex.specs.declared.kinds.Token.{Token}
 use Rattle.sb_lex.specs.declared.kinds.BadToken.{BadToken}
-use Rattle.sb_lex.specs.Sets.{Begins}
-use Rattle.sb_lex.specs.Bytes.{begins_with}
+use Rattle.theory_bytes.specs.Sets.{Begins}
+use Rattle.theory_bytes.specs.Sets.{begins_with}
 use Rattle.sb_lex.specs.Kinds.{IsOf, not_after, BlankPiece, Blank}
 
 -- what stands at the span is of the kind, and what may not follow it does not
@@ -60,10 +60,10 @@ pub record Reading : Type 0 where
   pub place : ℕ
 
 -- the answer to a call for the next token is so
-abbrev pub Answers : Reading → Result (Option Token) BadToken → Type 0
-Answers at (Ok (Some t)) = IsNext at.input at.place t
-Answers at (Ok None) = IsEnd at.input at.place
-Answers at (Err bad) = IsBadFrom at.input at.place bad.0
+abbrev pub IsTokenAnswer : Reading → Result (Option Token) BadToken → Type 0
+IsTokenAnswer at (Ok (Some t)) = IsNext at.input at.place t
+IsTokenAnswer at (Ok None) = IsEnd at.input at.place
+IsTokenAnswer at (Err bad) = IsBadFrom at.input at.place bad.0
 
 -- behind the token, at the end of the input, or at the bad place
 abbrev pub place_after : Reading → Result (Option Token) BadToken → ℕ
@@ -99,9 +99,9 @@ Lies at (Err bad) = (at.place ≤ bad.0) × (bad.0 < length at.input)
 -- Calls for the next token, one after another: they answered these tokens, and then the end or the
 -- fault.
 abbrev pub Calls : Reading → List Token → Option BadToken → Type 0
-Calls at [] None = Answers at (Ok None)
-Calls at [] (Some bad) = Answers at (Err bad)
-Calls at (t ∷ ts) fault = Answers at (Ok (Some t)) × Calls (moved at (Ok (Some t))) ts fault
+Calls at [] None = IsTokenAnswer at (Ok None)
+Calls at [] (Some bad) = IsTokenAnswer at (Err bad)
+Calls at (t ∷ ts) fault = IsTokenAnswer at (Ok (Some t)) × Calls (moved at (Ok (Some t))) ts fault
 
 -- Laws
 
@@ -115,6 +115,18 @@ abbrev pub TokensAreUnique : Type 0
 TokensAreUnique =
     (input : List ℕ) (ts us : List Token) (fault other : Option BadToken) → AreTokens input ts
     fault → AreTokens input us other → (ts ≡ us) × (fault ≡ other)
+
+-- from each place of the input on there are tokens
+abbrev pub TokensFollowEachPlace : Type 0
+TokensFollowEachPlace = (input : List ℕ) (from : ℕ) → from ≤ length input
+    → (tokens : List Token) × (fault : Option BadToken) × AreTokensFrom input from tokens fault
+
+-- and no others
+abbrev pub TokensBehindAPlaceAreUnique : Type 0
+TokensBehindAPlaceAreUnique =
+    (input : List ℕ) (from : ℕ) (ts us : List Token) (fault other : Option BadToken)
+    → AreTokensFrom input from ts fault → AreTokensFrom input from us other
+    → (ts ≡ us) × (fault ≡ other)
 
 -- calling to the end gives the tokens, or the bad place behind them
 abbrev pub CallsGiveTokens : Type 0
@@ -130,4 +142,4 @@ OneTokenAtAPlace = (input : List ℕ) (t u : Token) → IsToken input t → IsTo
 -- a refusal is final: from the bad place on the same answer comes again
 abbrev pub RefusalStays : Type 0
 RefusalStays =
-    (at : Reading) (bad : BadToken) → Answers at (Err bad) → Answers (moved at (Err bad)) (Err bad)
+    (at : Reading) (bad : BadToken) → IsTokenAnswer at (Err bad) → IsTokenAnswer (moved at (Err bad)) (Err bad)

@@ -5,19 +5,19 @@
 //! stand between two, say `specs/Kinds.antt` and `specs/Tokens.antt`: read these first.
 #![tactic(auto)]
 
-mod answers;
+mod blanks;
 mod classes;
-mod dispatch;
+mod first_byte;
 mod kinds;
 mod laws;
-mod lexing;
+mod lexer;
 mod names;
+mod next_answer;
 mod numbers;
 mod quoted;
-mod spaces;
 #[cfg(test)]
 mod tests;
 
 pub use crate::kinds::{BadToken, Kind, Mark, Token, Word};
 pub use crate::laws::tokens_are_one_list;
-pub use crate::lexing::Lexer;
+pub use crate::lexer::Lexer;

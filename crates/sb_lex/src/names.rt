@@ -4,7 +4,8 @@ ghost use Rattle.std.specs.List.{prefix_len};
 ghost use Rattle.std.specs.Char.{is_ascii_digit, digit_value};
 ghost use Rattle.std.specs.Str.Parse.{digits_value};
 ghost use Rattle.sb_lex.specs.Bytes.{is_letter};
-ghost use Rattle.sb_lex.specs.Steps as spec;
+ghost use Rattle.sb_lex.specs.Kinds.{numbers_end};
+ghost use Rattle.sb_lex.specs.Scanning as spec;
 
 use crate::classes::{byte_at, is_letter, word_bytes};
 use crate::kinds::{Kind, Word};
@@ -14,7 +15,7 @@ const TOO_LARGE: u64 = 1 << 32;
 
 /// A word or a keyword, where a letter is at the front.
 #[inline]
-#[tactic(auto, unfolding(crate::specs::Steps::scan_letters))]
+#[tactic(auto, unfolding(crate::specs::Scanning::scan_letters))]
 pub(crate) fn letters(rest: &[u8]) -> Option<(Kind, usize)>
     ensures found { result ≡ spec.scan_letters rest.now }
     ensures within { IfSome result (λ x. x.1 ≤ length rest.now) }
@@ -43,7 +44,7 @@ fn words(rest: &[u8]) -> Option<(Kind, usize)>
 }
 
 /// A keyword with `!` at the front.
-#[tactic(auto, unfolding(crate::specs::Steps::scan_exclamation))]
+#[tactic(auto, unfolding(crate::specs::Scanning::scan_exclamation))]
 pub(crate) fn exclamation(rest: &[u8]) -> Option<(Kind, usize)>
     ensures found { result ≡ spec.scan_exclamation rest.now }
     ensures within { IfSome result (λ x. x.1 ≤ length rest.now) }
@@ -57,13 +58,13 @@ pub(crate) fn exclamation(rest: &[u8]) -> Option<(Kind, usize)>
 
 /// The name of an instance, where `#` is at the front.
 #[inline]
-#[tactic(auto, unfolding(crate::specs::Steps::scan_name))]
+#[tactic(auto, unfolding(crate::specs::Scanning::scan_name))]
 pub(crate) fn name(rest: &[u8]) -> Option<(Kind, usize)>
     requires { 0 < length rest.now }
     ensures found { result ≡ spec.scan_name rest.now }
     ensures within { IfSome result (λ x. x.1 ≤ length rest.now) }
 {
-    let (len, number) = number(&rest[1..]);
+    let (len, number) = leading_digits(&rest[1..]);
     if 0 < number && number < TOO_LARGE {
         Some((Kind::Name(number as u32), 1 + len))
     } else {
@@ -73,10 +74,10 @@ pub(crate) fn name(rest: &[u8]) -> Option<(Kind, usize)>
 
 /// How many digits are at the front, and the number that they write.
 #[inline]
-fn number(bytes: &[u8]) -> (usize, u64)
+fn leading_digits(bytes: &[u8]) -> (usize, u64)
     ensures len { result.0 ≡ prefix_len is_ascii_digit bytes.now }
     ensures within { result.0 ≤ length bytes.now }
-    ensures value { result.1 ≡ min (digits_value 10 (take result.0 bytes.now)) TOO_LARGE }
+    ensures value { result.1 ≡ min (digits_value 10 (take result.0 bytes.now)) numbers_end }
 {
     let mut number = 0;
     let mut len = 0;
@@ -89,9 +90,9 @@ fn number(bytes: &[u8]) -> (usize, u64)
 
 #[inline(always)]
 fn grown(number: u64, digit: u8) -> u64
-    requires small { number ≤ TOO_LARGE }
+    requires small { number ≤ numbers_end }
     requires is_digit { IsTrue (is_ascii_digit digit) }
-    ensures { result ≡ min (number * 10 + digit_value digit) TOO_LARGE }
+    ensures { result ≡ min (number * 10 + digit_value digit) numbers_end }
 {
     (number * 10 + u64::from(digit - b'0')).min(TOO_LARGE)
 }

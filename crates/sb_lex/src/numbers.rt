@@ -1,15 +1,15 @@
 // Integers and reals.
 ghost use Rattle.std.specs.Prelude.{◌≡◌, ◌≤◌, length, IfSome};
-ghost use Rattle.sb_lex.specs.Steps as spec;
+ghost use Rattle.sb_lex.specs.Scanning as spec;
 
 use crate::classes::{byte_at, digits, is_sign};
 use crate::kinds::Kind;
 
 /// An integer or a real without a sign.
 #[inline]
-#[tactic(auto, unfolding(crate::specs::Steps::scan_number))]
-pub(crate) fn number(rest: &[u8]) -> Option<(Kind, usize)>
-    ensures found { result ≡ spec.scan_number rest.now }
+#[tactic(auto, unfolding(crate::specs::Scanning::scan_unsigned))]
+pub(crate) fn unsigned(rest: &[u8]) -> Option<(Kind, usize)>
+    ensures found { result ≡ spec.scan_unsigned rest.now }
     ensures within { IfSome result (λ x. x.1 ≤ length rest.now) }
 {
     let len = digits(rest);
@@ -33,7 +33,7 @@ fn fraction_len(rest: &[u8]) -> usize
 }
 
 #[inline]
-#[tactic(auto, unfolding(crate::specs::Steps::exponent_len))]
+#[tactic(auto, unfolding(crate::specs::Scanning::exponent_len))]
 fn exponent_len(rest: &[u8]) -> usize
     ensures len { result ≡ spec.exponent_len rest.now }
     ensures within { result ≤ length rest.now }

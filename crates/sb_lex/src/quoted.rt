@@ -1,6 +1,6 @@
 // Strings, enumerations and binaries.
 ghost use Rattle.std.specs.Prelude.{◌≡◌, ◌<◌, ◌≤◌, length, IfSome};
-ghost use Rattle.sb_lex.specs.Steps as spec;
+ghost use Rattle.sb_lex.specs.Scanning as spec;
 
 use crate::classes::{byte_at, hex_digits, is_filling, is_letter, plain_bytes, word_bytes};
 use crate::kinds::Kind;
@@ -27,7 +27,7 @@ pub(crate) fn string_len(rest: &[u8]) -> Option<usize>
 
 /// An enumeration, where `.` is at the front.
 #[inline]
-#[tactic(auto, unfolding(crate::specs::Steps::scan_enumeration))]
+#[tactic(auto, unfolding(crate::specs::Scanning::scan_enumeration))]
 pub(crate) fn enumeration(rest: &[u8]) -> Option<(Kind, usize)>
     requires { 0 < length rest.now }
     ensures found { result ≡ spec.scan_enumeration rest.now }
@@ -42,7 +42,7 @@ pub(crate) fn enumeration(rest: &[u8]) -> Option<(Kind, usize)>
 }
 
 /// A binary, where `"` is at the front.
-#[tactic(auto, unfolding(crate::specs::Steps::scan_binary))]
+#[tactic(auto, unfolding(crate::specs::Scanning::scan_binary))]
 pub(crate) fn binary(rest: &[u8]) -> Option<(Kind, usize)>
     requires { 0 < length rest.now }
     ensures found { result ≡ spec.scan_binary rest.now }

@@ -1,5 +1,5 @@
 use crate::report_text;
-use crate::text::{written_fraction, written_material};
+use crate::strings::{written_fraction, written_material};
 use sb_fraction::{Fraction, Point, Unit};
 use sb_list::{Listed, Text};
 use sb_model::{Axis, Boundaries, Frame, Loops, Model, Prism, Space, Turn};

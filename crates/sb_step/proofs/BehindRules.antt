@@ -11,21 +11,21 @@ use Rattle.sb_step.specs.Grammar.ParameterList.{empty, some}
 use Rattle.sb_step.specs.Grammar.MoreParameters.{last, more as further}
 
 -- what holds of a list holds of its tail
-abbrev pub Passes : (List Lexeme → Type 0) → Type 0
-Passes Holds = (x : Lexeme) (xs : List Lexeme) → Holds (x ∷ xs) → Holds xs
+abbrev pub HoldsOfTails : (List Lexeme → Type 0) → Type 0
+HoldsOfTails Holds = (x : Lexeme) (xs : List Lexeme) → Holds (x ∷ xs) → Holds xs
 
 -- what holds before the rule holds behind it
 abbrev pub Leaves : (List Lexeme → Type 0) → Rule → Type 0
 Leaves Holds P = (xs rest : List Lexeme) → P xs rest → Holds xs → Holds rest
 
 -- where an item of a list of records stands
-pub record Stands {A : Type 0} (Holds : List Lexeme → Type 0) (P : A → Rule) (a : A) : Type 0 where
+pub record ItemPlace {A : Type 0} (Holds : List Lexeme → Type 0) (P : A → Rule) (a : A) : Type 0 where
   pub at : List Lexeme
   pub rest : List Lexeme
   pub is : P a at rest
   pub holds : Holds at
 
-module _ (Holds : List Lexeme → Type 0) (tail : Passes Holds) where
+module _ (Holds : List Lexeme → Type 0) (tail : HoldsOfTails Holds) where
   pub one_leaves : (P : Lexeme → Type 0) → Leaves Holds (One P)
   one_leaves P [] rest one h = absurd one
   one_leaves P (x ∷ xs) rest one h = subst Holds (sym one.1) (tail x xs h)
@@ -103,17 +103,17 @@ module _ (Holds : List Lexeme → Type 0) (tail : Passes Holds) where
   entities_each (r ∷ items) xs rest each = each
 
   -- where the item stands, behind those before it
-  pub item_stands : {A : Type 0} (P : A → Rule) → ((a : A) → Leaves Holds (P a))
+  pub item_place : {A : Type 0} (P : A → Rule) → ((a : A) → Leaves Holds (P a))
       → (front back : List A) (a : A) (xs rest : List Lexeme) → Each P (front ++ a ∷ back) xs rest
-      → Holds xs → Stands Holds P a
-  item_stands P p [] back a xs rest each h = record {
+      → Holds xs → ItemPlace Holds P a
+  item_place P p [] back a xs rest each h = record {
     at = xs;
     rest = each.middle;
     is = each.first;
     holds = h;
   }
-  item_stands P p (b ∷ front) back a xs rest each h =
-      item_stands P p front back a each.middle rest each.second
+  item_place P p (b ∷ front) back a xs rest each h =
+      item_place P p front back a each.middle rest each.second
       (p b xs each.middle each.first h)
 
   -- a text's entities and its instances, where they begin

@@ -4,20 +4,20 @@ use Rattle.std.specs.Prelude.{codes}
 use Rattle.sb_lex.specs.declared.kinds.Mark.TheVariants as mark
 use Rattle.sb_lex.specs.declared.kinds.Word.TheVariants as word
 use Rattle.sb_step.specs.declared.file.Record.{Record}
-use Rattle.sb_step.specs.declared.steps.Span.{Span}
-use Rattle.sb_step.specs.declared.steps.Part.{Part}
-use Rattle.sb_step.specs.declared.steps.Outside.{Outside}
-use Rattle.sb_step.specs.declared.steps.Outside.TheVariants as outside
-use Rattle.sb_step.specs.declared.steps.Frame.{Frame}
-use Rattle.sb_step.specs.declared.steps.Frame.TheVariants as frame
-use Rattle.sb_step.specs.declared.steps.Want.{Want}
-use Rattle.sb_step.specs.declared.steps.Want.TheVariants as want
-use Rattle.sb_step.specs.declared.steps.Found.{Found}
-use Rattle.sb_step.specs.declared.steps.Found.TheVariants as found
+use Rattle.sb_step.specs.declared.states.Span.{Span}
+use Rattle.sb_step.specs.declared.states.Part.{Part}
+use Rattle.sb_step.specs.declared.states.Section.{Section}
+use Rattle.sb_step.specs.declared.states.Section.TheVariants as section
+use Rattle.sb_step.specs.declared.states.Bracket.{Bracket}
+use Rattle.sb_step.specs.declared.states.Bracket.TheVariants as bracket
+use Rattle.sb_step.specs.declared.states.Want.{Want}
+use Rattle.sb_step.specs.declared.states.Want.TheVariants as want
+use Rattle.sb_step.specs.declared.states.Event.{Event}
+use Rattle.sb_step.specs.declared.states.Event.TheVariants as event
 use Rattle.sb_step.specs.Lexemes.{Lexeme, IsWord, IsKeyword, IsThe, IsName, IsMark}
 use Rattle.sb_step.specs.Rules.{Rule, Many}
 use Rattle.sb_step.specs.Grammar.{File, Parameter, ParameterList, MoreParameters, BeginsSimple, BeginsComplex, InnerRecord}
-use Rattle.sb_step.specs.Steps.{State, entity_of, record_of}
+use Rattle.sb_step.specs.Turns.{State, entity_of, record_of}
 
 -- how a list may go on
 abbrev pub Rest : Type 1
@@ -37,13 +37,13 @@ pub record After (P : Rule) (K : Rest) (xs : List Lexeme) : Type 0 where
 -- parameter lists
 
 -- the parentheses that are open are closed one by one
-abbrev pub Closing : List Frame → Rest → Rest
+abbrev pub Closing : List Bracket → Rest → Rest
 Closing [] K = K
-Closing (frame.List ∷ fs) K = After MoreParameters (Closing fs K)
-Closing (frame.Typed ∷ fs) K = Then (IsMark mark.Close) (Closing fs K)
+Closing (bracket.List ∷ fs) K = After MoreParameters (Closing fs K)
+Closing (bracket.Typed ∷ fs) K = Then (IsMark mark.Close) (Closing fs K)
 
 -- and before it what is wanted
-abbrev pub Wanted : List Frame → Want → Rest → Rest
+abbrev pub Wanted : List Bracket → Want → Rest → Rest
 Wanted [] w K xs = K xs
 Wanted (f ∷ fs) want.First K xs = Then (IsMark mark.Close) (Closing fs K) xs
     ⊎ After Parameter (Closing (f ∷ fs) K) xs
@@ -167,48 +167,48 @@ abbrev pub Either : Rest → Rest → Rest
 Either K L xs = K xs ⊎ L xs
 
 -- how a text goes on where no parameter list is open, and what is still to come
-abbrev pub Follows : Outside → File → Rest
-Follows outside.Begin f = Then (IsWord word.First) (Then (IsMark mark.Semicolon)
+abbrev pub Follows : Section → File → Rest
+Follows section.Begin f = Then (IsWord word.First) (Then (IsMark mark.Semicolon)
     (Then (IsThe (codes "HEADER")) (Then (IsMark mark.Semicolon)
     (AtFirstEntity f.header (AtEndOfHeader f.instances f.data_end)))))
-Follows outside.BeginSemicolon f = Then (IsMark mark.Semicolon)
+Follows section.BeginSemicolon f = Then (IsMark mark.Semicolon)
     (Then (IsThe (codes "HEADER")) (Then (IsMark mark.Semicolon)
     (AtFirstEntity f.header (AtEndOfHeader f.instances f.data_end))))
-Follows outside.Header f = Then (IsThe (codes "HEADER")) (Then (IsMark mark.Semicolon)
+Follows section.Header f = Then (IsThe (codes "HEADER")) (Then (IsMark mark.Semicolon)
     (AtFirstEntity f.header (AtEndOfHeader f.instances f.data_end)))
-Follows outside.HeaderSemicolon f = Then (IsMark mark.Semicolon)
+Follows section.HeaderSemicolon f = Then (IsMark mark.Semicolon)
     (AtFirstEntity f.header (AtEndOfHeader f.instances f.data_end))
-Follows outside.FirstEntity f = AtFirstEntity f.header (AtEndOfHeader f.instances f.data_end)
-Follows outside.Entities f = AtEntities f.header (AtEndOfHeader f.instances f.data_end)
-Follows (outside.EntityOrEnd k) f = Either
+Follows section.FirstEntity f = AtFirstEntity f.header (AtEndOfHeader f.instances f.data_end)
+Follows section.Entities f = AtEntities f.header (AtEndOfHeader f.instances f.data_end)
+Follows (section.EntityOrEnd k) f = Either
     (EntityFrom k AtSimpleList f.header (AtEndOfHeader f.instances f.data_end))
     (Past (Then (IsMark mark.Semicolon) (AtData f.instances f.data_end)) f)
-Follows (outside.EntityOpen k) f = EntityFrom k AtSimpleList f.header
+Follows (section.EntityOpen k) f = EntityFrom k AtSimpleList f.header
     (AtEndOfHeader f.instances f.data_end)
-Follows (outside.EntityEnd k) f = EntityFrom k AtRecordEnd f.header
+Follows (section.EntityEnd k) f = EntityFrom k AtRecordEnd f.header
     (AtEndOfHeader f.instances f.data_end)
-Follows outside.Data f = Past (AtData f.instances f.data_end) f
-Follows outside.DataSemicolon f = Past
+Follows section.Data f = Past (AtData f.instances f.data_end) f
+Follows section.DataSemicolon f = Past
     (Then (IsMark mark.Semicolon) (AtInstances f.instances f.data_end)) f
-Follows outside.Instances f = Past (AtInstances f.instances f.data_end) f
-Follows (outside.Equals n) f = Past (NamedFrom n AtEquals f.instances f.data_end) f
-Follows (outside.Body n) f = Past (NamedFrom n AtBody f.instances f.data_end) f
-Follows (outside.SimpleOpen p) f = Past (PartFrom p AtSimpleList f.instances f.data_end) f
-Follows (outside.FirstRecord p) f = Past (PartFrom p AtFirstRecord f.instances f.data_end) f
-Follows (outside.RecordOpen p) f = Past (PartFrom p AtInnerList f.instances f.data_end) f
-Follows (outside.NextRecord p) f = Past (PartFrom p AtNextRecord f.instances f.data_end) f
-Follows (outside.InstanceEnd p) f = Past (PartFrom p AtRecordEnd f.instances f.data_end) f
-Follows (outside.EndSemicolon k) f = Ended k AtEndSemicolon f
-Follows (outside.LastWord k) f = Ended k AtLastWord f
-Follows (outside.LastSemicolon k) f = Ended k AtLastSemicolon f
-Follows (outside.End k) f = Ended k AtEnd f
+Follows section.Instances f = Past (AtInstances f.instances f.data_end) f
+Follows (section.Equals n) f = Past (NamedFrom n AtEquals f.instances f.data_end) f
+Follows (section.Body n) f = Past (NamedFrom n AtBody f.instances f.data_end) f
+Follows (section.SimpleOpen p) f = Past (PartFrom p AtSimpleList f.instances f.data_end) f
+Follows (section.FirstRecord p) f = Past (PartFrom p AtFirstRecord f.instances f.data_end) f
+Follows (section.RecordOpen p) f = Past (PartFrom p AtInnerList f.instances f.data_end) f
+Follows (section.NextRecord p) f = Past (PartFrom p AtNextRecord f.instances f.data_end) f
+Follows (section.InstanceEnd p) f = Past (PartFrom p AtRecordEnd f.instances f.data_end) f
+Follows (section.EndSemicolon k) f = Ended k AtEndSemicolon f
+Follows (section.LastWord k) f = Ended k AtLastWord f
+Follows (section.LastSemicolon k) f = Ended k AtLastSemicolon f
+Follows (section.End k) f = Ended k AtEnd f
 
 -- how a text goes on from a state
 abbrev pub Goes : State → File → Rest
-Goes s f = Wanted s.nest.frames s.nest.want (Follows s.outside f)
+Goes s f = Wanted s.nest.brackets s.nest.want (Follows s.section f)
 
 -- what was found, before what is still to come
-abbrev pub prepend : Found → File → File
-prepend found.Nothing f = f
-prepend (found.Entity r) f = record f { header = r ∷ f.header }
-prepend (found.Instance n r) f = record f { instances = (n, r) ∷ f.instances }
+abbrev pub prepend : Event → File → File
+prepend event.Nothing f = f
+prepend (event.Entity r) f = record f { header = r ∷ f.header }
+prepend (event.Instance n r) f = record f { instances = (n, r) ∷ f.instances }

@@ -1,20 +1,21 @@
 -- The machine keeps count of the parentheses that are open.
-use Rattle.std.proofs.Common.{◌≡◌, ℕ, suc, ◌+◌, ◌≤◌, Bool, true, false, cond, List, [], ◌∷◌, length, Option, Some, None, refl, sym, subst, ⊎_elim, arith}
+use Rattle.std.proofs.Common.{◌≡◌, ◌-◌, ℕ, suc, ◌+◌, ◌≤◌, Bool, true, false, cond, List, [], ◌∷◌, length, Option, Some, None, refl, sym, subst, ⊎_elim, arith}
 use Rattle.std.specs.Prelude.{codes}
 use Rattle.std.proofs.lemmas.Bool.{false≢true, ltb-true}
 use Rattle.std.proofs.lemmas.Option.{same_Some, none-some, cond_some}
 use Rattle.sb_lex.specs.declared.kinds.Kind.{Kind}
 use Rattle.sb_lex.specs.declared.kinds.Kind.TheVariants as kind
 use Rattle.sb_lex.specs.declared.kinds.Mark.TheVariants as mark
-use Rattle.sb_step.specs.declared.steps.Outside.{Outside}
-use Rattle.sb_step.specs.declared.steps.Outside.TheVariants as outside
-use Rattle.sb_step.specs.declared.steps.Frame.{Frame}
-use Rattle.sb_step.specs.declared.steps.Frame.TheVariants as frame
-use Rattle.sb_step.specs.declared.steps.Want.{Want}
-use Rattle.sb_step.specs.declared.steps.Want.TheVariants as want
-use Rattle.sb_step.specs.declared.steps.Move.{Move}
+use Rattle.sb_step.specs.Grammar.{greatest_depth}
+use Rattle.sb_step.specs.declared.states.Section.{Section}
+use Rattle.sb_step.specs.declared.states.Section.TheVariants as section
+use Rattle.sb_step.specs.declared.states.Bracket.{Bracket}
+use Rattle.sb_step.specs.declared.states.Bracket.TheVariants as bracket
+use Rattle.sb_step.specs.declared.states.Want.{Want}
+use Rattle.sb_step.specs.declared.states.Want.TheVariants as want
+use Rattle.sb_step.specs.declared.states.Move.{Move}
 use Rattle.sb_step.specs.Lexemes.{Lexeme, is_value, is_open, is_close}
-use Rattle.sb_step.specs.Steps.{is_semicolon, is_comma, is_equals, is_first, is_last, is_keyword, number_of, is_the, outside_step, Nest, plain, begun, parameter, comma, shut, by_want, State, Turn, is_complex, room_of, turn_outside, turn_inside, step, step_at}
+use Rattle.sb_step.specs.Turns.{is_semicolon, is_comma, is_equals, is_first, is_last, is_keyword, number_of, is_the, section_move, Nest, plain, begun, parameter, comma, shut, by_want, State, Turn, is_complex, room_of, turn_section, turn_list, next_turn, next_turn_at}
 use Rattle.sb_step.proofs.KindsSay.{open_says, close_says, semicolon_says, comma_says, equals_says, first_says, last_says, keyword_says, number_says, the_says, choice}
 use Rattle.sb_step.proofs.TurnsByTest.{turn_of, only_gives, either_gives, named_gives}
 
@@ -27,7 +28,7 @@ abbrev pub closes : Kind → ℕ
 closes k = cond (is_close k) 1 0
 
 -- how many are open in parameter lists
-abbrev pub depth_within : List Frame → Want → ℕ
+abbrev pub depth_within : List Bracket → Want → ℕ
 depth_within [] w = 0
 depth_within (f ∷ fs) want.Open = length fs
 depth_within (f ∷ fs) want.First = suc (length fs)
@@ -35,16 +36,16 @@ depth_within (f ∷ fs) want.Parameter = suc (length fs)
 depth_within (f ∷ fs) want.Next = suc (length fs)
 
 -- and outside of them
-abbrev pub depth_without : Outside → ℕ
+abbrev pub depth_without : Section → ℕ
 depth_without o = cond (is_complex o) 1 0
 
 -- how many parentheses are open
 abbrev pub depth : State → ℕ
-depth s = depth_without s.outside + depth_within s.nest.frames s.nest.want
+depth s = depth_without s.section + depth_within s.nest.brackets s.nest.want
 
 -- no more parentheses are open, or will be after the next one, than there may be
 abbrev pub Fits : State → Type 0
-Fits s = length s.nest.frames ≤ room_of s.outside
+Fits s = length s.nest.brackets ≤ room_of s.section
 
 -- the count goes from one number to the other
 abbrev pub Counts : ℕ → Kind → ℕ → Type 0
@@ -56,125 +57,125 @@ counts_at before after k q same counts = subst (λ r. Counts before r after) (sy
 
 -- outside of parameter lists
 
-abbrev pub CountsTurn : Outside → Kind → Turn → Type 0
+abbrev pub CountsTurn : Section → Kind → Turn → Type 0
 CountsTurn o k t = Counts (depth_without o + 0) k (depth t.state)
 
 name_counts : (n : ℕ) (k : Kind) → number_of k ≡ Some n → Counts 0 k 0
 name_counts n k named = counts_at 0 0 k (kind.Name n) (number_says k n named) refl
 
-outside_counts : (o : Outside) (x : Lexeme) (turn : Turn)
-    → turn_outside (outside_step o x) ≡ Some turn → CountsTurn o x.token.kind turn
-outside_counts outside.Begin x turn is =
-    only_gives (CountsTurn outside.Begin x.token.kind) turn (is_first x.token.kind) _
+section_counts : (o : Section) (x : Lexeme) (turn : Turn)
+    → turn_section (section_move o x) ≡ Some turn → CountsTurn o x.token.kind turn
+section_counts section.Begin x turn is =
+    only_gives (CountsTurn section.Begin x.token.kind) turn (is_first x.token.kind) _
     (λ t. counts_at 0 0 _ _ (first_says x.token.kind t) refl) is
-outside_counts outside.BeginSemicolon x turn is =
-    only_gives (CountsTurn outside.BeginSemicolon x.token.kind) turn
+section_counts section.BeginSemicolon x turn is =
+    only_gives (CountsTurn section.BeginSemicolon x.token.kind) turn
     (is_semicolon x.token.kind) _
     (λ t. counts_at 0 0 _ _ (semicolon_says x.token.kind t) refl) is
-outside_counts outside.Header x turn is =
-    only_gives (CountsTurn outside.Header x.token.kind) turn (is_the (codes "HEADER") x) _
+section_counts section.Header x turn is =
+    only_gives (CountsTurn section.Header x.token.kind) turn (is_the (codes "HEADER") x) _
     (λ t. counts_at 0 0 _ _ (the_says (codes "HEADER") x t).keyword refl) is
-outside_counts outside.HeaderSemicolon x turn is =
-    only_gives (CountsTurn outside.HeaderSemicolon x.token.kind) turn
+section_counts section.HeaderSemicolon x turn is =
+    only_gives (CountsTurn section.HeaderSemicolon x.token.kind) turn
     (is_semicolon x.token.kind) _
     (λ t. counts_at 0 0 _ _ (semicolon_says x.token.kind t) refl) is
-outside_counts outside.FirstEntity x turn is =
-    only_gives (CountsTurn outside.FirstEntity x.token.kind) turn (is_keyword x.token.kind) _
+section_counts section.FirstEntity x turn is =
+    only_gives (CountsTurn section.FirstEntity x.token.kind) turn (is_keyword x.token.kind) _
     (λ t. counts_at 0 0 _ _ (keyword_says x.token.kind t) refl) is
-outside_counts outside.Entities x turn is =
-    either_gives (CountsTurn outside.Entities x.token.kind) turn (is_the (codes "ENDSEC") x) _ _
+section_counts section.Entities x turn is =
+    either_gives (CountsTurn section.Entities x.token.kind) turn (is_the (codes "ENDSEC") x) _ _
     (λ t. counts_at 0 0 _ _ (the_says (codes "ENDSEC") x t).keyword refl)
-    (only_gives (CountsTurn outside.Entities x.token.kind) turn (is_keyword x.token.kind) _
+    (only_gives (CountsTurn section.Entities x.token.kind) turn (is_keyword x.token.kind) _
     (λ t. counts_at 0 0 _ _ (keyword_says x.token.kind t) refl)) is
-outside_counts (outside.EntityOrEnd s) x turn is =
-    either_gives (CountsTurn (outside.EntityOrEnd s) x.token.kind) turn (is_open x.token.kind) _ _
+section_counts (section.EntityOrEnd s) x turn is =
+    either_gives (CountsTurn (section.EntityOrEnd s) x.token.kind) turn (is_open x.token.kind) _ _
     (λ t. counts_at 0 1 _ _ (open_says x.token.kind t) refl)
-    (only_gives (CountsTurn (outside.EntityOrEnd s) x.token.kind) turn
+    (only_gives (CountsTurn (section.EntityOrEnd s) x.token.kind) turn
     (is_semicolon x.token.kind) _
     (λ t. counts_at 0 0 _ _ (semicolon_says x.token.kind t) refl)) is
-outside_counts (outside.EntityOpen s) x turn is =
-    only_gives (CountsTurn (outside.EntityOpen s) x.token.kind) turn (is_open x.token.kind) _
+section_counts (section.EntityOpen s) x turn is =
+    only_gives (CountsTurn (section.EntityOpen s) x.token.kind) turn (is_open x.token.kind) _
     (λ t. counts_at 0 1 _ _ (open_says x.token.kind t) refl) is
-outside_counts (outside.EntityEnd s) x turn is =
-    only_gives (CountsTurn (outside.EntityEnd s) x.token.kind) turn (is_semicolon x.token.kind) _
+section_counts (section.EntityEnd s) x turn is =
+    only_gives (CountsTurn (section.EntityEnd s) x.token.kind) turn (is_semicolon x.token.kind) _
     (λ t. counts_at 0 0 _ _ (semicolon_says x.token.kind t) refl) is
-outside_counts outside.Data x turn is =
-    only_gives (CountsTurn outside.Data x.token.kind) turn (is_the (codes "DATA") x) _
+section_counts section.Data x turn is =
+    only_gives (CountsTurn section.Data x.token.kind) turn (is_the (codes "DATA") x) _
     (λ t. counts_at 0 0 _ _ (the_says (codes "DATA") x t).keyword refl) is
-outside_counts outside.DataSemicolon x turn is =
-    only_gives (CountsTurn outside.DataSemicolon x.token.kind) turn (is_semicolon x.token.kind) _
+section_counts section.DataSemicolon x turn is =
+    only_gives (CountsTurn section.DataSemicolon x.token.kind) turn (is_semicolon x.token.kind) _
     (λ t. counts_at 0 0 _ _ (semicolon_says x.token.kind t) refl) is
-outside_counts outside.Instances x turn is =
-    either_gives (CountsTurn outside.Instances x.token.kind) turn (is_the (codes "ENDSEC") x) _ _
+section_counts section.Instances x turn is =
+    either_gives (CountsTurn section.Instances x.token.kind) turn (is_the (codes "ENDSEC") x) _ _
     (λ t. counts_at 0 0 _ _ (the_says (codes "ENDSEC") x t).keyword refl)
-    (named_gives (CountsTurn outside.Instances x.token.kind) turn (number_of x.token.kind)
+    (named_gives (CountsTurn section.Instances x.token.kind) turn (number_of x.token.kind)
     (λ n t. name_counts n x.token.kind t)) is
-outside_counts (outside.Equals n) x turn is =
-    only_gives (CountsTurn (outside.Equals n) x.token.kind) turn (is_equals x.token.kind) _
+section_counts (section.Equals n) x turn is =
+    only_gives (CountsTurn (section.Equals n) x.token.kind) turn (is_equals x.token.kind) _
     (λ t. counts_at 0 0 _ _ (equals_says x.token.kind t) refl) is
-outside_counts (outside.Body n) x turn is =
-    either_gives (CountsTurn (outside.Body n) x.token.kind) turn (is_keyword x.token.kind) _ _
+section_counts (section.Body n) x turn is =
+    either_gives (CountsTurn (section.Body n) x.token.kind) turn (is_keyword x.token.kind) _ _
     (λ t. counts_at 0 0 _ _ (keyword_says x.token.kind t) refl)
-    (only_gives (CountsTurn (outside.Body n) x.token.kind) turn (is_open x.token.kind) _
+    (only_gives (CountsTurn (section.Body n) x.token.kind) turn (is_open x.token.kind) _
     (λ t. counts_at 0 1 _ _ (open_says x.token.kind t) refl)) is
-outside_counts (outside.SimpleOpen p) x turn is =
-    only_gives (CountsTurn (outside.SimpleOpen p) x.token.kind) turn (is_open x.token.kind) _
+section_counts (section.SimpleOpen p) x turn is =
+    only_gives (CountsTurn (section.SimpleOpen p) x.token.kind) turn (is_open x.token.kind) _
     (λ t. counts_at 0 1 _ _ (open_says x.token.kind t) refl) is
-outside_counts (outside.FirstRecord p) x turn is =
-    only_gives (CountsTurn (outside.FirstRecord p) x.token.kind) turn (is_keyword x.token.kind) _
+section_counts (section.FirstRecord p) x turn is =
+    only_gives (CountsTurn (section.FirstRecord p) x.token.kind) turn (is_keyword x.token.kind) _
     (λ t. counts_at 1 1 _ _ (keyword_says x.token.kind t) refl) is
-outside_counts (outside.RecordOpen p) x turn is =
-    only_gives (CountsTurn (outside.RecordOpen p) x.token.kind) turn (is_open x.token.kind) _
+section_counts (section.RecordOpen p) x turn is =
+    only_gives (CountsTurn (section.RecordOpen p) x.token.kind) turn (is_open x.token.kind) _
     (λ t. counts_at 1 2 _ _ (open_says x.token.kind t) refl) is
-outside_counts (outside.NextRecord p) x turn is =
-    either_gives (CountsTurn (outside.NextRecord p) x.token.kind) turn
+section_counts (section.NextRecord p) x turn is =
+    either_gives (CountsTurn (section.NextRecord p) x.token.kind) turn
     (is_keyword x.token.kind) _ _
     (λ t. counts_at 1 1 _ _ (keyword_says x.token.kind t) refl)
-    (only_gives (CountsTurn (outside.NextRecord p) x.token.kind) turn (is_close x.token.kind) _
+    (only_gives (CountsTurn (section.NextRecord p) x.token.kind) turn (is_close x.token.kind) _
     (λ t. counts_at 1 0 _ _ (close_says x.token.kind t) refl)) is
-outside_counts (outside.InstanceEnd p) x turn is =
-    only_gives (CountsTurn (outside.InstanceEnd p) x.token.kind) turn
+section_counts (section.InstanceEnd p) x turn is =
+    only_gives (CountsTurn (section.InstanceEnd p) x.token.kind) turn
     (is_semicolon x.token.kind) _
     (λ t. counts_at 0 0 _ _ (semicolon_says x.token.kind t) refl) is
-outside_counts (outside.EndSemicolon k) x turn is =
-    only_gives (CountsTurn (outside.EndSemicolon k) x.token.kind) turn
+section_counts (section.EndSemicolon k) x turn is =
+    only_gives (CountsTurn (section.EndSemicolon k) x.token.kind) turn
     (is_semicolon x.token.kind) _
     (λ t. counts_at 0 0 _ _ (semicolon_says x.token.kind t) refl) is
-outside_counts (outside.LastWord k) x turn is =
-    only_gives (CountsTurn (outside.LastWord k) x.token.kind) turn (is_last x.token.kind) _
+section_counts (section.LastWord k) x turn is =
+    only_gives (CountsTurn (section.LastWord k) x.token.kind) turn (is_last x.token.kind) _
     (λ t. counts_at 0 0 _ _ (last_says x.token.kind t) refl) is
-outside_counts (outside.LastSemicolon k) x turn is =
-    only_gives (CountsTurn (outside.LastSemicolon k) x.token.kind) turn
+section_counts (section.LastSemicolon k) x turn is =
+    only_gives (CountsTurn (section.LastSemicolon k) x.token.kind) turn
     (is_semicolon x.token.kind) _
     (λ t. counts_at 0 0 _ _ (semicolon_says x.token.kind t) refl) is
-outside_counts (outside.End k) x turn is = absurd (none-some turn is)
+section_counts (section.End k) x turn is = absurd (none-some turn is)
 
-one_fits : (complex begins : Bool) → length (cond begins begun plain).frames ≤ cond complex 63 64
+one_fits : (complex begins : Bool) → length (cond begins begun plain).brackets ≤ cond complex (greatest_depth - 1) greatest_depth
 one_fits true true = omega arith
 one_fits true false = omega arith
 one_fits false true = omega arith
 one_fits false false = omega arith
 
-outside_fits : (found : Option Move) (turn : Turn) → turn_outside found ≡ Some turn
+section_fits : (found : Option Move) (turn : Turn) → turn_section found ≡ Some turn
     → Fits turn.state
-outside_fits None turn is = absurd (none-some turn is)
-outside_fits (Some m) turn is =
+section_fits None turn is = absurd (none-some turn is)
+section_fits (Some m) turn is =
     subst (λ t. Fits t.state) (same_Some (turn_of m) turn is)
-    (one_fits (is_complex m.outside) m.opens)
+    (one_fits (is_complex m.section) m.opens)
 
 -- within them
 
 -- the count within, and what fits
 pub record CountsNest (room before : ℕ) (k : Kind) (nest : Nest) : Type 0 where
-  pub counts : Counts before k (depth_within nest.frames nest.want)
-  pub fits : length nest.frames ≤ room
+  pub counts : Counts before k (depth_within nest.brackets nest.want)
+  pub fits : length nest.brackets ≤ room
 
 value_counts : (k : Kind) → is_value k ≡ true → (opens k ≡ 0) × (closes k ≡ 0)
 value_counts (kind.Mark mark.Open) v = absurd (false≢true v)
 value_counts (kind.Mark mark.Close) v = absurd (false≢true v)
 value_counts _ v = (refl, refl)
 
-module _ (room : ℕ) (f : Frame) (fs : List Frame) (k : Kind) (nest : Nest)
+module _ (room : ℕ) (f : Bracket) (fs : List Bracket) (k : Kind) (nest : Nest)
     (fit : length (f ∷ fs) ≤ room) where
   counted : (before : ℕ) (n : Nest) → n ≡ nest → CountsNest room before k n
       → CountsNest room before k nest
@@ -204,7 +205,7 @@ module _ (room : ℕ) (f : Frame) (fs : List Frame) (k : Kind) (nest : Nest)
       (choice (is_open k) _ _ nest others.1))
       (choice (is_value k) _ _ nest is)
 
-shut_counts : (room : ℕ) (f : Frame) (fs : List Frame) (k : Kind) → k ≡ kind.Mark mark.Close
+shut_counts : (room : ℕ) (f : Bracket) (fs : List Bracket) (k : Kind) → k ≡ kind.Mark mark.Close
     → length (f ∷ fs) ≤ room → CountsNest room (suc (length fs)) k (shut (f ∷ fs))
 shut_counts room f [] k closing fit = record {
   counts = counts_at 1 0 k _ closing refl;
@@ -215,18 +216,18 @@ shut_counts room f (g ∷ fs) k closing fit = record {
   fits = omega arith;
 }
 
-comma_counts : (room : ℕ) (f : Frame) (fs : List Frame) (k : Kind) (nest : Nest)
+comma_counts : (room : ℕ) (f : Bracket) (fs : List Bracket) (k : Kind) (nest : Nest)
     → length (f ∷ fs) ≤ room → comma (f ∷ fs) k ≡ Some nest
     → CountsNest room (suc (length fs)) k nest
-comma_counts room frame.List fs k nest fit is =
+comma_counts room bracket.List fs k nest fit is =
     let both = cond_some (is_comma k) _ nest is in
     subst (CountsNest room (suc (length fs)) k) both.1 (record {
       counts = counts_at (suc (length fs)) (suc (length fs)) k _ (comma_says k both.0) refl;
       fits = fit;
     })
-comma_counts room frame.Typed fs k nest fit is = absurd (none-some nest is)
+comma_counts room bracket.Typed fs k nest fit is = absurd (none-some nest is)
 
-inside_counts : (room : ℕ) (f : Frame) (fs : List Frame) (w : Want) (k : Kind) (nest : Nest)
+inside_counts : (room : ℕ) (f : Bracket) (fs : List Bracket) (w : Want) (k : Kind) (nest : Nest)
     → length (f ∷ fs) ≤ room → by_want w room (f ∷ fs) k ≡ Some nest
     → CountsNest room (depth_within (f ∷ fs) w) k nest
 inside_counts room f fs want.First k nest fit is =
@@ -256,30 +257,30 @@ pub record CountsStep (s : State) (k : Kind) (t : Turn) : Type 0 where
   pub counts : Counts (depth s) k (depth t.state)
   pub fits : Fits t.state
 
-step_at_counts : (o : Outside) (fs : List Frame) (w : Want) (x : Lexeme) (turn : Turn)
-    → length fs ≤ room_of o → step_at o fs w x ≡ Some turn
-    → CountsStep (record { outside = o; nest = record { frames = fs; want = w } }) x.token.kind
+next_turn_at_counts : (o : Section) (fs : List Bracket) (w : Want) (x : Lexeme) (turn : Turn)
+    → length fs ≤ room_of o → next_turn_at o fs w x ≡ Some turn
+    → CountsStep (record { section = o; nest = record { brackets = fs; want = w } }) x.token.kind
     turn
-step_at_counts o [] w x turn fit is = record {
-  counts = outside_counts o x turn is;
-  fits = outside_fits (outside_step o x) turn is;
+next_turn_at_counts o [] w x turn fit is = record {
+  counts = section_counts o x turn is;
+  fits = section_fits (section_move o x) turn is;
 }
-step_at_counts o (f ∷ fs) w x turn fit is =
+next_turn_at_counts o (f ∷ fs) w x turn fit is =
     inside_turn (by_want w (room_of o) (f ∷ fs) x.token.kind) refl is
   where
     inside_turn : (found : Option Nest) → by_want w (room_of o) (f ∷ fs) x.token.kind ≡ found
-        → turn_inside o found ≡ Some turn
-        → CountsStep (record { outside = o; nest = record { frames = f ∷ fs; want = w } })
+        → turn_list o found ≡ Some turn
+        → CountsStep (record { section = o; nest = record { brackets = f ∷ fs; want = w } })
         x.token.kind turn
     inside_turn None was is_turn = absurd (none-some turn is_turn)
     inside_turn (Some nest) was is_turn =
         let c = inside_counts (room_of o) f fs w x.token.kind nest fit was in
         subst (CountsStep (record
-        { outside = o; nest = record { frames = f ∷ fs; want = w } }) x.token.kind)
+        { section = o; nest = record { brackets = f ∷ fs; want = w } }) x.token.kind)
         (same_Some _ turn is_turn) (record { counts = omega (arith, c.counts); fits = c.fits })
 
 -- each step of the machine counts
-pub step_counts : (s : State) (x : Lexeme) (turn : Turn) → Fits s → step s x ≡ Some turn
+pub turn_counts : (s : State) (x : Lexeme) (turn : Turn) → Fits s → next_turn s x ≡ Some turn
     → CountsStep s x.token.kind turn
-step_counts s x turn fit is =
-    step_at_counts s.outside s.nest.frames s.nest.want x turn fit is
+turn_counts s x turn fit is =
+    next_turn_at_counts s.section s.nest.brackets s.nest.want x turn fit is

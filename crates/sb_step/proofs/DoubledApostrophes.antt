@@ -4,7 +4,7 @@ use Rattle.std.proofs.Math.Seq.{drop-append_seam}
 use Rattle.std.specs.List.{AllByRecursion, concat}
 use Rattle.std.specs.Prelude.{◌==◌, not, IsTrue}
 use Rattle.sb_lex.specs.Bytes.{apostrophe}
-use Rattle.sb_lex.specs.Sets.{Repeated}
+use Rattle.theory_bytes.specs.Sets.{Repeated}
 use Rattle.sb_lex.specs.Kinds.{StringPiece}
 use Rattle.sb_step.specs.Parameters.{written, doubled}
 
@@ -33,17 +33,17 @@ module _ (bytes single : List ℕ) (at : ℕ) (h : HalfRead bytes single at)
   abbrev pub byte : ℕ
   byte = get_or bytes at 0
 
-  stands : drop at bytes ≡ byte ∷ drop (suc at) bytes
-  stands = drop-cons bytes at 0 within
+  ahead : drop at bytes ≡ byte ∷ drop (suc at) bytes
+  ahead = drop-cons bytes at 0 within
 
   one_by : (later : List ℕ) → drop at bytes ≡ doubled later
       → HalfRead bytes (single ++ byte ∷ []) (at + length (written byte))
   one_by [] same =
-      let some : byte ∷ drop (suc at) bytes ≡ [] = sym stands ∙ same in
+      let some : byte ∷ drop (suc at) bytes ≡ [] = sym ahead ∙ same in
       absurd (cc)
   one_by (c ∷ later) same =
       let first : byte ≡ c = written_head c (doubled later) byte (drop (suc at) bytes)
-      (sym stands ∙ same) in
+      (sym ahead ∙ same) in
       let now : drop at bytes ≡ written byte ++ doubled later =
       same ∙ ap (λ b. written b ++ doubled later) (sym first) in
       let rest : drop (at + length (written byte)) bytes ≡ doubled later =
@@ -62,9 +62,9 @@ module _ (bytes single : List ℕ) (at : ℕ) (h : HalfRead bytes single at)
       }
 
   -- one byte more
-  pub one_byte_more : (pushed : List ℕ) (step : ℕ) → pushed ≡ single ++ byte ∷ []
-      → step ≡ length (written byte) → HalfRead bytes pushed (at + step)
-  one_byte_more pushed step is size =
+  pub one_byte_more : (pushed : List ℕ) (next_turn : ℕ) → pushed ≡ single ++ byte ∷ []
+      → next_turn ≡ length (written byte) → HalfRead bytes pushed (at + next_turn)
+  one_byte_more pushed next_turn is size =
       subst (λ n. HalfRead bytes pushed (at + n)) (sym size)
       (subst (λ s. HalfRead bytes s (at + length (written byte))) (sym is)
       (one_by h.later h.behind))

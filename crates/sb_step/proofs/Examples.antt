@@ -13,7 +13,7 @@ use Rattle.sb_step.specs.Faults.{BeginsText}
 use Rattle.sb_step.specs.Numbers.{IsGreatest}
 use Rattle.sb_step.specs.Rules.{Rule, One, ◌⋅◌}
 use Rattle.sb_step.specs.Schema.{OneString}
-use Rattle.sb_step.specs.Steps.{step, start, Ran, run}
+use Rattle.sb_step.specs.Turns.{next_turn, start, Ran, run}
 use Rattle.sb_step.proofs.SomeTextGoesOn.{lexeme_of, mark_of, keyword_of}
 use Rattle.sb_step.proofs.TextsEnd.{ends_text, runs_begin}
 use Rattle.sb_step.proofs.OneFileOrOneFault.{stops}
@@ -25,7 +25,7 @@ record StopsAt (xs : List Lexeme) (x : Lexeme) : Type 0 where
   refused : BeginsText (xs ++ x ∷ []) → ⊥
 
 stops_at : (xs : List Lexeme) (x : Lexeme) (ran : Ran) → run xs start ≡ Some ran
-    → step ran.state x ≡ None → StopsAt xs x
+    → next_turn ran.state x ≡ None → StopsAt xs x
 stops_at xs x ran is none = record {
   begins = runs_begin xs ran is;
   refused = stops xs ran x is none;

@@ -1,33 +1,22 @@
 -- What the inside of a string, an enumeration or a binary says is what its token says.
-use Rattle.std.proofs.Common.{◌≡◌, ℕ, ◌-◌, ◌≤◌, List, [], ◌∷◌, ◌++◌, length, take, refl, sym, ap, ◌∙◌, subst, length-append, arith}
+use Rattle.std.proofs.Common.{◌≡◌, ℕ, ◌≤◌, List, [], ◌∷◌, ◌++◌, length, refl, sym, ap, ◌∙◌, subst, length-append, arith}
 use Rattle.std.specs.Prelude.{codes, slice_range}
+use Rattle.sb_lex.specs.Bytes as byte
 use Rattle.sb_lex.specs.declared.kinds.Token.{Token}
 use Rattle.sb_lex.specs.declared.kinds.Kind.TheVariants as kind
-use Rattle.sb_lex.specs.Sets.{Text, ◌⋅◌, Repeated}
+use Rattle.theory_bytes.specs.Sets.{Text, ◌⋅◌, Repeated}
 use Rattle.sb_lex.specs.Kinds.{StringPiece, Letters, HexDigits, IsOf}
 use Rattle.sb_lex.specs.Tokens.{IsToken}
-use Rattle.sb_lex.proofs.PiecesJoin.{around}
+use Rattle.theory_bytes.specs.Insides.{inside_of}
+use Rattle.theory_bytes.proofs.InsidesAreBetween.{inside-between}
+use Rattle.theory_bytes.proofs.JoinedHasParts.{around}
 use Rattle.sb_step.specs.declared.param.Param.TheVariants as param
 use Rattle.sb_step.specs.Parameters.{doubled, Encloses, Says}
 use Rattle.sb_step.proofs.DoubledApostrophes.{IsWritten, inside_is_written}
 
--- a text without its first byte and its last
-abbrev pub inside_of : List ℕ → List ℕ
-inside_of text = slice_range text 1 (length text - 1)
-
 -- the bytes of a token
 abbrev pub text_of : List ℕ → Token → List ℕ
 text_of input t = slice_range input t.start t.end
-
-take_front : (s rest : List ℕ) → take (length s) (s ++ rest) ≡ s
-take_front [] rest = refl
-take_front (b ∷ s) rest = ap (λ l. b ∷ l) (take_front s rest)
-
-pub inside_between : (a b : ℕ) (s : List ℕ) → inside_of (a ∷ (s ++ b ∷ [])) ≡ s
-inside_between a b s =
-    let size : length (a ∷ (s ++ b ∷ [])) - 1 - 1 ≡ length s =
-    omega (arith, length-append s (b ∷ [])) in
-    ap (λ n. take n (s ++ b ∷ [])) size ∙ take_front s (b ∷ [])
 
 -- the text is its inside between two bytes
 pub record IsEnclosed (q : ℕ) (P : List ℕ → Type 0) (text : List ℕ) : Type 0 where
@@ -40,7 +29,7 @@ pub enclosed : (q : ℕ) (P : List ℕ → Type 0) (text : List ℕ)
 enclosed q P text t =
     let a = around (q ∷ []) (q ∷ []) P text t in
     let same : a.inside ≡ inside_of text =
-    sym (inside_between q q a.inside) ∙ ap inside_of (sym a.whole) in
+    sym (inside-between q q a.inside) ∙ ap inside_of (sym a.whole) in
     record {
       long = omega (arith, ap length a.whole, length-append a.inside (q ∷ []));
       whole = record { whole = a.whole ∙ ap (λ s. q ∷ (s ++ q ∷ [])) same };
@@ -48,16 +37,16 @@ enclosed q P text t =
     }
 
 module _ (input : List ℕ) (t : Token) (token : IsToken input t) where
-  pub string_is : t.kind ≡ kind.Str → IsEnclosed 39 (Repeated StringPiece) (text_of input t)
-  string_is is = enclosed 39 (Repeated StringPiece) (text_of input t)
+  pub string_is : t.kind ≡ kind.Str → IsEnclosed byte.apostrophe (Repeated StringPiece) (text_of input t)
+  string_is is = enclosed byte.apostrophe (Repeated StringPiece) (text_of input t)
       (subst (λ k. IsOf k (text_of input t)) is token.candidate.of_kind)
 
-  pub enumeration_is : t.kind ≡ kind.Enumeration → IsEnclosed 46 Letters (text_of input t)
-  enumeration_is is = enclosed 46 Letters (text_of input t)
+  pub enumeration_is : t.kind ≡ kind.Enumeration → IsEnclosed byte.point Letters (text_of input t)
+  enumeration_is is = enclosed byte.point Letters (text_of input t)
       (subst (λ k. IsOf k (text_of input t)) is token.candidate.of_kind)
 
-  pub binary_is : t.kind ≡ kind.Binary → IsEnclosed 34 HexDigits (text_of input t)
-  binary_is is = enclosed 34 HexDigits (text_of input t)
+  pub binary_is : t.kind ≡ kind.Binary → IsEnclosed byte.quote HexDigits (text_of input t)
+  binary_is is = enclosed byte.quote HexDigits (text_of input t)
       (subst (λ k. IsOf k (text_of input t)) is token.candidate.of_kind)
 
   -- the inside of a string is some text with its apostrophes doubled

@@ -9,10 +9,10 @@ pub mod TextsAreRead
 pub mod SomeTextGoesOn
 pub mod TextsEnd
 pub mod OneFileOrOneFault
-pub mod FramesAreBits
+pub mod BracketsAreBits
 pub mod OneUseMore
-pub mod InstancesAreKept
-pub mod FoundsAreCollected
+pub mod InstancesAreStored
+pub mod EventsAreCollected
 pub mod ReadingGoesOn
 pub mod OneAnswerToAnInput
 pub mod BehindRules

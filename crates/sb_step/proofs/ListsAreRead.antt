@@ -8,7 +8,7 @@ use Rattle.sb_step.specs.Lexemes.{Lexeme, lexeme_at, is_close}
 use Rattle.sb_step.specs.Rules.{Joined}
 use Rattle.sb_step.specs.Grammar.{Parameter, MoreParameters}
 use Rattle.sb_step.specs.Parameters.{IsParameter}
-use Rattle.sb_step.specs.Reads.{HasNext, ReadsToken, Stands, Awaits, Reads, Behind, InList, AreInList, NextItem, ReadsItem}
+use Rattle.sb_step.specs.Readers.{HasNext, ReadsToken, AreAhead, Awaits, CarriesOver, Behind, InList, AreInList, NextItem, ReadsItem}
 use Rattle.sb_step.proofs.ListsByLexeme.{parameter_on, parameter_closes_none}
 use Rattle.sb_step.proofs.ParametersAreRead.{passes, input_stays, goes_further, stays_within}
 
@@ -17,7 +17,7 @@ use Rattle.sb_step.proofs.ParametersAreRead.{passes, input_stays, goes_further, 
 pub record ItemsSoFar (items : List Param) (y : Lexeme) (now : Reading) (xs rest : List Lexeme)
     : Type 0 where
   pub ys : List Lexeme
-  pub stands : Stands now ys
+  pub ahead : AreAhead now ys
   pub in_list : InList (y ∷ ys) rest
   pub says : (ps : List Param) → AreInList ps (y ∷ ys) rest → AreInList (items ++ ps) xs rest
 
@@ -29,30 +29,30 @@ pub record ReadSoFar (bytes : List ℕ) (entry now : Reading) (items : List Para
   pub further : entry.place < now.place
   pub within : now.place ≤ length bytes
   pub token : IsToken bytes t
-  pub leads : (xs rest : List Lexeme) → Stands entry xs → InList xs rest
+  pub leads : (xs rest : List Lexeme) → AreAhead entry xs → InList xs rest
       → ItemsSoFar items (lexeme_at bytes t) now xs rest
 
 -- there is a token behind the parenthesis
 pub list_has_next : (at : Reading) → Awaits InList at → HasNext at
-list_has_next at w = by_first w.xs w.stands w.is
+list_has_next at w = by_first w.xs w.ahead w.is
   where
-    by_first : (xs : List Lexeme) → Stands at xs → InList xs w.rest → HasNext at
-    by_first [] stands (inl c) = absurd c
-    by_first [] stands (inr j) = absurd (parameter_on j.first)
-    by_first (x ∷ xs) stands in_list = (x.token, stands.0)
+    by_first : (xs : List Lexeme) → AreAhead at xs → InList xs w.rest → HasNext at
+    by_first [] ahead (inl c) = absurd c
+    by_first [] ahead (inr j) = absurd (parameter_on j.first)
+    by_first (x ∷ xs) ahead in_list = (x.token, ahead.0)
 
 module _ (bytes : List ℕ) (entry now : Reading) (t : Token) (read : ReadsToken entry now t)
     (entry_is : entry.input ≡ bytes) where
-  first_item : (xs rest : List Lexeme) → Stands entry xs → InList xs rest
+  first_item : (xs rest : List Lexeme) → AreAhead entry xs → InList xs rest
       → ItemsSoFar [] (lexeme_at bytes t) now xs rest
-  first_item [] rest stands (inl c) = absurd c
-  first_item [] rest stands (inr j) = absurd (parameter_on j.first)
-  first_item (x ∷ xs) rest stands in_list =
-      let p = passes entry now t read x xs stands in
+  first_item [] rest ahead (inl c) = absurd c
+  first_item [] rest ahead (inr j) = absurd (parameter_on j.first)
+  first_item (x ∷ xs) rest ahead in_list =
+      let p = passes entry now t read x xs ahead in
       let same : x ≡ lexeme_at bytes t = p.is ∙ ap (λ i. lexeme_at i t) entry_is in
       record {
         ys = xs;
-        stands = p.stands;
+        ahead = p.ahead;
         in_list = subst (λ y. InList (y ∷ xs) rest) same in_list;
         says = λ ps says. subst (λ y. AreInList ps (y ∷ xs) rest) (sym same) says;
       }
@@ -65,9 +65,9 @@ module _ (bytes : List ℕ) (entry now : Reading) (t : Token) (read : ReadsToken
     further = goes_further entry now t read;
     within = subst (λ i. now.place ≤ length i) entry_is (stays_within entry now t read);
     token = subst (λ i. IsToken i t) entry_is read.next.token;
-    leads = λ xs rest stands in_list.
+    leads = λ xs rest ahead in_list.
         subst (λ all. ItemsSoFar all (lexeme_at bytes t) now xs rest) (sym none)
-        (first_item xs rest stands in_list);
+        (first_item xs rest ahead in_list);
   }
 
 -- the token does not end the list, so that a parameter begins with it
@@ -89,21 +89,21 @@ module _ (bytes : List ℕ) (entry now : Reading) (items : List Param) (t : Toke
   pub item_awaited : is_close t.kind ≡ false → Awaits InList entry
       → Awaits (Behind (lexeme_at bytes t) Parameter) now
   item_awaited going w =
-      let l = read.leads w.xs w.rest w.stands w.is in
+      let l = read.leads w.xs w.rest w.ahead w.is in
       let j = not_closed (lexeme_at bytes t) l.ys w.rest going l.in_list in
-      record { xs = l.ys; rest = j.middle; stands = l.stands; is = j.first }
+      record { xs = l.ys; rest = j.middle; ahead = l.ahead; is = j.first }
 
-  module _ (b : Reading) (p : Param) (item : Reads (Behind (lexeme_at bytes t) Parameter)
+  module _ (b : Reading) (p : Param) (item : CarriesOver (Behind (lexeme_at bytes t) Parameter)
       (Behind (lexeme_at bytes t) (IsParameter p)) now b) where
     -- and what follows it
     pub next_awaited : is_close t.kind ≡ false → Awaits InList entry → Awaits MoreParameters b
     next_awaited going w =
-        let l = read.leads w.xs w.rest w.stands w.is in
+        let l = read.leads w.xs w.rest w.ahead w.is in
         let j = not_closed (lexeme_at bytes t) l.ys w.rest going l.in_list in
         record {
           xs = j.middle;
           rest = w.rest;
-          stands = (item.leads l.ys j.middle l.stands j.first).1;
+          ahead = (item.leads l.ys j.middle l.ahead j.first).1;
           is = j.second;
         }
 
@@ -111,17 +111,17 @@ module _ (bytes : List ℕ) (entry now : Reading) (items : List Param) (t : Toke
       b_is : b.input ≡ bytes
       b_is = item.onward.input_is ∙ read.input_is
 
-      item_more : is_close t.kind ≡ false → (xs rest : List Lexeme) → Stands entry xs
+      item_more : is_close t.kind ≡ false → (xs rest : List Lexeme) → AreAhead entry xs
           → InList xs rest → ItemsSoFar (items ++ p ∷ []) (lexeme_at bytes u) c xs rest
-      item_more going xs rest stands in_list =
-          let l = read.leads xs rest stands in_list in
+      item_more going xs rest ahead in_list =
+          let l = read.leads xs rest ahead in_list in
           let j = not_closed (lexeme_at bytes t) l.ys rest going l.in_list in
-          let one = item.leads l.ys j.middle l.stands j.first in
+          let one = item.leads l.ys j.middle l.ahead j.first in
           let n = subst (λ i. NextItem (lexeme_at i u) c j.middle rest) b_is
           (next.leads j.middle rest one.1 j.second) in
           record {
             ys = n.ys;
-            stands = n.stands;
+            ahead = n.ahead;
             in_list = n.in_list;
             says = λ ps says.
                 subst (λ all. AreInList all xs rest) (sym (append_assoc items (p ∷ []) ps))
@@ -141,9 +141,9 @@ module _ (bytes : List ℕ) (entry now : Reading) (items : List Param) (t : Toke
         further = omega (arith, read.further, item.onward.place, next.further);
         within = subst (λ i. c.place ≤ length i) b_is next.within;
         token = subst (λ i. IsToken i u) b_is next.token;
-        leads = λ xs rest stands in_list.
+        leads = λ xs rest ahead in_list.
             subst (λ all. ItemsSoFar all (lexeme_at bytes u) c xs rest) (sym is)
-            (item_more going xs rest stands in_list);
+            (item_more going xs rest ahead in_list);
       }
 
       pub less_left : length bytes - c.place < length bytes - now.place
@@ -152,25 +152,25 @@ module _ (bytes : List ℕ) (entry now : Reading) (items : List Param) (t : Toke
           omega (arith, within, item.onward.place, next.further)
 
   -- the token ends the list
-  closed_leads : is_close t.kind ≡ true → (xs rest : List Lexeme) → Stands entry xs
-      → InList xs rest → AreInList items xs rest × Stands now rest
-  closed_leads closed xs rest stands in_list =
-      let l = read.leads xs rest stands in_list in
+  closed_leads : is_close t.kind ≡ true → (xs rest : List Lexeme) → AreAhead entry xs
+      → InList xs rest → AreInList items xs rest × AreAhead now rest
+  closed_leads closed xs rest ahead in_list =
+      let l = read.leads xs rest ahead in_list in
       let y = lexeme_at bytes t in
-      by_first l.ys l.stands (l.says []) l.in_list
+      by_first l.ys l.ahead (l.says []) l.in_list
     where
-      by_first : (ys : List Lexeme) → Stands now ys
+      by_first : (ys : List Lexeme) → AreAhead now ys
           → (AreInList [] (lexeme_at bytes t ∷ ys) rest → AreInList (items ++ []) xs rest)
-          → InList (lexeme_at bytes t ∷ ys) rest → AreInList items xs rest × Stands now rest
-      by_first ys stands says (inl c) = (
+          → InList (lexeme_at bytes t ∷ ys) rest → AreInList items xs rest × AreAhead now rest
+      by_first ys ahead says (inl c) = (
         subst (λ all. AreInList all xs rest) (append-nil items) (says c),
-        subst (Stands now) (sym c.1) stands,
+        subst (AreAhead now) (sym c.1) ahead,
       )
-      by_first ys stands says (inr j) =
+      by_first ys ahead says (inr j) =
           let none = parameter_closes_none j.middle (lexeme_at bytes t) ys (parameter_on j.first) in
           absurd (false≢true (sym none ∙ closed))
 
-  pub list_ends : is_close t.kind ≡ true → Reads InList (AreInList items) entry now
+  pub list_ends : is_close t.kind ≡ true → CarriesOver InList (AreInList items) entry now
   list_ends closed = record {
     onward = record {
       input_is = read.input_is ∙ sym read.entry_is;

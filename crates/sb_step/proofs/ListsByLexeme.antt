@@ -5,18 +5,18 @@ use Rattle.std.proofs.lemmas.Option.{same_Some, none-some, cond_some}
 use Rattle.sb_lex.specs.declared.kinds.Kind.{Kind}
 use Rattle.sb_lex.specs.declared.kinds.Kind.TheVariants as kind
 use Rattle.sb_lex.specs.declared.kinds.Mark.TheVariants as mark
-use Rattle.sb_step.specs.declared.steps.Frame.{Frame}
-use Rattle.sb_step.specs.declared.steps.Frame.TheVariants as frame
-use Rattle.sb_step.specs.declared.steps.Want.{Want}
-use Rattle.sb_step.specs.declared.steps.Want.TheVariants as want
+use Rattle.sb_step.specs.declared.states.Bracket.{Bracket}
+use Rattle.sb_step.specs.declared.states.Bracket.TheVariants as bracket
+use Rattle.sb_step.specs.declared.states.Want.{Want}
+use Rattle.sb_step.specs.declared.states.Want.TheVariants as want
 use Rattle.sb_step.specs.Lexemes.{Lexeme, IsKeyword, IsMark, IsValue, is_value, is_open, is_close}
 use Rattle.sb_step.specs.Rules.{One, Joined}
 use Rattle.sb_step.specs.Grammar.{Parameter, ParameterList, MoreParameters}
 use Rattle.sb_step.specs.Grammar.Parameter.{value, list, typed}
 use Rattle.sb_step.specs.Grammar.ParameterList.{empty, some}
 use Rattle.sb_step.specs.Grammar.MoreParameters.{last, more}
-use Rattle.sb_step.specs.Steps.{Nest, is_keyword, is_comma, deeper, parameter, comma, shut, by_want}
-use Rattle.sb_step.specs.Reads.{InList}
+use Rattle.sb_step.specs.Turns.{Nest, is_keyword, is_comma, deeper, parameter, comma, shut, by_want}
+use Rattle.sb_step.specs.Readers.{InList}
 use Rattle.sb_step.proofs.Continuations.{Rest, Then, After, Closing, Wanted}
 use Rattle.sb_step.proofs.KindsSay.{open_says, close_says, comma_says, keyword_says, choice}
 
@@ -85,11 +85,11 @@ one_then P K (x ∷ xs) ys one on = (one.0, subst K one.1 on)
 
 -- one lexeme of a parameter list
 
--- the frames and the want behind a lexeme, from which the list goes on
+-- the open parentheses and the want behind a lexeme, from which the list goes on
 pub record Inner (found : Option Nest) (K : Rest) (xs : List Lexeme) : Type 0 where
   pub nest : Nest
   pub is : found ≡ Some nest
-  pub goes : Wanted nest.frames nest.want K xs
+  pub goes : Wanted nest.brackets nest.want K xs
 
 -- there is a lexeme that opens a parenthesis
 abbrev pub OpensNext : List Lexeme → Type 0
@@ -101,8 +101,8 @@ pub record HasRoom (room depth : ℕ) (x : Lexeme) (xs : List Lexeme) : Type 0 w
   pub now : IsMark mark.Open x → depth < room
   pub next : IsKeyword x → OpensNext xs → depth < room
 
-deeper_is : (room : ℕ) (f : Frame) (fs : List Frame) (w : Want) → length fs < room
-    → deeper room f fs w ≡ Some (record { frames = f ∷ fs; want = w })
+deeper_is : (room : ℕ) (f : Bracket) (fs : List Bracket) (w : Want) → length fs < room
+    → deeper room f fs w ≡ Some (record { brackets = f ∷ fs; want = w })
 deeper_is room f fs w fits = cond-true (ltb (length fs) room) _ None (lt-ltb (length fs) room fits)
 
 -- a list begins, and what is behind its parenthesis goes on
@@ -147,12 +147,12 @@ typed_came L x (y ∷ ys) k t = typed_from L x y ys t.1.middle k t.0 t.1.first t
 
 -- the innermost parenthesis is closed
 
-pub popped : (fs : List Frame) (K : Rest) (xs : List Lexeme) → Closing fs K xs
+pub popped : (fs : List Bracket) (K : Rest) (xs : List Lexeme) → Closing fs K xs
     → Wanted fs want.Next K xs
 popped [] K xs on = on
 popped (f ∷ fs) K xs on = on
 
-pub unpopped : (fs : List Frame) (K : Rest) (xs : List Lexeme) → Wanted fs want.Next K xs
+pub unpopped : (fs : List Bracket) (K : Rest) (xs : List Lexeme) → Wanted fs want.Next K xs
     → Closing fs K xs
 unpopped [] K xs on = on
 unpopped (f ∷ fs) K xs on = on
@@ -176,15 +176,15 @@ RoomFor want.Parameter room depth x xs = HasRoom room depth x xs
 RoomFor want.Next room depth x xs = Unit {0}
 RoomFor want.Open room depth x xs = Unit {0}
 
-module _ (room : ℕ) (f : Frame) (fs : List Frame) (K : Rest) (x : Lexeme) where
+module _ (room : ℕ) (f : Bracket) (fs : List Bracket) (K : Rest) (x : Lexeme) where
   typed_goes : (xs rest : List Lexeme) → HasRoom room (length (f ∷ fs)) x xs
       → Closing (f ∷ fs) K rest → IsKeyword x → TypedOn rest xs
       → Inner (parameter room (f ∷ fs) x.token.kind) K xs
   typed_goes [] rest fits on k t = absurd t
   typed_goes (y ∷ ys) rest fits on k t = record {
-    nest = record { frames = frame.Typed ∷ f ∷ fs; want = want.Open };
+    nest = record { brackets = bracket.Typed ∷ f ∷ fs; want = want.Open };
     is = ap (parameter room (f ∷ fs)) k
-        ∙ deeper_is room frame.Typed (f ∷ fs) want.Open (fits.next k t.opens);
+        ∙ deeper_is room bracket.Typed (f ∷ fs) want.Open (fits.next k t.opens);
     goes = (
       t.opens,
       record {
@@ -199,14 +199,14 @@ module _ (room : ℕ) (f : Frame) (fs : List Frame) (K : Rest) (x : Lexeme) wher
       → Closing (f ∷ fs) K rest → ParameterOn rest (x ∷ xs)
       → Inner (parameter room (f ∷ fs) x.token.kind) K xs
   parameter_goes_on xs rest fits on (inl v) = record {
-    nest = record { frames = f ∷ fs; want = want.Next };
+    nest = record { brackets = f ∷ fs; want = want.Next };
     is = cond-true (is_value x.token.kind) _ _ v.0;
     goes = subst (Closing (f ∷ fs) K) v.1 on;
   }
   parameter_goes_on xs rest fits on (inr (inl l)) = record {
-    nest = record { frames = frame.List ∷ f ∷ fs; want = want.First };
+    nest = record { brackets = bracket.List ∷ f ∷ fs; want = want.First };
     is = ap (parameter room (f ∷ fs)) l.0
-        ∙ deeper_is room frame.List (f ∷ fs) want.First (fits.now l.0);
+        ∙ deeper_is room bracket.List (f ∷ fs) want.First (fits.now l.0);
     goes = in_list_goes (Closing (f ∷ fs) K) xs rest on l.1;
   }
   parameter_goes_on xs rest fits on (inr (inr t)) = typed_goes xs rest fits on t.0 t.1
@@ -218,11 +218,11 @@ module _ (room : ℕ) (f : Frame) (fs : List Frame) (K : Rest) (x : Lexeme) wher
   parameter_goes xs fits a = parameter_goes_on xs a.middle fits a.second (parameter_on a.first)
 
   parameter_came : (xs : List Lexeme) (nest : Nest)
-      → parameter room (f ∷ fs) x.token.kind ≡ Some nest → Wanted nest.frames nest.want K xs
+      → parameter room (f ∷ fs) x.token.kind ≡ Some nest → Wanted nest.brackets nest.want K xs
       → After Parameter (Closing (f ∷ fs) K) (x ∷ xs)
   parameter_came xs nest is goes =
-      let on : (n : Nest) → n ≡ nest → Wanted n.frames n.want K xs =
-      λ n same. subst (λ m. Wanted m.frames m.want K xs) (sym same) goes in
+      let on : (n : Nest) → n ≡ nest → Wanted n.brackets n.want K xs =
+      λ n same. subst (λ m. Wanted m.brackets m.want K xs) (sym same) goes in
       ⊎_elim
       (λ v. record {
         middle = xs;
@@ -247,9 +247,9 @@ module _ (room : ℕ) (f : Frame) (fs : List Frame) (K : Rest) (x : Lexeme) wher
   close_goes w xs is on = record { nest = shut (f ∷ fs); is = is; goes = popped fs K xs on }
 
   close_came : (nest : Nest) (xs : List Lexeme) → Some (shut (f ∷ fs)) ≡ Some nest
-      → Wanted nest.frames nest.want K xs → Closing fs K xs
+      → Wanted nest.brackets nest.want K xs → Closing fs K xs
   close_came nest xs is goes =
-      unpopped fs K xs (subst (λ n. Wanted n.frames n.want K xs)
+      unpopped fs K xs (subst (λ n. Wanted n.brackets n.want K xs)
       (sym (same_Some (shut (f ∷ fs)) nest is)) goes)
 
   first_goes : (xs : List Lexeme) → HasRoom room (length (f ∷ fs)) x xs
@@ -268,15 +268,15 @@ module _ (room : ℕ) (f : Frame) (fs : List Frame) (K : Rest) (x : Lexeme) wher
 
 -- behind a parameter
 
-more_goes : (room : ℕ) (fs : List Frame) (K : Rest) (x : Lexeme) (xs rest : List Lexeme)
+more_goes : (room : ℕ) (fs : List Bracket) (K : Rest) (x : Lexeme) (xs rest : List Lexeme)
     → MoreOn rest (x ∷ xs) → Closing fs K rest
-    → Inner (by_want want.Next room (frame.List ∷ fs) x.token.kind) K xs
+    → Inner (by_want want.Next room (bracket.List ∷ fs) x.token.kind) K xs
 more_goes room fs K x xs rest (inl c) on =
-    close_goes room frame.List fs K x want.Next xs
-    (ap (by_want want.Next room (frame.List ∷ fs)) c.0) (subst (Closing fs K) c.1 on)
+    close_goes room bracket.List fs K x want.Next xs
+    (ap (by_want want.Next room (bracket.List ∷ fs)) c.0) (subst (Closing fs K) c.1 on)
 more_goes room fs K x xs rest (inr m) on = record {
-  nest = record { frames = frame.List ∷ fs; want = want.Parameter };
-  is = ap (by_want want.Next room (frame.List ∷ fs)) m.0;
+  nest = record { brackets = bracket.List ∷ fs; want = want.Parameter };
+  is = ap (by_want want.Next room (bracket.List ∷ fs)) m.0;
   goes = record {
     middle = m.1.middle;
     first = m.1.first;
@@ -284,76 +284,76 @@ more_goes room fs K x xs rest (inr m) on = record {
   };
 }
 
-next_goes : (room : ℕ) (f : Frame) (fs : List Frame) (K : Rest) (x : Lexeme) (xs : List Lexeme)
+next_goes : (room : ℕ) (f : Bracket) (fs : List Bracket) (K : Rest) (x : Lexeme) (xs : List Lexeme)
     → Closing (f ∷ fs) K (x ∷ xs) → Inner (by_want want.Next room (f ∷ fs) x.token.kind) K xs
-next_goes room frame.List fs K x xs a =
+next_goes room bracket.List fs K x xs a =
     more_goes room fs K x xs a.middle (more_on a.first) a.second
-next_goes room frame.Typed fs K x xs c =
-    close_goes room frame.Typed fs K x want.Next xs
-    (ap (by_want want.Next room (frame.Typed ∷ fs)) c.0) c.1
+next_goes room bracket.Typed fs K x xs c =
+    close_goes room bracket.Typed fs K x want.Next xs
+    (ap (by_want want.Next room (bracket.Typed ∷ fs)) c.0) c.1
 
-comma_came : (f : Frame) (fs : List Frame) (K : Rest) (x : Lexeme) (xs : List Lexeme) (nest : Nest)
-    → comma (f ∷ fs) x.token.kind ≡ Some nest → Wanted nest.frames nest.want K xs
+comma_came : (f : Bracket) (fs : List Bracket) (K : Rest) (x : Lexeme) (xs : List Lexeme) (nest : Nest)
+    → comma (f ∷ fs) x.token.kind ≡ Some nest → Wanted nest.brackets nest.want K xs
     → Closing (f ∷ fs) K (x ∷ xs)
-comma_came frame.List fs K x xs nest is goes =
+comma_came bracket.List fs K x xs nest is goes =
     let both = cond_some (is_comma x.token.kind) _ nest is in
     let a : After Parameter (After MoreParameters (Closing fs K)) xs =
-    subst (λ n. Wanted n.frames n.want K xs) (sym both.1) goes in
+    subst (λ n. Wanted n.brackets n.want K xs) (sym both.1) goes in
     record {
       middle = a.second.middle;
       first = more (comma_says x.token.kind both.0) a.first a.second.first;
       second = a.second.second;
     }
-comma_came frame.Typed fs K x xs nest is goes = absurd (none-some nest is)
+comma_came bracket.Typed fs K x xs nest is goes = absurd (none-some nest is)
 
-closed_came : (f : Frame) (fs : List Frame) (K : Rest) (x : Lexeme) (xs : List Lexeme)
+closed_came : (f : Bracket) (fs : List Bracket) (K : Rest) (x : Lexeme) (xs : List Lexeme)
     → IsMark mark.Close x → Closing fs K xs → Closing (f ∷ fs) K (x ∷ xs)
-closed_came frame.List fs K x xs c on = record { middle = xs; first = last c; second = on }
-closed_came frame.Typed fs K x xs c on = (c, on)
+closed_came bracket.List fs K x xs c on = record { middle = xs; first = last c; second = on }
+closed_came bracket.Typed fs K x xs c on = (c, on)
 
 -- one lexeme where a parameter list is open
 
 -- the grammar goes on, and so does the machine
-pub inside_goes : (room : ℕ) (f : Frame) (fs : List Frame) (w : Want) (K : Rest) (x : Lexeme)
+pub nest_goes : (room : ℕ) (f : Bracket) (fs : List Bracket) (w : Want) (K : Rest) (x : Lexeme)
     (xs : List Lexeme) → RoomFor w room (length (f ∷ fs)) x xs → Wanted (f ∷ fs) w K (x ∷ xs)
     → Inner (by_want w room (f ∷ fs) x.token.kind) K xs
-inside_goes room f fs want.First K x xs fits goes = first_goes room f fs K x xs fits goes
-inside_goes room f fs want.Parameter K x xs fits goes = parameter_goes room f fs K x xs fits goes
-inside_goes room f fs want.Next K x xs fits goes = next_goes room f fs K x xs goes
-inside_goes room f fs want.Open K x xs fits goes = record {
-  nest = record { frames = f ∷ fs; want = want.Parameter };
+nest_goes room f fs want.First K x xs fits goes = first_goes room f fs K x xs fits goes
+nest_goes room f fs want.Parameter K x xs fits goes = parameter_goes room f fs K x xs fits goes
+nest_goes room f fs want.Next K x xs fits goes = next_goes room f fs K x xs goes
+nest_goes room f fs want.Open K x xs fits goes = record {
+  nest = record { brackets = f ∷ fs; want = want.Parameter };
   is = ap (by_want want.Open room (f ∷ fs)) goes.0;
   goes = goes.1;
 }
 
 -- the machine goes on, and so does the grammar
-pub inside_came : (room : ℕ) (f : Frame) (fs : List Frame) (w : Want) (K : Rest) (x : Lexeme)
+pub nest_came : (room : ℕ) (f : Bracket) (fs : List Bracket) (w : Want) (K : Rest) (x : Lexeme)
     (xs : List Lexeme) (nest : Nest) → by_want w room (f ∷ fs) x.token.kind ≡ Some nest
-    → Wanted nest.frames nest.want K xs → Wanted (f ∷ fs) w K (x ∷ xs)
-inside_came room f fs want.First K x xs nest is goes =
+    → Wanted nest.brackets nest.want K xs → Wanted (f ∷ fs) w K (x ∷ xs)
+nest_came room f fs want.First K x xs nest is goes =
     ⊎_elim
     (λ c. inl (close_says x.token.kind c.0, close_came room f fs K x nest xs c.1 goes))
     (λ p. inr (parameter_came room f fs K x xs nest p.1 goes))
     (choice (is_close x.token.kind) _ _ nest is)
-inside_came room f fs want.Parameter K x xs nest is goes =
+nest_came room f fs want.Parameter K x xs nest is goes =
     parameter_came room f fs K x xs nest is goes
-inside_came room f fs want.Next K x xs nest is goes =
+nest_came room f fs want.Next K x xs nest is goes =
     ⊎_elim
     (λ c. closed_came f fs K x xs (close_says x.token.kind c.0)
     (close_came room f fs K x nest xs c.1 goes))
     (λ p. comma_came f fs K x xs nest p.1 goes)
     (choice (is_close x.token.kind) _ _ nest is)
-inside_came room f fs want.Open K x xs nest is goes =
+nest_came room f fs want.Open K x xs nest is goes =
     let both = cond_some (is_open x.token.kind) _ nest is in
-    (open_says x.token.kind both.0, subst (λ n. Wanted n.frames n.want K xs) (sym both.1) goes)
+    (open_says x.token.kind both.0, subst (λ n. Wanted n.brackets n.want K xs) (sym both.1) goes)
 
 -- a parameter list begins
 
 pub list_goes : (K : Rest) (x : Lexeme) (xs : List Lexeme) → After ParameterList K (x ∷ xs)
-    → IsMark mark.Open x × Wanted (frame.List ∷ []) want.First K xs
+    → IsMark mark.Open x × Wanted (bracket.List ∷ []) want.First K xs
 list_goes K x xs a =
     let on = list_on a.first in (on.0, in_list_goes K xs a.middle a.second on.1)
 
 pub list_came : (K : Rest) (x : Lexeme) (xs : List Lexeme) → IsMark mark.Open x
-    → Wanted (frame.List ∷ []) want.First K xs → After ParameterList K (x ∷ xs)
+    → Wanted (bracket.List ∷ []) want.First K xs → After ParameterList K (x ∷ xs)
 list_came K x xs o goes = in_list_came K x xs o goes

@@ -3,10 +3,10 @@ use Rattle.std.proofs.Common.{◌≡◌, ◌↔◌, ℕ, List, Result, Ok, Err, 
 use Rattle.sb_step.specs.declared.error.StepError.{StepError}
 use Rattle.sb_step.specs.declared.error.StepError.TheVariants as step_error
 use Rattle.sb_step.specs.declared.file.Record.{Record}
+use Rattle.sb_step.specs.Faults.{FilesAreUnique, FaultsAreUnique, NoFileHasAFault}
 use Rattle.sb_step.specs.Numbers.{AreApart, IsLeastTwice}
 use Rattle.sb_step.specs.Indexed.{Indexed}
-use Rattle.sb_step.specs.Answers.{IsAnswer, IsInTime}
-use Rattle.sb_step.proofs.OneFileOrOneFault.{files_are_unique, faults_are_unique, no_file_has_a_fault}
+use Rattle.sb_step.specs.IndexAnswers.{IsAnswer, IsInTime}
 
 -- no number is the least of those used twice where none is used twice
 apart_or_doubled : (n : ℕ) (instances : List (ℕ × Record)) → AreApart instances
@@ -21,47 +21,48 @@ least_is_one m n instances one two =
     let above = two.least m one.twice in
     omega (arith, below, above)
 
--- two answers are one
-pub answers_are_one : (input : List ℕ) (a b : Result Indexed StepError) → IsInTime a → IsInTime b
-    → IsAnswer input a → IsAnswer input b → a ≡ b
-answers_are_one input (Ok f) (Ok g) early soon one two =
-    let file = files_are_unique input f.file g.file one.file two.file in
-    let inputs = one.input_is ∙ sym two.input_is in
-    ap Ok (λ i. record { input = inputs i; file = file i })
-answers_are_one input (Ok f) (Err (step_error.Syntax k)) early soon one two =
-    absurd (no_file_has_a_fault input f.file k one.file two)
-answers_are_one input (Ok f) (Err (step_error.Duplicate n)) early soon one two =
-    absurd (apart_or_doubled n f.file.instances one.apart
-    (subst (λ g. IsLeastTwice n g.instances)
-    (files_are_unique input two.file f.file two.is one.file) two.least))
-answers_are_one input (Ok f) (Err step_error.NoMemory) early soon one two = absurd (soon refl)
-answers_are_one input (Err (step_error.Syntax k)) (Ok f) early soon one two =
-    absurd (no_file_has_a_fault input f.file k two.file one)
-answers_are_one input (Err (step_error.Syntax k)) (Err (step_error.Syntax l)) early soon one two =
-    ap (λ p. Err (step_error.Syntax p)) (faults_are_unique input k l one two)
-answers_are_one input (Err (step_error.Syntax k)) (Err (step_error.Duplicate n)) early soon one
-    two = absurd (no_file_has_a_fault input two.file k two.is one)
-answers_are_one input (Err (step_error.Syntax k)) (Err step_error.NoMemory) early soon one two =
-    absurd (soon refl)
-answers_are_one input (Err (step_error.Duplicate n)) (Ok f) early soon one two =
-    absurd (apart_or_doubled n f.file.instances two.apart
-    (subst (λ g. IsLeastTwice n g.instances)
-    (files_are_unique input one.file f.file one.is two.file) one.least))
-answers_are_one input (Err (step_error.Duplicate n)) (Err (step_error.Syntax k)) early soon one
-    two = absurd (no_file_has_a_fault input one.file k one.is two)
-answers_are_one input (Err (step_error.Duplicate n)) (Err (step_error.Duplicate m)) early soon one
-    two =
-    ap (λ p. Err (step_error.Duplicate p)) (least_is_one n m two.file.instances
-    (subst (λ g. IsLeastTwice n g.instances)
-    (files_are_unique input one.file two.file one.is two.is) one.least) two.least)
-answers_are_one input (Err (step_error.Duplicate n)) (Err step_error.NoMemory) early soon one two =
-    absurd (soon refl)
-answers_are_one input (Err step_error.NoMemory) b early soon one two = absurd (early refl)
+module _ (one_file : FilesAreUnique) (one_fault : FaultsAreUnique) (not_both : NoFileHasAFault) where
+  -- two answers are one
+  pub answers_are_one : (input : List ℕ) (a b : Result Indexed StepError) → IsInTime a → IsInTime b
+      → IsAnswer input a → IsAnswer input b → a ≡ b
+  answers_are_one input (Ok f) (Ok g) early soon one two =
+      let file = one_file input f.file g.file one.file two.file in
+      let inputs = one.input_is ∙ sym two.input_is in
+      ap Ok (λ i. record { input = inputs i; file = file i })
+  answers_are_one input (Ok f) (Err (step_error.Syntax k)) early soon one two =
+      absurd (not_both input f.file k one.file two)
+  answers_are_one input (Ok f) (Err (step_error.Duplicate n)) early soon one two =
+      absurd (apart_or_doubled n f.file.instances one.apart
+      (subst (λ g. IsLeastTwice n g.instances)
+      (one_file input two.file f.file two.is one.file) two.least))
+  answers_are_one input (Ok f) (Err step_error.NoMemory) early soon one two = absurd (soon refl)
+  answers_are_one input (Err (step_error.Syntax k)) (Ok f) early soon one two =
+      absurd (not_both input f.file k two.file one)
+  answers_are_one input (Err (step_error.Syntax k)) (Err (step_error.Syntax l)) early soon one two =
+      ap (λ p. Err (step_error.Syntax p)) (one_fault input k l one two)
+  answers_are_one input (Err (step_error.Syntax k)) (Err (step_error.Duplicate n)) early soon one
+      two = absurd (not_both input two.file k two.is one)
+  answers_are_one input (Err (step_error.Syntax k)) (Err step_error.NoMemory) early soon one two =
+      absurd (soon refl)
+  answers_are_one input (Err (step_error.Duplicate n)) (Ok f) early soon one two =
+      absurd (apart_or_doubled n f.file.instances two.apart
+      (subst (λ g. IsLeastTwice n g.instances)
+      (one_file input one.file f.file one.is two.file) one.least))
+  answers_are_one input (Err (step_error.Duplicate n)) (Err (step_error.Syntax k)) early soon one
+      two = absurd (not_both input one.file k one.is two)
+  answers_are_one input (Err (step_error.Duplicate n)) (Err (step_error.Duplicate m)) early soon one
+      two =
+      ap (λ p. Err (step_error.Duplicate p)) (least_is_one n m two.file.instances
+      (subst (λ g. IsLeastTwice n g.instances)
+      (one_file input one.file two.file one.is two.is) one.least) two.least)
+  answers_are_one input (Err (step_error.Duplicate n)) (Err step_error.NoMemory) early soon one two =
+      absurd (soon refl)
+  answers_are_one input (Err step_error.NoMemory) b early soon one two = absurd (early refl)
 
--- an answer that is so is the answer exactly where it is so
-pub answer_pins : (input : List ℕ) (a b : Result Indexed StepError) → IsAnswer input a
-    → IsInTime a → IsInTime b → (a ≡ b) ↔ IsAnswer input b
-answer_pins input a b is early soon = (
-  λ same. subst (IsAnswer input) same is,
-  λ also. answers_are_one input a b early soon is also,
-)
+  -- an answer that is so is the answer exactly where it is so
+  pub answer_pins : (input : List ℕ) (a b : Result Indexed StepError) → IsAnswer input a
+      → IsInTime a → IsInTime b → (a ≡ b) ↔ IsAnswer input b
+  answer_pins input a b is early soon = (
+    λ same. subst (IsAnswer input) same is,
+    λ also. answers_are_one input a b early soon is also,
+  )

@@ -5,12 +5,11 @@ use Rattle.std.proofs.lemmas.Option.{same_Some, none-some}
 use Rattle.std.proofs.lemmas.List.{map-append}
 use Rattle.sb_lex.specs.declared.kinds.Token.{Token}
 use Rattle.sb_lex.specs.declared.kinds.BadToken.{BadToken}
-use Rattle.sb_lex.specs.Tokens.{AreTokens}
-use Rattle.sb_lex.proofs.OneListOfTokens.{each_input_has_tokens, tokens_are_unique}
+use Rattle.sb_lex.specs.Tokens.{AreTokens, EachInputHasTokens, TokensAreUnique}
 use Rattle.sb_step.specs.Lexemes.{Lexeme, lexeme_at, lexemes}
 use Rattle.sb_step.specs.Grammar.{File, IsText}
 use Rattle.sb_step.specs.Faults.{IsFile, BeginsText, place_of, GoesOn, IsFaultAt, EachIsFileOrFault, FilesAreUnique, FaultsAreUnique, NoFileHasAFault}
-use Rattle.sb_step.specs.Steps.{State, Turn, step, start, end_of, file_of, Ran, and_ran, run}
+use Rattle.sb_step.specs.Turns.{State, Turn, next_turn, start, end_of, file_of, Ran, and_ran, run}
 use Rattle.sb_step.proofs.TextsEnd.{text_ends, ends_text, begun_runs, runs_begin}
 
 -- runs, one lexeme further
@@ -18,53 +17,53 @@ use Rattle.sb_step.proofs.TextsEnd.{text_ends, ends_text, begun_runs, runs_begin
 -- a run, and one lexeme more
 abbrev pub ran_then : Ran → Option Turn → Option Ran
 ran_then r None = None
-ran_then r (Some t) = Some (record { state = t.state; founds = r.founds ++ t.found ∷ [] })
+ran_then r (Some t) = Some (record { state = t.state; events = r.events ++ t.event ∷ [] })
 
-abbrev pub then_step : Option Ran → Lexeme → Option Ran
-then_step None x = None
-then_step (Some r) x = ran_then r (step r.state x)
+abbrev pub then_turn : Option Ran → Lexeme → Option Ran
+then_turn None x = None
+then_turn (Some r) x = ran_then r (next_turn r.state x)
 
-one_step : (s : State) (x : Lexeme) (found : Option Turn)
-    → option_and_then (λ t. and_ran t.found (Some (record { state = t.state; founds = [] }))) found
-    ≡ ran_then (record { state = s; founds = [] }) found
-one_step s x None = refl
-one_step s x (Some t) = refl
+one_turn : (s : State) (x : Lexeme) (found : Option Turn)
+    → option_and_then (λ t. and_ran t.event (Some (record { state = t.state; events = [] }))) found
+    ≡ ran_then (record { state = s; events = [] }) found
+one_turn s x None = refl
+one_turn s x (Some t) = refl
 
-and_then_step : (t : Turn) (found : Option Ran) (x : Lexeme)
-    → and_ran t.found (then_step found x) ≡ then_step (and_ran t.found found) x
-and_then_step t None x = refl
-and_then_step t (Some r) x = and_ran_then (step r.state x)
+and_then_turn : (t : Turn) (found : Option Ran) (x : Lexeme)
+    → and_ran t.event (then_turn found x) ≡ then_turn (and_ran t.event found) x
+and_then_turn t None x = refl
+and_then_turn t (Some r) x = and_ran_then (next_turn r.state x)
   where
-    and_ran_then : (found : Option Turn) → and_ran t.found (ran_then r found)
-        ≡ ran_then (record { state = r.state; founds = t.found ∷ r.founds }) found
+    and_ran_then : (found : Option Turn) → and_ran t.event (ran_then r found)
+        ≡ ran_then (record { state = r.state; events = t.event ∷ r.events }) found
     and_ran_then None = refl
     and_ran_then (Some u) = refl
 
 pub run-more : (ts : List Lexeme) (s : State) (x : Lexeme) → run (ts ++ x ∷ []) s
-    ≡ then_step (run ts s) x
-run-more [] s x = one_step s x (step s x)
-run-more (t ∷ ts) s x = by (λ u. run-more ts u x) (step s t)
+    ≡ then_turn (run ts s) x
+run-more [] s x = one_turn s x (next_turn s x)
+run-more (t ∷ ts) s x = by (λ u. run-more ts u x) (next_turn s t)
   where
-    by : ((u : State) → run (ts ++ x ∷ []) u ≡ then_step (run ts u) x) → (found : Option Turn)
-        → option_and_then (λ u. and_ran u.found (run (ts ++ x ∷ []) u.state)) found
-        ≡ then_step (option_and_then (λ u. and_ran u.found (run ts u.state)) found) x
+    by : ((u : State) → run (ts ++ x ∷ []) u ≡ then_turn (run ts u) x) → (found : Option Turn)
+        → option_and_then (λ u. and_ran u.event (run (ts ++ x ∷ []) u.state)) found
+        ≡ then_turn (option_and_then (λ u. and_ran u.event (run ts u.state)) found) x
     by later None = refl
-    by later (Some u) = ap (and_ran u.found) (later u.state) ∙ and_then_step u (run ts u.state) x
+    by later (Some u) = ap (and_ran u.event) (later u.state) ∙ and_then_turn u (run ts u.state) x
 
 -- where the machine stops, no text goes on
 pub stops : (ts : List Lexeme) (ran : Ran) (x : Lexeme) → run ts start ≡ Some ran
-    → step ran.state x ≡ None → BeginsText (ts ++ x ∷ []) → ⊥
+    → next_turn ran.state x ≡ None → BeginsText (ts ++ x ∷ []) → ⊥
 stops ts ran x is none begins =
     let r = begun_runs (ts ++ x ∷ []) begins in
-    none-some r.0 (sym (run-more ts start x ∙ ap (λ o. then_step o x) is
+    none-some r.0 (sym (run-more ts start x ∙ ap (λ o. then_turn o x) is
     ∙ ap (ran_then ran) none) ∙ r.1)
 
 -- where it goes on, some text does
 pub goes_on : (ts : List Lexeme) (ran : Ran) (x : Lexeme) (turn : Turn) → run ts start ≡ Some ran
-    → step ran.state x ≡ Some turn → run (ts ++ x ∷ []) start
-    ≡ Some (record { state = turn.state; founds = ran.founds ++ turn.found ∷ [] })
+    → next_turn ran.state x ≡ Some turn → run (ts ++ x ∷ []) start
+    ≡ Some (record { state = turn.state; events = ran.events ++ turn.event ∷ [] })
 goes_on ts ran x turn is on =
-    run-more ts start x ∙ ap (λ o. then_step o x) is ∙ ap (ran_then ran) on
+    run-more ts start x ∙ ap (λ o. then_turn o x) is ∙ ap (ran_then ran) on
 
 -- where it has not come to its end, no text has ended
 pub no_end : (ts : List Lexeme) (ran : Ran) → run ts start ≡ Some ran → end_of ran.state ≡ None
@@ -115,7 +114,7 @@ decide input before [] None ran are is = at_end (end_of ran.state) refl
       },
     )
     at_end (Some k) ends = inl (
-      file_of ran.founds k,
+      file_of ran.events k,
       record {
         tokens = before;
         are = subst (λ ts. AreTokens input ts None) (append-nil before) are;
@@ -125,10 +124,10 @@ decide input before [] None ran are is = at_end (end_of ran.state) refl
 decide input before (t ∷ after) bad ran are is =
     at_token (λ r reads. decide input (before ++ t ∷ []) after bad r
     (subst (λ ts. AreTokens input ts bad) (sym (append_assoc before (t ∷ []) after)) are) reads)
-    (step ran.state (lexeme_at input t)) refl
+    (next_turn ran.state (lexeme_at input t)) refl
   where
     at_token : ((r : Ran) → run (lexemes input (before ++ t ∷ [])) start ≡ Some r
-        → FileOrFault input) → (found : Option Turn) → step ran.state (lexeme_at input t) ≡ found
+        → FileOrFault input) → (found : Option Turn) → next_turn ran.state (lexeme_at input t) ≡ found
         → FileOrFault input
     at_token further None none = inr (
       t.start,
@@ -143,29 +142,29 @@ decide input before (t ∷ after) bad ran are is =
       },
     )
     at_token further (Some turn) on =
-        further (record { state = turn.state; founds = ran.founds ++ turn.found ∷ [] })
+        further (record { state = turn.state; events = ran.events ++ turn.event ∷ [] })
         (ap (λ l. run l start) (lexemes-more input before t)
         ∙ goes_on (lexemes input before) ran (lexeme_at input t) turn is on)
 
 -- each input is a file or has a fault
-pub each_is_file_or_fault : EachIsFileOrFault
-each_is_file_or_fault input =
-    let h = each_input_has_tokens input in
-    decide input [] h.0 h.1 (record { state = start; founds = [] }) h.2 refl
+pub each_is_file_or_fault : EachInputHasTokens → EachIsFileOrFault
+each_is_file_or_fault has_tokens input =
+    let h = has_tokens input in
+    decide input [] h.0 h.1 (record { state = start; events = [] }) h.2 refl
 
 -- there is one
 
 -- an input is one file at most
-pub files_are_unique : FilesAreUnique
-files_are_unique input file other is also =
-    let same = tokens_are_unique input is.tokens also.tokens None None is.are also.are in
+pub files_are_unique : TokensAreUnique → FilesAreUnique
+files_are_unique one_list input file other is also =
+    let same = one_list input is.tokens also.tokens None None is.are also.are in
     let e = text_ends (lexemes input is.tokens) file is.text in
     let o = text_ends (lexemes input is.tokens) other
     (subst (λ ts. IsText (lexemes input ts) other) (sym same.0) also.text) in
     let ran : e.ran ≡ o.ran = same_Some e.ran o.ran (sym e.is ∙ o.is) in
     let place : e.place ≡ o.place =
     same_Some e.place o.place (sym e.ends ∙ ap (λ r. end_of r.state) ran ∙ o.ends) in
-    e.whole ∙ ap₂ (λ r k. file_of r.founds k) ran place ∙ sym o.whole
+    e.whole ∙ ap₂ (λ r k. file_of r.events k) ran place ∙ sym o.whole
 
 -- one list ends where another goes on
 pub record GoesFurther (front back longer : List Token) : Type 0 where
@@ -236,9 +235,9 @@ no_earlier input before after longer bad refused begins g =
     (shorter input before longer g.next g.middle g.joined begins)
 
 -- an input has one fault at most
-pub faults_are_unique : FaultsAreUnique
-faults_are_unique input place other one two =
-    let tokens = tokens_are_unique input (one.before ++ one.after) (two.before ++ two.after)
+pub faults_are_unique : TokensAreUnique → FaultsAreUnique
+faults_are_unique one_list input place other one two =
+    let tokens = one_list input (one.before ++ one.after) (two.before ++ two.after)
     one.bad two.bad one.are two.are in
     by (cuts one.before one.after two.before two.after tokens.0) tokens.1
   where
@@ -265,9 +264,9 @@ goes_to_end input before (t ∷ after) bad tokens file joined none text =
     })
 
 -- and not both
-pub no_file_has_a_fault : NoFileHasAFault
-no_file_has_a_fault input file place is fault =
-    let same = tokens_are_unique input (fault.before ++ fault.after) is.tokens fault.bad None
+pub no_file_has_a_fault : TokensAreUnique → NoFileHasAFault
+no_file_has_a_fault one_list input file place is fault =
+    let same = one_list input (fault.before ++ fault.after) is.tokens fault.bad None
     fault.are is.are in
     fault.refused (goes_to_end input fault.before fault.after fault.bad is.tokens file same.0
     same.1 is.text)

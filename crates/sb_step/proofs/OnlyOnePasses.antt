@@ -7,7 +7,7 @@ use Rattle.std.proofs.Math.Seq.{drop-cons}
 use Rattle.std.proofs.lemmas.Bool.{false≢true, cases_Bool}
 use Rattle.std.proofs.lemmas.List.Elements.{filter-append}
 use Rattle.std.proofs.lemmas.Option.{same_Some, none-some}
-use Rattle.sb_step.specs.SchemaSteps.{only_of}
+use Rattle.sb_step.specs.SchemaReading.{only_of}
 
 -- the first item of what is left passes
 filter-first : {A : Type 0} (p : A → Bool) (x : A) (xs : List A) → p x ≡ true

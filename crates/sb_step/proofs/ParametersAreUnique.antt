@@ -1,6 +1,7 @@
 -- A parameter list says one list of parameters, and ends at one place.
 use Rattle.std.proofs.Common.{◌≡◌, ℕ, ◌⊎◌, List, [], ◌∷◌, refl, sym, ap, ◌∙◌, subst, inl, inr}
 use Rattle.std.proofs.lemmas.Bool.{false≢true}
+use Rattle.sb_lex.specs.Bytes as byte
 use Rattle.sb_lex.specs.declared.kinds.Kind.{Kind}
 use Rattle.sb_lex.specs.declared.kinds.Kind.TheVariants as kind
 use Rattle.sb_lex.specs.declared.kinds.Mark.TheVariants as mark
@@ -8,14 +9,15 @@ use Rattle.sb_step.specs.declared.param.Param.{Param}
 use Rattle.sb_step.specs.declared.param.Param.TheVariants as param
 use Rattle.sb_step.specs.Lexemes.{Lexeme, is_value, is_close, IsMark, IsKeyword}
 use Rattle.sb_step.specs.Rules.{One}
-use Rattle.sb_step.specs.Steps.{is_keyword}
+use Rattle.sb_step.specs.Turns.{is_keyword}
 use Rattle.sb_step.specs.Parameters.{doubled, Encloses, Says, IsParameter, AreParameters, AreFurther}
 use Rattle.sb_step.specs.Parameters.IsParameter.{value, list, typed}
 use Rattle.sb_step.specs.Parameters.AreParameters.{empty, some}
 use Rattle.sb_step.specs.Parameters.AreFurther.{last, more}
-use Rattle.sb_step.specs.Reads.{AreInList}
+use Rattle.sb_step.specs.Readers.{AreInList}
 use Rattle.sb_step.proofs.DoubledApostrophes.{doubled_once}
-use Rattle.sb_step.proofs.InsidesOfTokens.{inside_of, inside_between}
+use Rattle.theory_bytes.specs.Insides.{inside_of}
+use Rattle.theory_bytes.proofs.InsidesAreBetween.{inside-between}
 use Rattle.sb_step.proofs.ListsByLexeme.{parameter_on, parameter_closes_none}
 use Rattle.sb_step.proofs.SaidIsParameter.{says_value, said_parameter}
 
@@ -24,18 +26,18 @@ use Rattle.sb_step.proofs.SaidIsParameter.{says_value, said_parameter}
 same_inside : (q : ℕ) (s u text : List ℕ) → Encloses (q ∷ []) s text → Encloses (q ∷ []) u text
     → s ≡ u
 same_inside q s u text a b =
-    sym (inside_between q q s) ∙ ap inside_of (sym a.whole ∙ b.whole) ∙ inside_between q q u
+    sym (inside-between q q s) ∙ ap inside_of (sym a.whole ∙ b.whole) ∙ inside-between q q u
 
 says_once : (k : Kind) (text : List ℕ) (p q : Param) → Says k text p → Says k text q → p ≡ q
 says_once kind.Integer text p q a b = a ∙ sym b
 says_once kind.Real text p q a b = a ∙ sym b
 says_once kind.Str text p q a b =
-    let same = same_inside 39 (doubled a.0) (doubled b.0) text a.1 b.1 in
+    let same = same_inside byte.apostrophe (doubled a.0) (doubled b.0) text a.1 b.1 in
     a.2 ∙ ap (λ s. param.Str s) (doubled_once a.0 b.0 same) ∙ sym b.2
 says_once kind.Enumeration text p q a b =
-    a.2 ∙ ap (λ s. param.Enumeration s) (same_inside 46 a.0 b.0 text a.1 b.1) ∙ sym b.2
+    a.2 ∙ ap (λ s. param.Enumeration s) (same_inside byte.point a.0 b.0 text a.1 b.1) ∙ sym b.2
 says_once kind.Binary text p q a b =
-    a.2 ∙ ap (λ s. param.Binary s) (same_inside 34 a.0 b.0 text a.1 b.1) ∙ sym b.2
+    a.2 ∙ ap (λ s. param.Binary s) (same_inside byte.quote a.0 b.0 text a.1 b.1) ∙ sym b.2
 says_once (kind.Name n) text p q a b = a ∙ sym b
 says_once (kind.Mark mark.Dollar) text p q a b = a ∙ sym b
 says_once (kind.Mark mark.Asterisk) text p q a b = a ∙ sym b

@@ -7,12 +7,12 @@ use Rattle.sb_lex.specs.Tokens.{IsToken, Reading}
 use Rattle.sb_step.specs.declared.param.Param.{Param}
 use Rattle.sb_step.specs.declared.param.Param.TheVariants as param
 use Rattle.sb_step.specs.Lexemes.{Lexeme, lexeme_at, is_value, is_open, IsMark, IsKeyword}
-use Rattle.sb_step.specs.Steps.{is_keyword}
+use Rattle.sb_step.specs.Turns.{is_keyword}
 use Rattle.sb_step.specs.Grammar.{Parameter}
 use Rattle.sb_step.specs.Parameters.{Says, IsParameter, AreParameters}
 use Rattle.sb_step.specs.Parameters.IsParameter.{value, list, typed}
 use Rattle.sb_step.specs.Parameters.AreParameters.{empty, some}
-use Rattle.sb_step.specs.Reads.{HasNext, ReadsToken, Stands, Awaits, Reads, Behind, InList, AreInList}
+use Rattle.sb_step.specs.Readers.{HasNext, ReadsToken, AreAhead, Awaits, CarriesOver, Behind, InList, AreInList}
 use Rattle.sb_step.proofs.ListsByLexeme.{ParameterOn, TypedOn, parameter_on}
 use Rattle.sb_step.proofs.ParametersAreRead.{passes, input_stays, goes_further, stays_within, parameter_has_next, first_has_next}
 
@@ -30,7 +30,7 @@ pub list_awaited : (at : Reading) (x : Lexeme) → IsMark mark.Open x
 list_awaited at x o w = record {
   xs = w.xs;
   rest = w.rest;
-  stands = w.stands;
+  ahead = w.ahead;
   is = list_on_mark x w.xs w.rest o (parameter_on w.is);
 }
 
@@ -42,12 +42,12 @@ said_behind x [] (y ∷ xs) rest o says =
 said_behind x (p ∷ ps) xs rest o says = some o says.first says.second
 
 pub reads_list : (a b : Reading) (x : Lexeme) (ps : List Param) → IsMark mark.Open x
-    → Reads InList (AreInList ps) a b
-    → Reads (Behind x Parameter) (Behind x (IsParameter (param.List ps))) a b
+    → CarriesOver InList (AreInList ps) a b
+    → CarriesOver (Behind x Parameter) (Behind x (IsParameter (param.List ps))) a b
 reads_list a b x ps o r = record {
   onward = r.onward;
-  leads = λ xs rest stands p.
-      let l = r.leads xs rest stands (list_on_mark x xs rest o (parameter_on p)) in
+  leads = λ xs rest ahead p.
+      let l = r.leads xs rest ahead (list_on_mark x xs rest o (parameter_on p)) in
       (list (said_behind x ps xs rest o l.0), l.1);
 }
 
@@ -65,20 +65,20 @@ is_a_value at x no_keyword no_list w = by_case (parameter_on w.is)
 
 pub reads_value : (at : Reading) (x : Lexeme) (p : Param) → is_keyword x.token.kind ≡ false
     → is_open x.token.kind ≡ false → Says x.token.kind x.text p
-    → Reads (Behind x Parameter) (Behind x (IsParameter p)) at at
+    → CarriesOver (Behind x Parameter) (Behind x (IsParameter p)) at at
 reads_value at x p no_keyword no_list says = record {
   onward = record { input_is = refl; place = omega arith };
-  leads = λ xs rest stands q. by_case xs rest stands (parameter_on q);
+  leads = λ xs rest ahead q. by_case xs rest ahead (parameter_on q);
 }
   where
-    by_case : (xs rest : List Lexeme) → Stands at xs → ParameterOn rest (x ∷ xs)
-        → IsParameter p (x ∷ xs) rest × Stands at rest
-    by_case xs rest stands (inl v) = (
+    by_case : (xs rest : List Lexeme) → AreAhead at xs → ParameterOn rest (x ∷ xs)
+        → IsParameter p (x ∷ xs) rest × AreAhead at rest
+    by_case xs rest ahead (inl v) = (
       subst (λ r. IsParameter p (x ∷ xs) r) (sym v.1) (value says),
-      subst (Stands at) (sym v.1) stands,
+      subst (AreAhead at) (sym v.1) ahead,
     )
-    by_case xs rest stands (inr (inl l)) = absurd (false≢true (sym no_list ∙ ap is_open l.0))
-    by_case xs rest stands (inr (inr t)) =
+    by_case xs rest ahead (inr (inl l)) = absurd (false≢true (sym no_list ∙ ap is_open l.0))
+    by_case xs rest ahead (inr (inr t)) =
         absurd (false≢true (sym no_keyword ∙ ap is_keyword t.0))
 
 -- a keyword with its parameter
@@ -97,40 +97,40 @@ pub record AtInner (now : Reading) (z : Lexeme) (xs rest : List Lexeme) : Type 0
   pub close_mark : Lexeme
   pub are : xs ≡ open_mark ∷ z ∷ zs
   pub opens : IsMark mark.Open open_mark
-  pub stands : Stands now zs
+  pub ahead : AreAhead now zs
   pub inner : Parameter (z ∷ zs) (close_mark ∷ rest)
   pub closes : IsMark mark.Close close_mark
 
 module _ (bytes : List ℕ) (x : Lexeme) (keyword : IsKeyword x) (a : Reading)
     (input : a.input ≡ bytes) where
   pub opens_next : Awaits (Behind x Parameter) a → HasNext a
-  opens_next w = by_first w.xs w.stands (typed_on_keyword x w.xs w.rest keyword (parameter_on w.is))
+  opens_next w = by_first w.xs w.ahead (typed_on_keyword x w.xs w.rest keyword (parameter_on w.is))
     where
-      by_first : (xs : List Lexeme) → Stands a xs → TypedOn w.rest xs → HasNext a
-      by_first [] stands t = absurd t
-      by_first (y ∷ ys) stands t = (y.token, stands.0)
+      by_first : (xs : List Lexeme) → AreAhead a xs → TypedOn w.rest xs → HasNext a
+      by_first [] ahead t = absurd t
+      by_first (y ∷ ys) ahead t = (y.token, ahead.0)
 
   module _ (b : Reading) (t1 : Token) (opens : ReadsToken a b t1) where
     pub first_next : Awaits (Behind x Parameter) a → HasNext b
     first_next w =
-        by_first w.xs w.stands (typed_on_keyword x w.xs w.rest keyword (parameter_on w.is))
+        by_first w.xs w.ahead (typed_on_keyword x w.xs w.rest keyword (parameter_on w.is))
       where
-        by_first : (xs : List Lexeme) → Stands a xs → TypedOn w.rest xs → HasNext b
-        by_first [] stands t = absurd t
-        by_first (y ∷ ys) stands t =
-            let p = passes a b t1 opens y ys stands in
-            parameter_has_next b ys (t.close_mark ∷ w.rest) p.stands t.inner
+        by_first : (xs : List Lexeme) → AreAhead a xs → TypedOn w.rest xs → HasNext b
+        by_first [] ahead t = absurd t
+        by_first (y ∷ ys) ahead t =
+            let p = passes a b t1 opens y ys ahead in
+            parameter_has_next b ys (t.close_mark ∷ w.rest) p.ahead t.inner
 
     module _ (c : Reading) (t2 : Token) (first : ReadsToken b c t2) where
       b_is : b.input ≡ bytes
       b_is = input_stays a b t1 opens ∙ input
 
       at_first : (y : Lexeme) (ys rest : List Lexeme) (close_mark : Lexeme)
-          → IsMark mark.Open y → Stands b ys → Parameter ys (close_mark ∷ rest)
+          → IsMark mark.Open y → AreAhead b ys → Parameter ys (close_mark ∷ rest)
           → IsMark mark.Close close_mark → AtInner c (lexeme_at bytes t2) (y ∷ ys) rest
-      at_first y [] rest close_mark o stands p e = absurd (parameter_on p)
-      at_first y (u ∷ us) rest close_mark o stands p e =
-          let q = passes b c t2 first u us stands in
+      at_first y [] rest close_mark o ahead p e = absurd (parameter_on p)
+      at_first y (u ∷ us) rest close_mark o ahead p e =
+          let q = passes b c t2 first u us ahead in
           let same : u ≡ lexeme_at bytes t2 = q.is ∙ ap (λ i. lexeme_at i t2) b_is in
           record {
             open_mark = y;
@@ -138,22 +138,22 @@ module _ (bytes : List ℕ) (x : Lexeme) (keyword : IsKeyword x) (a : Reading)
             close_mark = close_mark;
             are = ap (λ v. y ∷ v ∷ us) same;
             opens = o;
-            stands = q.stands;
+            ahead = q.ahead;
             inner = subst (λ v. Parameter (v ∷ us) (close_mark ∷ rest)) same p;
             closes = e;
           }
 
-      at_inner_by : (xs rest : List Lexeme) → Stands a xs → TypedOn rest xs
+      at_inner_by : (xs rest : List Lexeme) → AreAhead a xs → TypedOn rest xs
           → AtInner c (lexeme_at bytes t2) xs rest
-      at_inner_by [] rest stands t = absurd t
-      at_inner_by (y ∷ ys) rest stands t =
-          let p = passes a b t1 opens y ys stands in
-          at_first y ys rest t.close_mark t.opens p.stands t.inner t.closes
+      at_inner_by [] rest ahead t = absurd t
+      at_inner_by (y ∷ ys) rest ahead t =
+          let p = passes a b t1 opens y ys ahead in
+          at_first y ys rest t.close_mark t.opens p.ahead t.inner t.closes
 
-      at_inner : (xs rest : List Lexeme) → Stands a xs → Parameter (x ∷ xs) rest
+      at_inner : (xs rest : List Lexeme) → AreAhead a xs → Parameter (x ∷ xs) rest
           → AtInner c (lexeme_at bytes t2) xs rest
-      at_inner xs rest stands p =
-          at_inner_by xs rest stands (typed_on_keyword x xs rest keyword (parameter_on p))
+      at_inner xs rest ahead p =
+          at_inner_by xs rest ahead (typed_on_keyword x xs rest keyword (parameter_on p))
 
       pub c_is : c.input ≡ bytes
       c_is = input_stays b c t2 first ∙ b_is
@@ -170,30 +170,30 @@ module _ (bytes : List ℕ) (x : Lexeme) (keyword : IsKeyword x) (a : Reading)
       pub inner_awaited : Awaits (Behind x Parameter) a
           → Awaits (Behind (lexeme_at bytes t2) Parameter) c
       inner_awaited w =
-          let i = at_inner w.xs w.rest w.stands w.is in
-          record { xs = i.zs; rest = i.close_mark ∷ w.rest; stands = i.stands; is = i.inner }
+          let i = at_inner w.xs w.rest w.ahead w.is in
+          record { xs = i.zs; rest = i.close_mark ∷ w.rest; ahead = i.ahead; is = i.inner }
 
-      module _ (d : Reading) (p : Param) (inner : Reads (Behind (lexeme_at bytes t2) Parameter)
+      module _ (d : Reading) (p : Param) (inner : CarriesOver (Behind (lexeme_at bytes t2) Parameter)
           (Behind (lexeme_at bytes t2) (IsParameter p)) c d) where
         pub closes_next : Awaits (Behind x Parameter) a → HasNext d
         closes_next w =
-            let i = at_inner w.xs w.rest w.stands w.is in
-            let l = inner.leads i.zs (i.close_mark ∷ w.rest) i.stands i.inner in
+            let i = at_inner w.xs w.rest w.ahead w.is in
+            let l = inner.leads i.zs (i.close_mark ∷ w.rest) i.ahead i.inner in
             first_has_next d i.close_mark w.rest l.1
 
         module _ (e : Reading) (t3 : Token) (closes : ReadsToken d e t3) where
-          typed_leads : (xs rest : List Lexeme) → Stands a xs → Parameter (x ∷ xs) rest
-              → IsParameter (param.Typed x.text p) (x ∷ xs) rest × Stands e rest
-          typed_leads xs rest stands q =
-              let i = at_inner xs rest stands q in
-              let l = inner.leads i.zs (i.close_mark ∷ rest) i.stands i.inner in (
+          typed_leads : (xs rest : List Lexeme) → AreAhead a xs → Parameter (x ∷ xs) rest
+              → IsParameter (param.Typed x.text p) (x ∷ xs) rest × AreAhead e rest
+          typed_leads xs rest ahead q =
+              let i = at_inner xs rest ahead q in
+              let l = inner.leads i.zs (i.close_mark ∷ rest) i.ahead i.inner in (
                 subst (λ ys. IsParameter (param.Typed x.text p) (x ∷ ys) rest) (sym i.are)
                     (typed keyword i.opens l.0 i.closes),
-                (passes d e t3 closes i.close_mark rest l.1).stands,
+                (passes d e t3 closes i.close_mark rest l.1).ahead,
               )
 
           pub reads_typed : (name : List ℕ) (boxed : Param) → name ≡ x.text → boxed ≡ p
-              → Reads (Behind x Parameter) (Behind x (IsParameter (param.Typed name boxed))) a e
+              → CarriesOver (Behind x Parameter) (Behind x (IsParameter (param.Typed name boxed))) a e
           reads_typed name boxed named same = record {
             onward = record {
               input_is =
@@ -206,8 +206,8 @@ module _ (bytes : List ℕ) (x : Lexeme) (keyword : IsKeyword x) (a : Reading)
                 goes_further d e t3 closes,
               );
             };
-            leads = λ xs rest stands q.
-                let l = typed_leads xs rest stands q in (
+            leads = λ xs rest ahead q.
+                let l = typed_leads xs rest ahead q in (
                   subst (λ r. IsParameter r (x ∷ xs) rest)
                       (λ i. param.Typed (sym named i) (sym same i)) l.0,
                   l.1,

@@ -3,6 +3,7 @@ use Rattle.std.proofs.Common.{◌≡◌, ℕ, true, List, [], ◌∷◌, ◌++�
 use Rattle.std.specs.Prelude.{codes, nat_eq}
 use Rattle.std.specs.Map.{lookup}
 use Rattle.std.proofs.lemmas.Bool.{false≢true}
+use Rattle.theory_bytes.specs.Insides.{inside_of}
 use Rattle.sb_lex.specs.declared.kinds.Kind.{Kind}
 use Rattle.sb_lex.specs.declared.kinds.Kind.TheVariants as kind
 use Rattle.sb_lex.specs.declared.kinds.Mark.TheVariants as mark
@@ -23,12 +24,12 @@ use Rattle.sb_step.specs.Parameters.{Encloses, Says, IsParameter, AreParameters,
 use Rattle.sb_step.specs.Parameters.IsParameter.{value, list, typed}
 use Rattle.sb_step.specs.Parameters.AreParameters.{empty, some}
 use Rattle.sb_step.specs.Parameters.AreFurther.{last, more}
-use Rattle.sb_step.specs.Reads.{behind, Stands}
-use Rattle.sb_step.specs.Held.{reader_at}
+use Rattle.sb_step.specs.Readers.{behind, AreAhead}
+use Rattle.sb_step.specs.ParamsAnswers.{reader_at}
 use Rattle.sb_step.proofs.DoubledApostrophes.{inside_is_written}
-use Rattle.sb_step.proofs.InsidesOfTokens.{inside_of, text_of, string_is, enumeration_is, binary_is}
+use Rattle.sb_step.proofs.InsidesOfTokens.{text_of, string_is, enumeration_is, binary_is}
 use Rattle.sb_step.proofs.RecordsStand.{instance_stands, reads_on}
-use Rattle.sb_step.proofs.ParametersOfAnInstance.{stands_before, holds_said}
+use Rattle.sb_step.proofs.ParametersOfAnInstance.{tokens_ahead, holds_said}
 
 -- one token
 
@@ -58,85 +59,85 @@ record SomeParameter (xs rest : List Lexeme) : Type 0 where
   p : Param
   is : IsParameter p xs rest
   at : Reading
-  stands : Stands at rest
+  ahead : AreAhead at rest
 
 pub record SomeParameters (xs rest : List Lexeme) : Type 0 where
   pub ps : List Param
   pub are : AreParameters ps xs rest
   pub at : Reading
-  pub stands : Stands at rest
+  pub ahead : AreAhead at rest
 
 record SomeFurther (xs rest : List Lexeme) : Type 0 where
   ps : List Param
   are : AreFurther ps xs rest
   at : Reading
-  stands : Stands at rest
+  ahead : AreAhead at rest
 
 mutual
-  parameter_says : {xs rest : List Lexeme} → Parameter xs rest → (at : Reading) → Stands at xs
+  parameter_says : {xs rest : List Lexeme} → Parameter xs rest → (at : Reading) → AreAhead at xs
       → SomeParameter xs rest
-  parameter_says (one {x = x} v) at stands =
-      let s = value_says at.input x.token stands.0.token x.token.kind refl v in
+  parameter_says (one {x = x} v) at ahead =
+      let s = value_says at.input x.token ahead.0.token x.token.kind refl v in
       record {
         p = s.0;
         is = value
-            (subst (λ text. Says x.token.kind text s.0) (sym (ap (λ y. y.text) stands.1)) s.1);
+            (subst (λ text. Says x.token.kind text s.0) (sym (ap (λ y. y.text) ahead.1)) s.1);
         at = behind at.input x.token;
-        stands = stands.2;
+        ahead = ahead.2;
       }
-  parameter_says (nested l) at stands =
-      let s = list_says l at stands in
-      record { p = param.List s.ps; is = list s.are; at = s.at; stands = s.stands }
-  parameter_says (named {keyword = x} {open_mark = y} {close_mark = z} k o q c) at stands =
-      let s = parameter_says q (behind at.input y.token) stands.2.2 in
+  parameter_says (nested l) at ahead =
+      let s = list_says l at ahead in
+      record { p = param.List s.ps; is = list s.are; at = s.at; ahead = s.ahead }
+  parameter_says (named {keyword = x} {open_mark = y} {close_mark = z} k o q c) at ahead =
+      let s = parameter_says q (behind at.input y.token) ahead.2.2 in
       record {
         p = param.Typed x.text s.p;
         is = typed k o s.is c;
         at = behind s.at.input z.token;
-        stands = s.stands.2;
+        ahead = s.ahead.2;
       }
 
   pub list_says : {xs rest : List Lexeme} → ParameterList xs rest → (at : Reading)
-      → Stands at xs → SomeParameters xs rest
-  list_says (none {close_mark = z} o c) at stands = record {
+      → AreAhead at xs → SomeParameters xs rest
+  list_says (none {close_mark = z} o c) at ahead = record {
     ps = [];
     are = empty o c;
     at = behind at.input z.token;
-    stands = stands.2.2;
+    ahead = ahead.2.2;
   }
-  list_says (few {open_mark = y} o q m) at stands =
-      let s = parameter_says q (behind at.input y.token) stands.2 in
-      let l = further_says m s.at s.stands in
-      record { ps = s.p ∷ l.ps; are = some o s.is l.are; at = l.at; stands = l.stands }
+  list_says (few {open_mark = y} o q m) at ahead =
+      let s = parameter_says q (behind at.input y.token) ahead.2 in
+      let l = further_says m s.at s.ahead in
+      record { ps = s.p ∷ l.ps; are = some o s.is l.are; at = l.at; ahead = l.ahead }
 
   further_says : {xs rest : List Lexeme} → MoreParameters xs rest → (at : Reading)
-      → Stands at xs → SomeFurther xs rest
-  further_says (ends_here {close_mark = z} c) at stands = record {
+      → AreAhead at xs → SomeFurther xs rest
+  further_says (ends_here {close_mark = z} c) at ahead = record {
     ps = [];
     are = last c;
     at = behind at.input z.token;
-    stands = stands.2;
+    ahead = ahead.2;
   }
-  further_says (further {comma = y} c q m) at stands =
-      let s = parameter_says q (behind at.input y.token) stands.2 in
-      let l = further_says m s.at s.stands in
-      record { ps = s.p ∷ l.ps; are = more c s.is l.are; at = l.at; stands = l.stands }
+  further_says (further {comma = y} c q m) at ahead =
+      let s = parameter_says q (behind at.input y.token) ahead.2 in
+      let l = further_says m s.at s.ahead in
+      record { ps = s.p ∷ l.ps; are = more c s.is l.are; at = l.at; ahead = l.ahead }
 
 -- an instance
 
-held_by : (input : List ℕ) (f : File) (is : IsFile input f) (n : ℕ) (r : Record)
+parameters_by : (input : List ℕ) (f : File) (is : IsFile input f) (n : ℕ) (r : Record)
     (found : lookup (nat_eq n) f.instances ≡ Some r) (its : Form) → r.form ≡ its
     → (ps : List Param) × HoldsByForm its input r ps
-held_by input f is n r found (form.Simple end) simple =
+parameters_by input f is n r found (form.Simple end) simple =
     let s = instance_stands input f is (nat_eq n) r found end simple in
     let o = reads_on input r end simple s in
     let said = list_says s.list (reader_at input end)
-    (stands_before input end (s.inside ++ s.semicolon ∷ s.after) o.are) in
+    (tokens_ahead input end (s.inside ++ s.semicolon ∷ s.after) o.are) in
     (said.ps, holds_said input r s said.ps said.are)
-held_by input f is n r found form.Complex complex = ([], refl)
+parameters_by input f is n r found form.Complex complex = ([], refl)
 
 -- each instance of a file has parameters
 pub each_instance_has_parameters : EachInstanceHasParameters
 each_instance_has_parameters indexed n r is found =
-    let h = held_by indexed.input indexed.file is.file n r found r.form refl in
+    let h = parameters_by indexed.input indexed.file is.file n r found r.form refl in
     (h.0, record { record_of = r; found = found; holds = h.1 })

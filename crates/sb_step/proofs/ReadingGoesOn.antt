@@ -1,20 +1,18 @@
 -- What a reading of the tokens so far says of the input.
-use Rattle.std.proofs.Common.{◌≡◌, ℕ, List, [], ◌∷◌, ◌++◌, Option, Some, None, Ok, Err, refl, sym, ap, ◌∙◌, subst, append-nil}
+use Rattle.std.proofs.Common.{◌≡◌, ℕ, List, [], ◌∷◌, ◌++◌, Option, Some, None, Err, refl, sym, ap, ◌∙◌, subst, append-nil}
 use Rattle.sb_lex.specs.declared.kinds.Token.{Token}
 use Rattle.sb_lex.specs.declared.kinds.BadToken.{BadToken}
-use Rattle.sb_lex.specs.Tokens.{IsNext, IsEnd, IsBadFrom, AreTokensFrom, AreTokens}
-use Rattle.sb_lex.proofs.OneAnswer.{answers_agree}
-use Rattle.sb_lex.proofs.OneListOfTokens.{each_input_has_tokens}
+use Rattle.sb_lex.specs.Tokens.{IsNext, IsEnd, IsBadFrom, AreTokensFrom, AreTokens, TokensFollowEachPlace}
 use Rattle.sb_step.specs.declared.error.StepError.{StepError}
 use Rattle.sb_step.specs.declared.error.StepError.TheVariants as step_error
-use Rattle.sb_step.specs.declared.steps.Found.{Found}
+use Rattle.sb_step.specs.declared.states.Event.{Event}
 use Rattle.sb_step.specs.declared.collected.Collected.{Collected}
 use Rattle.sb_step.specs.Lexemes.{lexeme_at, lexemes}
 use Rattle.sb_step.specs.Faults.{IsFile, IsFaultAt}
 use Rattle.sb_step.specs.Numbers.{numbers_of, AreApart, IsGreatest}
-use Rattle.sb_step.specs.Answers.{IsAnswer}
-use Rattle.sb_step.specs.Steps.{State, step, start, end_of, file_of, instances_of, Ran, run}
-use Rattle.sb_step.specs.Kept.{IsDoubled, NumbersAreKept}
+use Rattle.sb_step.specs.IndexAnswers.{IsAnswer}
+use Rattle.sb_step.specs.Turns.{State, next_turn, start, end_of, file_of, instances_of, Ran, run}
+use Rattle.sb_step.specs.StoredInstances.{IsDoubled, NumbersAreStored}
 use Rattle.sb_step.specs.Collects.{AreCollected}
 use Rattle.sb_step.specs.Progress.{TokensTo, Progress, Accepted, Accepts, by_doubled, finished}
 use Rattle.sb_step.proofs.TextsEnd.{ends_text, runs_begin}
@@ -38,49 +36,11 @@ to_more input from to [] t so_far next =
 to_more input from to (u ∷ before) t so_far next =
     (so_far.0, to_more input u.end to before t so_far.1 next)
 
--- there are tokens from the place on
-pub record Later (input : List ℕ) (to : ℕ) : Type 0 where
-  pub after : List Token
-  pub bad : Option BadToken
-  pub are : AreTokensFrom input to after bad
-
-behind_next : (input : List ℕ) (from : ℕ) (t : Token) (tokens : List Token)
-    (bad : Option BadToken) → IsNext input from t → AreTokensFrom input from tokens bad
-    → Later input t.end
-behind_next input from t [] None next are =
-    let same = answers_agree (record { input = input; place = from }) (Ok (Some t)) (Ok None) next
-    are in absurd (cc)
-behind_next input from t [] (Some b) next are =
-    let same = answers_agree (record { input = input; place = from }) (Ok (Some t)) (Err b) next
-    are in absurd (cc)
-behind_next input from t (u ∷ tokens) bad next are =
-    let same = answers_agree (record { input = input; place = from }) (Ok (Some t)) (Ok (Some u))
-    next are.0 in
-    let first : u ≡ t = cc in
-    record {
-      after = tokens;
-      bad = bad;
-      are = subst (λ v. AreTokensFrom input v.end tokens bad) first are.1;
-    }
-
-later_from : (input : List ℕ) (from to : ℕ) (before : List Token) → TokensTo input from before to
-    → Later input from → Later input to
-later_from input from to [] so_far later = subst (Later input) so_far later
-later_from input from to (t ∷ before) so_far later =
-    later_from input t.end to before so_far.1
-    (behind_next input from t later.after later.bad so_far.0 later.are)
-
-tokens_later : (input : List ℕ) (to : ℕ) (before : List Token) → TokensTo input 0 before to
-    → Later input to
-tokens_later input to before so_far =
-    let h = each_input_has_tokens input in
-    later_from input 0 to before so_far (record { after = h.0; bad = h.1; are = h.2 })
-
 -- before the first token
 pub nothing_read : (input : List ℕ) (c : Collected) → AreCollected [] c → Progress input 0 start c
 nothing_read input c empty = record {
   before = [];
-  founds = [];
+  events = [];
   tokens = refl;
   reads = refl;
   collected = empty;
@@ -92,27 +52,26 @@ pub one_more : (input : List ℕ) (place : ℕ) (t : Token) (s u : State) (c d :
     → Accepted s u (lexeme_at input t) c d → Progress input t.end u d
 one_more input place t s u c d p next a = record {
   before = p.before ++ t ∷ [];
-  founds = p.founds ++ a.found ∷ [];
+  events = p.events ++ a.event ∷ [];
   tokens = to_more input 0 place p.before t p.tokens next;
   reads = ap (λ l. run l start) (lexemes-more input p.before t)
-      ∙ goes_on (lexemes input p.before) (record { state = s; founds = p.founds })
-      (lexeme_at input t) (record { state = u; found = a.found }) p.reads a.steps;
-  collected = a.collects p.founds p.collected;
+      ∙ goes_on (lexemes input p.before) (record { state = s; events = p.events })
+      (lexeme_at input t) (record { state = u; event = a.event }) p.reads a.turns;
+  collected = a.collects p.events p.collected;
 }
 
 -- a token was not
-pub fault_at_token : (input : List ℕ) (place : ℕ) (t : Token) (s : State) (c : Collected)
-    → Progress input place s c → IsNext input place t → step s (lexeme_at input t) ≡ None
+pub fault_at_token : TokensFollowEachPlace → (input : List ℕ) (place : ℕ) (t : Token) (s : State) (c : Collected)
+    → Progress input place s c → IsNext input place t → next_turn s (lexeme_at input t) ≡ None
     → IsFaultAt input t.start
-fault_at_token input place t s c p next none =
-    let l = tokens_later input t.end (p.before ++ t ∷ [])
-    (to_more input 0 place p.before t p.tokens next) in
-    let ran : Ran = record { state = s; founds = p.founds } in
+fault_at_token follow input place t s c p next none =
+    let l = follow input t.end next.token.candidate.within in
+    let ran : Ran = record { state = s; events = p.events } in
     record {
       before = p.before;
-      after = t ∷ l.after;
-      bad = l.bad;
-      are = to_all input 0 place p.before (t ∷ l.after) l.bad p.tokens (next, l.are);
+      after = t ∷ l.0;
+      bad = l.1;
+      are = to_all input 0 place p.before (t ∷ l.0) l.1 p.tokens (next, l.2);
       at = refl;
       begins = runs_begin (lexemes input p.before) ran p.reads;
       refused = stops (lexemes input p.before) ran (lexeme_at input t) p.reads none;
@@ -127,15 +86,15 @@ fault_at_bad input place bad s c p is = record {
   bad = Some (record { 0 = bad });
   are = to_all input 0 place p.before [] (Some (record { 0 = bad })) p.tokens is;
   at = refl;
-  begins = runs_begin (lexemes input p.before) (record { state = s; founds = p.founds }) p.reads;
+  begins = runs_begin (lexemes input p.before) (record { state = s; events = p.events }) p.reads;
   refused = λ goes. goes;
 }
 
 -- the end of the input
 
 -- the file of what was found, whose instances are in the map only if their numbers are apart
-kept_answers : (input : List ℕ) (c : Collected) (founds : List Found) (k : ℕ) (doubled : Option ℕ)
-    → c.instances.doubled ≡ doubled → AreCollected founds c → IsFile input (file_of founds k)
+stored_answers : (input : List ℕ) (c : Collected) (events : List Event) (k : ℕ) (doubled : Option ℕ)
+    → c.instances.doubled ≡ doubled → AreCollected events c → IsFile input (file_of events k)
     → IsAnswer input (by_doubled doubled (record {
       input = input;
       file = record {
@@ -144,13 +103,13 @@ kept_answers : (input : List ℕ) (c : Collected) (founds : List Found) (k : ℕ
         data_end = k;
       };
     }))
-kept_answers input c founds k (Some n) was are is = record {
-  file = file_of founds k;
+stored_answers input c events k (Some n) was are is = record {
+  file = file_of events k;
   is = is;
-  least = subst (λ d. IsDoubled d (instances_of founds)) was are.instances.doubled;
+  least = subst (λ d. IsDoubled d (instances_of events)) was are.instances.doubled;
 }
-kept_answers input c founds k None was are is =
-    let apart = subst (λ d. IsDoubled d (instances_of founds)) was are.instances.doubled in
+stored_answers input c events k None was are is =
+    let apart = subst (λ d. IsDoubled d (instances_of events)) was are.instances.doubled in
     let entries = are.instances.entries was in
     record {
       input_is = refl;
@@ -172,21 +131,21 @@ end_answers input place s c None none p ends = record {
   bad = None;
   are = to_all input 0 place p.before [] None p.tokens ends;
   at = refl;
-  begins = runs_begin (lexemes input p.before) (record { state = s; founds = p.founds }) p.reads;
-  refused = no_end (lexemes input p.before) (record { state = s; founds = p.founds }) p.reads none;
+  begins = runs_begin (lexemes input p.before) (record { state = s; events = p.events }) p.reads;
+  refused = no_end (lexemes input p.before) (record { state = s; events = p.events }) p.reads none;
 }
 end_answers input place s c (Some k) ended p ends =
-    kept_answers input c p.founds k c.instances.doubled refl p.collected (record {
+    stored_answers input c p.events k c.instances.doubled refl p.collected (record {
       tokens = p.before;
       are = subst (λ ts. AreTokens input ts None) (append-nil p.before)
           (to_all input 0 place p.before [] None p.tokens ends);
-      text = ends_text (lexemes input p.before) (record { state = s; founds = p.founds }) k
+      text = ends_text (lexemes input p.before) (record { state = s; events = p.events }) k
           p.reads ended;
     })
 
 -- the numbers are those of the map, as long as none was used twice
 pub numbers_at_end : (input : List ℕ) (place : ℕ) (s : State) (c : Collected)
-    → Progress input place s c → NumbersAreKept c.instances
+    → Progress input place s c → NumbersAreStored c.instances
 numbers_at_end input place s c p =
     let kept = p.collected.instances in
     record {
@@ -202,10 +161,10 @@ pub answer_at_end : (input : List ℕ) (place : ℕ) (s : State) (c : Collected)
 answer_at_end input place s c p ends = end_answers input place s c (end_of s) refl p ends
 
 -- what is answered where a token was not accepted
-pub error_answers : (input : List ℕ) (place : ℕ) (t : Token) (s u : State) (c d : Collected)
+pub error_answers : TokensFollowEachPlace → (input : List ℕ) (place : ℕ) (t : Token) (s u : State) (c d : Collected)
     (error : StepError) → Progress input place s c → IsNext input place t
     → Accepts s u (lexeme_at input t) c d (Err error) → IsAnswer input (Err error)
-error_answers input place t s u c d (step_error.Syntax k) p next says =
-    subst (IsFaultAt input) (sym says.0) (fault_at_token input place t s c p next says.1)
-error_answers input place t s u c d (step_error.Duplicate n) p next says = absurd says
-error_answers input place t s u c d step_error.NoMemory p next says = tt
+error_answers follow input place t s u c d (step_error.Syntax k) p next says =
+    subst (IsFaultAt input) (sym says.0) (fault_at_token follow input place t s c p next says.1)
+error_answers follow input place t s u c d (step_error.Duplicate n) p next says = absurd says
+error_answers follow input place t s u c d step_error.NoMemory p next says = tt

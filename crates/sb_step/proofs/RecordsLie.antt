@@ -6,7 +6,6 @@ use Rattle.std.proofs.lemmas.Option.{same_Some, none-some}
 use Rattle.sb_lex.specs.declared.kinds.Token.{Token}
 use Rattle.sb_lex.specs.declared.kinds.BadToken.{BadToken}
 use Rattle.sb_lex.specs.Tokens.{AreTokensFrom}
-use Rattle.sb_lex.proofs.TokensHaveBytes.{next_lies}
 use Rattle.sb_step.specs.declared.file.Form.TheVariants as form
 use Rattle.sb_step.specs.declared.file.Record.{Record}
 use Rattle.sb_step.specs.Lexemes.{Lexeme, lexemes}
@@ -15,7 +14,7 @@ use Rattle.sb_step.specs.Grammar.{File, IsSimple, IsRecord, IsInstance, BeginsSi
 use Rattle.sb_step.specs.Faults.{IsFile}
 use Rattle.sb_step.specs.Spans.{RecordLies}
 use Rattle.sb_step.proofs.KindsSay.{choice}
-use Rattle.sb_step.proofs.BehindRules.{Passes, Parts, one_leaves, simple_leaves, instance_leaves, each_gives, parts_of}
+use Rattle.sb_step.proofs.BehindRules.{HoldsOfTails, Parts, one_leaves, simple_leaves, instance_leaves, each_gives, parts_of}
 
 -- the lexeme's token lies in an input so long
 pub record LexemeLies (size : ℕ) (x : Lexeme) : Type 0 where
@@ -26,7 +25,7 @@ abbrev pub AllLie : ℕ → List Lexeme → Type 0
 AllLie size xs = AllByRecursion (LexemeLies size) xs
 
 module _ (size : ℕ) where
-  tail_lies : Passes (AllLie size)
+  tail_lies : HoldsOfTails (AllLie size)
   tail_lies x xs lie = lie.1
 
   -- the keyword of an instance's record lies there
@@ -73,8 +72,8 @@ tokens_lie : (input : List ℕ) (from : ℕ) (tokens : List Token) (bad : Option
     → AreTokensFrom input from tokens bad → AllLie (length input) (lexemes input tokens)
 tokens_lie input from [] bad are = tt
 tokens_lie input from (t ∷ tokens) bad are =
-    let lies = next_lies (record { input = input; place = from }) t are.0 in (
-      record { ordered = omega (arith, lies.some); within = lies.within },
+    let token = are.0.token.candidate in (
+      record { ordered = token.ordered; within = token.within },
       tokens_lie input t.end tokens bad are.1,
     )
 

@@ -1,12 +1,11 @@
 -- Where a simple record of a file stands among the tokens of its input.
-use Rattle.std.proofs.Common.{◌≡◌, ℕ, ◌≤◌, Bool, List, [], ◌∷◌, ◌++◌, length, Option, Some, None, refl, sym, ap, ◌∙◌, subst, inl, inr, ⊎_elim, append_assoc, arith}
+use Rattle.std.proofs.Common.{◌≡◌, ℕ, ◌≤◌, Bool, List, [], ◌∷◌, ◌++◌, length, Option, Some, None, refl, sym, ap, ◌∙◌, subst, inl, inr, ⊎_elim, append_assoc}
 use Rattle.std.specs.Map.{lookup}
 use Rattle.std.proofs.lemmas.Option.{same_Some, none-some}
 use Rattle.sb_lex.specs.declared.kinds.Mark.TheVariants as mark
 use Rattle.sb_lex.specs.declared.kinds.Token.{Token}
 use Rattle.sb_lex.specs.declared.kinds.BadToken.{BadToken}
 use Rattle.sb_lex.specs.Tokens.{IsNext, AreTokensFrom, AreTokens}
-use Rattle.sb_lex.proofs.TokensHaveBytes.{next_lies}
 use Rattle.sb_step.specs.declared.file.Form.TheVariants as form
 use Rattle.sb_step.specs.declared.file.Record.{Record}
 use Rattle.sb_step.specs.Lexemes.{Lexeme, lexeme_at, lexemes, IsMark}
@@ -15,7 +14,7 @@ use Rattle.sb_step.specs.Grammar.{File, ParameterList, IsSimple, IsRecord, IsIns
 use Rattle.sb_step.specs.Faults.{IsFile}
 use Rattle.sb_step.proofs.KindsSay.{choice}
 use Rattle.sb_step.proofs.OnlyOnePasses.{IsAmong}
-use Rattle.sb_step.proofs.BehindRules.{Passes, one_leaves, list_leaves, simple_leaves, instance_leaves, item_stands, parts_of}
+use Rattle.sb_step.proofs.BehindRules.{HoldsOfTails, one_leaves, list_leaves, simple_leaves, instance_leaves, item_place, parts_of}
 
 -- the lexemes are those of the tokens from some token on
 pub record IsTail (input : List ℕ) (tokens : List Token) (xs : List Lexeme) : Type 0 where
@@ -66,7 +65,7 @@ has_first : (input : List ℕ) (tokens : List Token) (x : Lexeme) (xs : List Lex
     → IsTail input tokens (x ∷ xs) → HasFirst input tokens x xs
 has_first input tokens x xs t = first_of_tail input tokens x xs t.before t.from t.joined t.are
 
-tail_passes : (input : List ℕ) (tokens : List Token) → Passes (IsTail input tokens)
+tail_passes : (input : List ℕ) (tokens : List Token) → HoldsOfTails (IsTail input tokens)
 tail_passes input tokens x xs t =
     let f = has_first input tokens x xs t in
     record {
@@ -131,7 +130,7 @@ entity_stands input f is front back r header =
     let tail = tail_passes input is.tokens in
     let p = parts_of Holds tail f (lexemes input is.tokens) is.text.sections
     (all_stand input is.tokens) in
-    let s = item_stands Holds tail IsSimple (simple_leaves Holds tail) front back r p.header_at
+    let s = item_place Holds tail IsSimple (simple_leaves Holds tail) front back r p.header_at
     p.header_rest
     (subst (λ rs. Each IsSimple rs p.header_at p.header_rest) header p.header)
     p.header_holds in
@@ -183,7 +182,7 @@ instance_stands input f is test r found end simple =
     let p = parts_of Holds tail f (lexemes input is.tokens) is.text.sections
     (all_stand input is.tokens) in
     let a = found_among test f.instances r found in
-    let s = item_stands Holds tail IsInstance (instance_leaves Holds tail) a.1.front a.1.back
+    let s = item_place Holds tail IsInstance (instance_leaves Holds tail) a.1.front a.1.back
     (a.0, r) p.instances_at p.instances_rest
     (subst (λ each. Each IsInstance each p.instances_at p.instances_rest) a.1.joined p.instances)
     p.instances_hold in
@@ -215,12 +214,11 @@ pub reads_on : (input : List ℕ) (r : Record) (end : ℕ) → r.form ≡ form.S
 reads_on input r end simple s =
     let b = tokens_behind input 0 s.before (s.inside ++ s.semicolon ∷ s.after) s.keyword None
     s.are in
-    let lies = next_lies (record { input = input; place = b.0 }) s.keyword b.1 in
     let same : form.Simple s.keyword.end ≡ form.Simple end = sym s.begins.form ∙ simple in
     let ends : s.keyword.end ≡ end = cc in
     record {
       is_end = ends;
-      within = omega (arith, ends, lies.within);
+      within = subst (λ k. k ≤ length input) ends b.1.token.candidate.within;
       are = subst
           (λ k. AreTokensFrom input k (s.inside ++ s.semicolon ∷ s.after) None) ends b.2;
     }

@@ -1,13 +1,11 @@
 -- The text that is read behind the keyword of the one FILE_SCHEMA is the schema of the file.
-use Rattle.std.proofs.Common.{◌≡◌, ℕ, ◌+◌, ◌-◌, ◌≤◌, ◌↔◌, true, List, [], ◌∷◌, ◌++◌, Option, Some, None, length, take, drop, refl, sym, ap, ◌∙◌, subst, ⊎_elim, cond, append_assoc, length-append, arith}
+use Rattle.std.proofs.Common.{◌≡◌, ℕ, ◌+◌, ◌-◌, ◌≤◌, ◌↔◌, true, List, [], ◌∷◌, ◌++◌, Option, Some, None, length, refl, sym, ap, ◌∙◌, subst, ⊎_elim, cond}
 use Rattle.std.specs.Prelude.{◌&&◌, codes, slice_range}
 use Rattle.std.specs.List.{filter}
-use Rattle.std.proofs.Math.Seq.{take-append_seam}
 use Rattle.std.proofs.lemmas.Bool.{false≢true, and_parts, and_from}
-use Rattle.std.proofs.lemmas.List.{drop-drop}
-use Rattle.sb_lex.proofs.OneAnswer.{slice_length}
-use Rattle.std.proofs.lemmas.List.Folds.{drop_split}
+use Rattle.theory_bytes.proofs.InsidesAreBetween.{slice_inside}
 use Rattle.std.proofs.lemmas.Option.{same_Some, none-some}
+use Rattle.sb_lex.specs.Bytes as byte
 use Rattle.sb_lex.specs.declared.kinds.Kind.{Kind}
 use Rattle.sb_lex.specs.declared.kinds.Kind.TheVariants as kind
 use Rattle.sb_lex.specs.declared.kinds.Mark.TheVariants as mark
@@ -21,33 +19,13 @@ use Rattle.sb_step.specs.Rules.{One, ◌⋅◌}
 use Rattle.sb_step.specs.Grammar.{File}
 use Rattle.sb_step.specs.Indexed.{Indexed}
 use Rattle.sb_step.specs.Schema.{is_schema, IsString, OneString, HasOneString, IsSchema, HasNoSchema}
-use Rattle.sb_step.specs.SchemaSteps.{only_of, first_of, behind_first, opens, closes, both_open, both_close, inside_of, inside, text_in}
+use Rattle.sb_step.specs.SchemaReading.{only_of, first_of, behind_first, opens, closes, both_open, both_close, inside_of, inside, text_in}
 use Rattle.sb_step.specs.Faults.{IsFile}
 use Rattle.sb_step.proofs.OnlyOnePasses.{passes_among, only_of-says}
 use Rattle.sb_step.proofs.KindsSay.{open_says, close_says, choice}
 use Rattle.sb_step.proofs.RecordsStand.{entity_stands, tokens_behind, reads_on}
 
 -- between two apostrophes
-
--- what stands between the first byte and the last
-between : (input : List ℕ) (start end : ℕ) (a b : ℕ) (mid : List ℕ) → start ≤ end
-    → end ≤ length input → slice_range input start end ≡ a ∷ (mid ++ b ∷ [])
-    → slice_range input (start + 1) (end - 1) ≡ mid
-between input start end a b mid ordered within is =
-    let rest = drop end input in
-    let behind : drop (start + 1) input ≡ mid ++ (b ∷ rest) =
-    ap (λ k. drop k input) (omega arith) ∙ sym (drop-drop 1 start input)
-    ∙ ap (drop 1) (drop_split input start end ordered ∙ ap (λ l. l ++ rest) is)
-    ∙ append_assoc mid (b ∷ []) rest in
-    let long : end - 1 - (start + 1) ≡ length mid =
-    omega (
-      arith,
-      slice_length input start end ordered within,
-      ap length is,
-      length-append mid (b ∷ []),
-    ) in
-    ap (λ k. take k (drop (start + 1) input)) long ∙ ap (take (length mid)) behind
-    ∙ take-append_seam mid (b ∷ rest)
 
 -- a string's text, as it is read
 string_says : (input : List ℕ) (t : Token) (k : Kind) (text : List ℕ) → IsCandidate input t
@@ -60,7 +38,7 @@ string_says input t kind.Str text c is read =
     s.joined ∙ ap (λ l. l ++ s.back) s.first
     ∙ ap (λ l. codes "'" ++ l) (s.second.joined ∙ ap (λ l. mid ++ l) s.second.second) in
     let same : mid ≡ text =
-    sym (between input t.start t.end 39 39 mid c.ordered c.within whole)
+    sym (slice_inside input t.start t.end byte.apostrophe byte.apostrophe mid c.ordered c.within whole)
     ∙ same_Some (slice_range input (t.start + 1) (t.end - 1)) text read in
     record {
       string = is;
@@ -72,7 +50,7 @@ said_string : (input : List ℕ) (t : Token) (text : List ℕ) → IsCandidate i
     → IsString text (lexeme_at input t) → inside input (Some t) ≡ Some text
 said_string input t text c is =
     ap (λ k. inside_of k t.start t.end input) is.string
-    ∙ ap Some (between input t.start t.end 39 39 text c.ordered c.within is.spelled)
+    ∙ ap Some (slice_inside input t.start t.end byte.apostrophe byte.apostrophe text c.ordered c.within is.spelled)
 
 -- one token of the list
 

@@ -2,7 +2,7 @@
 use Rattle.std.proofs.Common.{ℕ, List, [], ◌∷◌, refl, subst, inl, inr}
 use Rattle.sb_lex.specs.declared.kinds.Mark.TheVariants as mark
 use Rattle.sb_step.specs.declared.file.Record.{Record}
-use Rattle.sb_step.specs.declared.steps.Outside.TheVariants as outside
+use Rattle.sb_step.specs.declared.states.Section.TheVariants as section
 use Rattle.sb_step.specs.Lexemes.{Lexeme, IsKeyword, IsName, IsMark}
 use Rattle.sb_step.specs.Rules.{Rule, One, ◌⋅◌, Many, Each, SomeOf}
 use Rattle.sb_step.specs.Grammar.{File, ParameterList, SemicolonAt, BeginsSimple, BeginsComplex, IsSimple, InnerRecord, IsComplex, IsRecord, IsInstance, Sections}
@@ -216,7 +216,7 @@ some_entities_from (r ∷ later) K xs t =
     record { middle = a.middle; first = a.first; second = a.second }
 
 sections_to : (f : File) (xs : List Lexeme) → After (Sections f) AtEnd xs
-    → Follows outside.Begin f xs
+    → Follows section.Begin f xs
 sections_to f xs a =
     split _ _ AtEnd _ xs (λ x1 a1. split _ _ AtEnd _ x1 (λ x2 a2. split _ _ AtEnd _ x2
     (λ x3 a3. split _ _ AtEnd _ x3
@@ -229,7 +229,7 @@ sections_to f xs a =
     (λ y1 b1. split _ _ AtEnd _ y1 (λ y2 b2. split _ _ AtEnd _ y2 (λ y3 b3. split _ _ AtEnd _ y3
     (λ y4 b4. after_one _ AtEnd y4 b4) b3) b2) b1) a9)) a8) a7) a6) a5) a4)) a3) a2) a1) a
 
-sections_from : (f : File) (xs : List Lexeme) → Follows outside.Begin f xs
+sections_from : (f : File) (xs : List Lexeme) → Follows section.Begin f xs
     → After (Sections f) AtEnd xs
 sections_from f xs a =
     join _ _ AtEnd _ xs (λ x1 a1. join _ _ AtEnd _ x1 (λ x2 a2. join _ _ AtEnd _ x2
@@ -245,12 +245,12 @@ sections_from f xs a =
     (some_entities_from f.header (AtEndOfHeader f.instances f.data_end) x4 a4)) a3) a2) a1) a
 
 -- the sections of the grammar are followed from the beginning
-pub follows_sections : (f : File) (xs : List Lexeme) → Sections f xs [] → Follows outside.Begin f xs
+pub follows_sections : (f : File) (xs : List Lexeme) → Sections f xs [] → Follows section.Begin f xs
 follows_sections f xs s =
     sections_to f xs (record { middle = []; first = s; second = refl })
 
 -- and what is followed is those
-pub sections_followed : (f : File) (xs : List Lexeme) → Follows outside.Begin f xs
+pub sections_followed : (f : File) (xs : List Lexeme) → Follows section.Begin f xs
     → Sections f xs []
 sections_followed f xs g =
     let a = sections_from f xs g in subst (Sections f xs) a.second a.first

@@ -1,23 +1,23 @@
 -- The machine reads the lexemes exactly of what some text begins with, and finds what it describes.
-use Rattle.std.proofs.Common.{◌≡◌, ℕ, suc, ◌+◌, ◌<◌, ◌≤◌, Bool, true, false, cond, List, [], ◌∷◌, ◌++◌, length, Option, Some, None, refl, sym, ap, ◌∙◌, subst, ⊎_elim, arith}
+use Rattle.std.proofs.Common.{◌≡◌, ◌-◌, ℕ, suc, ◌+◌, ◌<◌, ◌≤◌, Bool, true, false, cond, List, [], ◌∷◌, ◌++◌, length, Option, Some, None, refl, sym, ap, ◌∙◌, subst, ⊎_elim, arith}
 use Rattle.std.specs.Prelude.{option_and_then}
 use Rattle.std.proofs.lemmas.Bool.{cases_Bool}
 use Rattle.std.proofs.lemmas.List.Sums.{sum_by-cons}
 use Rattle.std.proofs.lemmas.Option.{same_Some, none-some}
 use Rattle.sb_lex.specs.declared.kinds.Mark.TheVariants as mark
-use Rattle.sb_step.specs.declared.steps.Outside.{Outside}
-use Rattle.sb_step.specs.declared.steps.Frame.{Frame}
-use Rattle.sb_step.specs.declared.steps.Want.{Want}
-use Rattle.sb_step.specs.declared.steps.Want.TheVariants as want
-use Rattle.sb_step.specs.declared.steps.Found.{Found}
-use Rattle.sb_step.specs.declared.steps.Found.TheVariants as found
+use Rattle.sb_step.specs.declared.states.Section.{Section}
+use Rattle.sb_step.specs.declared.states.Bracket.{Bracket}
+use Rattle.sb_step.specs.declared.states.Want.{Want}
+use Rattle.sb_step.specs.declared.states.Want.TheVariants as want
+use Rattle.sb_step.specs.declared.states.Event.{Event}
+use Rattle.sb_step.specs.declared.states.Event.TheVariants as event
 use Rattle.sb_step.specs.Lexemes.{Lexeme, IsKeyword, IsMark, opened, closed}
-use Rattle.sb_step.specs.Grammar.{File, IsText}
-use Rattle.sb_step.specs.Steps.{Nest, by_want, is_complex, room_of, State, Turn, turn_inside, step, start, Ran, and_ran, run}
+use Rattle.sb_step.specs.Grammar.{greatest_depth, File, IsText}
+use Rattle.sb_step.specs.Turns.{Nest, by_want, is_complex, room_of, State, Turn, turn_list, next_turn, start, Ran, and_ran, run}
 use Rattle.sb_step.proofs.Continuations.{Follows, Goes, prepend}
-use Rattle.sb_step.proofs.ListsByLexeme.{OpensNext, RoomFor, inside_goes, inside_came}
-use Rattle.sb_step.proofs.SectionsByLexeme.{outside_goes, outside_came}
-use Rattle.sb_step.proofs.DepthIsCounted.{opens, closes, depth_within, depth_without, depth, Fits, Counts, step_counts}
+use Rattle.sb_step.proofs.ListsByLexeme.{OpensNext, RoomFor, nest_goes, nest_came}
+use Rattle.sb_step.proofs.SectionsByLexeme.{section_goes, section_came}
+use Rattle.sb_step.proofs.DepthIsCounted.{opens, closes, depth_within, depth_without, depth, Fits, Counts, turn_counts}
 use Rattle.sb_step.proofs.SectionsAreFollowed.{follows_sections, sections_followed}
 
 -- depth along a text
@@ -25,7 +25,7 @@ use Rattle.sb_step.proofs.SectionsAreFollowed.{follows_sections, sections_follow
 -- where so many are open, at no place more than 64 are
 abbrev pub Shallow : ℕ → List Lexeme → Type 0
 Shallow d xs = (front back : List Lexeme) → xs ≡ front ++ back → d + opened front ≤ closed front
-    + 64
+    + greatest_depth
 
 opened-more : (x : Lexeme) (xs : List Lexeme) → opened (x ∷ xs) ≡ opens x.token.kind + opened xs
 opened-more x xs = sum_by-cons (λ z. opens z.token.kind) x xs
@@ -36,11 +36,11 @@ closed-more x xs = sum_by-cons (λ z. closes z.token.kind) x xs
 shallow_later : (d e : ℕ) (x : Lexeme) (xs : List Lexeme) → Counts d x.token.kind e
     → Shallow d (x ∷ xs) → Shallow e xs
 shallow_later d e x xs counts shallow front back same =
-    let here : d + opened (x ∷ front) ≤ closed (x ∷ front) + 64 =
+    let here : d + opened (x ∷ front) ≤ closed (x ∷ front) + greatest_depth =
     shallow (x ∷ front) back (ap (λ l. x ∷ l) same) in
     omega (arith, here, counts, opened-more x front, closed-more x front)
 
-shallow_before : (d e : ℕ) (x : Lexeme) (xs : List Lexeme) → d ≤ 64 → Counts d x.token.kind e
+shallow_before : (d e : ℕ) (x : Lexeme) (xs : List Lexeme) → d ≤ greatest_depth → Counts d x.token.kind e
     → Shallow e xs → Shallow d (x ∷ xs)
 shallow_before d e x xs low counts shallow [] back same = omega arith
 shallow_before d e x xs low counts shallow (y ∷ front) back same =
@@ -58,23 +58,23 @@ shallow_before d e x xs low counts shallow (y ∷ front) back same =
     )
 
 -- a text goes on so from the state, and is shallow
-pub record Reads (s : State) (f : File) (xs : List Lexeme) : Type 0 where
+pub record Continues (s : State) (f : File) (xs : List Lexeme) : Type 0 where
   pub goes : Goes s f xs
   pub shallow : Shallow (depth s) xs
 
--- a step of the machine, from which the text goes on
-pub record Stepped (s : State) (x : Lexeme) (f : File) (xs : List Lexeme) : Type 0 where
+-- a turn of the machine, from which the text goes on
+pub record TurnedOn (s : State) (x : Lexeme) (f : File) (xs : List Lexeme) : Type 0 where
   pub turn : Turn
-  pub is : step s x ≡ Some turn
+  pub is : next_turn s x ≡ Some turn
   pub later : File
   pub goes : Goes turn.state later xs
-  pub whole : f ≡ prepend turn.found later
+  pub whole : f ≡ prepend turn.event later
 
 -- a parameter list goes on
-abbrev pub state_at : Outside → List Frame → Want → State
-state_at o fs w = record { outside = o; nest = record { frames = fs; want = w } }
+abbrev pub state_at : Section → List Bracket → Want → State
+state_at o fs w = record { section = o; nest = record { brackets = fs; want = w } }
 
-room_now : (o : Outside) (d : ℕ) (x : Lexeme) (xs : List Lexeme)
+room_now : (o : Section) (d : ℕ) (x : Lexeme) (xs : List Lexeme)
     → Shallow (depth_without o + d) (x ∷ xs) → IsMark mark.Open x → d < room_of o
 room_now o d x xs shallow opening =
     let here = shallow (x ∷ []) xs refl in
@@ -86,7 +86,7 @@ room_now o d x xs shallow opening =
       here,
       one,
       none,
-      ap {B = ℕ} (λ b. cond b 63 64) complex,
+      ap {B = ℕ} (λ b. cond b (greatest_depth - 1) greatest_depth) complex,
       ap {B = ℕ} (λ b. cond b 1 0) complex,
     ))
     (λ simple. omega (
@@ -94,12 +94,12 @@ room_now o d x xs shallow opening =
       here,
       one,
       none,
-      ap {B = ℕ} (λ b. cond b 63 64) simple,
+      ap {B = ℕ} (λ b. cond b (greatest_depth - 1) greatest_depth) simple,
       ap {B = ℕ} (λ b. cond b 1 0) simple,
     ))
     (cases_Bool (is_complex o))
 
-room_next : (o : Outside) (d : ℕ) (x : Lexeme) (xs : List Lexeme)
+room_next : (o : Section) (d : ℕ) (x : Lexeme) (xs : List Lexeme)
     → Shallow (depth_without o + d) (x ∷ xs) → IsKeyword x → OpensNext xs → d < room_of o
 room_next o d x [] shallow keyword opening = absurd opening
 room_next o d x (y ∷ ys) shallow keyword opening =
@@ -116,7 +116,7 @@ room_next o d x (y ∷ ys) shallow keyword opening =
       none_closes,
       one,
       none,
-      ap {B = ℕ} (λ b. cond b 63 64) complex,
+      ap {B = ℕ} (λ b. cond b (greatest_depth - 1) greatest_depth) complex,
       ap {B = ℕ} (λ b. cond b 1 0) complex,
     ))
     (λ simple. omega (
@@ -126,12 +126,12 @@ room_next o d x (y ∷ ys) shallow keyword opening =
       none_closes,
       one,
       none,
-      ap {B = ℕ} (λ b. cond b 63 64) simple,
+      ap {B = ℕ} (λ b. cond b (greatest_depth - 1) greatest_depth) simple,
       ap {B = ℕ} (λ b. cond b 1 0) simple,
     ))
     (cases_Bool (is_complex o))
 
-room_for : (o : Outside) (f : Frame) (fs : List Frame) (w : Want) (x : Lexeme) (xs : List Lexeme)
+room_for : (o : Section) (f : Bracket) (fs : List Bracket) (w : Want) (x : Lexeme) (xs : List Lexeme)
     → Shallow (depth (state_at o (f ∷ fs) w)) (x ∷ xs)
     → RoomFor w (room_of o) (length (f ∷ fs)) x xs
 room_for o f fs want.First x xs shallow = record {
@@ -145,39 +145,39 @@ room_for o f fs want.Parameter x xs shallow = record {
 room_for o f fs want.Next x xs shallow = tt
 room_for o f fs want.Open x xs shallow = tt
 
-step_goes : (o : Outside) (fs : List Frame) (w : Want) (f : File) (x : Lexeme) (xs : List Lexeme)
-    → Reads (state_at o fs w) f (x ∷ xs) → Stepped (state_at o fs w) x f xs
-step_goes o [] w f x xs reads =
-    let t = outside_goes o f x xs reads.goes in
+turn_goes : (o : Section) (fs : List Bracket) (w : Want) (f : File) (x : Lexeme) (xs : List Lexeme)
+    → Continues (state_at o fs w) f (x ∷ xs) → TurnedOn (state_at o fs w) x f xs
+turn_goes o [] w f x xs reads =
+    let t = section_goes o f x xs reads.goes in
     record { turn = t.turn; is = t.is; later = t.later; goes = t.goes; whole = t.whole }
-step_goes o (g ∷ fs) w f x xs reads =
-    let i = inside_goes (room_of o) g fs w (Follows o f) x xs
+turn_goes o (g ∷ fs) w f x xs reads =
+    let i = nest_goes (room_of o) g fs w (Follows o f) x xs
     (room_for o g fs w x xs reads.shallow) reads.goes in
     record {
       turn = record {
-        state = record { outside = o; nest = i.nest };
-        found = found.Nothing;
+        state = record { section = o; nest = i.nest };
+        event = event.Nothing;
       };
-      is = ap (turn_inside o) i.is;
+      is = ap (turn_list o) i.is;
       later = f;
       goes = i.goes;
       whole = refl;
     }
 
 -- where a text goes on with a lexeme, the machine does, and the text goes on from there
-pub record ReadsOn (s : State) (x : Lexeme) (f : File) (xs : List Lexeme) : Type 0 where
+pub record ContinuesWith (s : State) (x : Lexeme) (f : File) (xs : List Lexeme) : Type 0 where
   pub turn : Turn
-  pub is : step s x ≡ Some turn
+  pub is : next_turn s x ≡ Some turn
   pub later : File
-  pub reads : Reads turn.state later xs
+  pub reads : Continues turn.state later xs
   pub fits : Fits turn.state
-  pub whole : f ≡ prepend turn.found later
+  pub whole : f ≡ prepend turn.event later
 
-pub reads_on : (s : State) (f : File) (x : Lexeme) (xs : List Lexeme) → Fits s
-    → Reads s f (x ∷ xs) → ReadsOn s x f xs
-reads_on s f x xs fit reads =
-    let t = step_goes s.outside s.nest.frames s.nest.want f x xs reads in
-    let c = step_counts s x t.turn fit t.is in
+pub continues_with : (s : State) (f : File) (x : Lexeme) (xs : List Lexeme) → Fits s
+    → Continues s f (x ∷ xs) → ContinuesWith s x f xs
+continues_with s f x xs fit reads =
+    let t = turn_goes s.section s.nest.brackets s.nest.want f x xs reads in
+    let c = turn_counts s x t.turn fit t.is in
     record {
       turn = t.turn;
       is = t.is;
@@ -190,45 +190,45 @@ reads_on s f x xs fit reads =
       whole = t.whole;
     }
 
-within_frames : (fs : List Frame) (w : Want) → depth_within fs w ≤ length fs
-within_frames [] w = omega arith
-within_frames (f ∷ fs) want.First = omega arith
-within_frames (f ∷ fs) want.Parameter = omega arith
-within_frames (f ∷ fs) want.Next = omega arith
-within_frames (f ∷ fs) want.Open = omega arith
+within_brackets : (fs : List Bracket) (w : Want) → depth_within fs w ≤ length fs
+within_brackets [] w = omega arith
+within_brackets (f ∷ fs) want.First = omega arith
+within_brackets (f ∷ fs) want.Parameter = omega arith
+within_brackets (f ∷ fs) want.Next = omega arith
+within_brackets (f ∷ fs) want.Open = omega arith
 
-low_by : (complex : Bool) (d n : ℕ) → d ≤ n → n ≤ cond complex 63 64 → cond complex 1 0 + d ≤ 64
+low_by : (complex : Bool) (d n : ℕ) → d ≤ n → n ≤ cond complex (greatest_depth - 1) greatest_depth → cond complex 1 0 + d ≤ greatest_depth
 low_by true d n deep fit = omega arith
 low_by false d n deep fit = omega arith
 
-step_came : (o : Outside) (fs : List Frame) (w : Want) (x : Lexeme) (xs : List Lexeme)
-    (turn : Turn) (later : File) → step (state_at o fs w) x ≡ Some turn
-    → Goes turn.state later xs → Goes (state_at o fs w) (prepend turn.found later) (x ∷ xs)
-step_came o [] w x xs turn later is goes = outside_came o x xs later turn is goes
-step_came o (f ∷ fs) w x xs turn later is goes =
+turn_came : (o : Section) (fs : List Bracket) (w : Want) (x : Lexeme) (xs : List Lexeme)
+    (turn : Turn) (later : File) → next_turn (state_at o fs w) x ≡ Some turn
+    → Goes turn.state later xs → Goes (state_at o fs w) (prepend turn.event later) (x ∷ xs)
+turn_came o [] w x xs turn later is goes = section_came o x xs later turn is goes
+turn_came o (f ∷ fs) w x xs turn later is goes =
     by (by_want w (room_of o) (f ∷ fs) x.token.kind) refl is
   where
     by : (found : Option Nest) → by_want w (room_of o) (f ∷ fs) x.token.kind ≡ found
-        → turn_inside o found ≡ Some turn
-        → Goes (state_at o (f ∷ fs) w) (prepend turn.found later) (x ∷ xs)
+        → turn_list o found ≡ Some turn
+        → Goes (state_at o (f ∷ fs) w) (prepend turn.event later) (x ∷ xs)
     by None was is_turn = absurd (none-some turn is_turn)
     by (Some nest) was is_turn =
         let same = same_Some _ turn is_turn in
         subst (λ t. Goes t.state later xs
-        → Goes (state_at o (f ∷ fs) w) (prepend t.found later) (x ∷ xs)) same
-        (λ on. inside_came (room_of o) f fs w (Follows o later) x xs nest was on) goes
+        → Goes (state_at o (f ∷ fs) w) (prepend t.event later) (x ∷ xs)) same
+        (λ on. nest_came (room_of o) f fs w (Follows o later) x xs nest was on) goes
 
 -- where the machine goes on and a text goes on from there, a text goes on with the lexeme
 pub reads_before : (s : State) (x : Lexeme) (xs : List Lexeme) (turn : Turn) (later : File)
-    → Fits s → step s x ≡ Some turn → Reads turn.state later xs
-    → Reads s (prepend turn.found later) (x ∷ xs)
+    → Fits s → next_turn s x ≡ Some turn → Continues turn.state later xs
+    → Continues s (prepend turn.event later) (x ∷ xs)
 reads_before s x xs turn later fit is reads =
-    let c = step_counts s x turn fit is in
+    let c = turn_counts s x turn fit is in
     record {
-      goes = step_came s.outside s.nest.frames s.nest.want x xs turn later is reads.goes;
+      goes = turn_came s.section s.nest.brackets s.nest.want x xs turn later is reads.goes;
       shallow = shallow_before (depth s) (depth turn.state) x xs
-          (low_by (is_complex s.outside) (depth_within s.nest.frames s.nest.want)
-          (length s.nest.frames) (within_frames s.nest.frames s.nest.want) fit) c.counts
+          (low_by (is_complex s.section) (depth_within s.nest.brackets s.nest.want)
+          (length s.nest.brackets) (within_brackets s.nest.brackets s.nest.want) fit) c.counts
           reads.shallow;
     }
 
@@ -238,14 +238,14 @@ pub start_fits : Fits start
 start_fits = omega arith
 
 -- a text is what is read from the beginning
-pub read_text : (xs : List Lexeme) (f : File) → IsText xs f → Reads start f xs
+pub read_text : (xs : List Lexeme) (f : File) → IsText xs f → Continues start f xs
 read_text xs f text = record {
   goes = follows_sections f xs text.sections;
   shallow = λ front back same.
       let here = text.shallow front back same in omega (arith, here);
 }
 
-pub text_read : (xs : List Lexeme) (f : File) → Reads start f xs → IsText xs f
+pub text_read : (xs : List Lexeme) (f : File) → Continues start f xs → IsText xs f
 text_read xs f reads = record {
   sections = sections_followed f xs reads.goes;
   shallow = λ front back same.
@@ -255,50 +255,50 @@ text_read xs f reads = record {
 -- runs
 
 -- all that was found, before what is still to come
-abbrev pub prepend_all : List Found → File → File
+abbrev pub prepend_all : List Event → File → File
 prepend_all [] f = f
-prepend_all (x ∷ founds) f = prepend x (prepend_all founds f)
+prepend_all (x ∷ events) f = prepend x (prepend_all events f)
 
 -- a run from which the text goes on
 pub record RunsOn (s : State) (ts : List Lexeme) (f : File) (xs : List Lexeme) : Type 0 where
   pub ran : Ran
   pub is : run ts s ≡ Some ran
   pub later : File
-  pub reads : Reads ran.state later xs
-  pub whole : f ≡ prepend_all ran.founds later
+  pub reads : Continues ran.state later xs
+  pub whole : f ≡ prepend_all ran.events later
 
 pub runs_on : (ts : List Lexeme) (s : State) (f : File) (xs : List Lexeme) → Fits s
-    → Reads s f (ts ++ xs) → RunsOn s ts f xs
+    → Continues s f (ts ++ xs) → RunsOn s ts f xs
 runs_on [] s f xs fit reads = record {
-  ran = record { state = s; founds = [] };
+  ran = record { state = s; events = [] };
   is = refl;
   later = f;
   reads = reads;
   whole = refl;
 }
 runs_on (x ∷ ts) s f xs fit reads =
-    let o = reads_on s f x (ts ++ xs) fit reads in
+    let o = continues_with s f x (ts ++ xs) fit reads in
     let r = runs_on ts o.turn.state o.later xs o.fits o.reads in
     record {
-      ran = record { state = r.ran.state; founds = o.turn.found ∷ r.ran.founds };
-      is = ap (option_and_then (λ t. and_ran t.found (run ts t.state))) o.is
-          ∙ ap (and_ran o.turn.found) r.is;
+      ran = record { state = r.ran.state; events = o.turn.event ∷ r.ran.events };
+      is = ap (option_and_then (λ t. and_ran t.event (run ts t.state))) o.is
+          ∙ ap (and_ran o.turn.event) r.is;
       later = r.later;
       reads = r.reads;
-      whole = o.whole ∙ ap (prepend o.turn.found) r.whole;
+      whole = o.whole ∙ ap (prepend o.turn.event) r.whole;
     }
 
 -- a run over one lexeme and others
 pub record RanOn (s : State) (x : Lexeme) (ts : List Lexeme) (ran : Ran) : Type 0 where
   pub turn : Turn
-  pub is : step s x ≡ Some turn
+  pub is : next_turn s x ≡ Some turn
   pub after : Ran
   pub after_is : run ts turn.state ≡ Some after
-  pub whole : ran ≡ record { state = after.state; founds = turn.found ∷ after.founds }
+  pub whole : ran ≡ record { state = after.state; events = turn.event ∷ after.events }
 
 ran_after : (s : State) (x : Lexeme) (ts : List Lexeme) (ran : Ran) (turn : Turn)
-    → step s x ≡ Some turn → (found : Option Ran) → run ts turn.state ≡ found
-    → and_ran turn.found found ≡ Some ran → RanOn s x ts ran
+    → next_turn s x ≡ Some turn → (found : Option Ran) → run ts turn.state ≡ found
+    → and_ran turn.event found ≡ Some ran → RanOn s x ts ran
 ran_after s x ts ran turn is None was whole = absurd (none-some ran whole)
 ran_after s x ts ran turn is (Some after) was whole = record {
   turn = turn;
@@ -309,31 +309,31 @@ ran_after s x ts ran turn is (Some after) was whole = record {
 }
 
 ran_on : (s : State) (x : Lexeme) (ts : List Lexeme) (ran : Ran) (found : Option Turn)
-    → step s x ≡ found
-    → option_and_then (λ t. and_ran t.found (run ts t.state)) found ≡ Some ran
+    → next_turn s x ≡ found
+    → option_and_then (λ t. and_ran t.event (run ts t.state)) found ≡ Some ran
     → RanOn s x ts ran
 ran_on s x ts ran None is whole = absurd (none-some ran whole)
 ran_on s x ts ran (Some turn) is whole =
     ran_after s x ts ran turn is (run ts turn.state) refl whole
 
 pub runs_before : (ts : List Lexeme) (s : State) (xs : List Lexeme) (ran : Ran) (later : File)
-    → Fits s → run ts s ≡ Some ran → Reads ran.state later xs
-    → Reads s (prepend_all ran.founds later) (ts ++ xs)
+    → Fits s → run ts s ≡ Some ran → Continues ran.state later xs
+    → Continues s (prepend_all ran.events later) (ts ++ xs)
 runs_before [] s xs ran later fit is reads =
-    subst (λ r. Reads r.state later xs → Reads s (prepend_all r.founds later) xs)
+    subst (λ r. Continues r.state later xs → Continues s (prepend_all r.events later) xs)
     (same_Some _ ran is) (λ on. on) reads
 runs_before (x ∷ ts) s xs ran later fit is reads =
-    let o = ran_on s x ts ran (step s x) refl is in
-    subst (λ r. Reads r.state later xs → Reads s (prepend_all r.founds later) (x ∷ ts ++ xs))
+    let o = ran_on s x ts ran (next_turn s x) refl is in
+    subst (λ r. Continues r.state later xs → Continues s (prepend_all r.events later) (x ∷ ts ++ xs))
     (sym o.whole)
-    (λ on. reads_before s x (ts ++ xs) o.turn (prepend_all o.after.founds later) fit o.is
-    (runs_before ts o.turn.state xs o.after later (step_counts s x o.turn fit o.is).fits
+    (λ on. reads_before s x (ts ++ xs) o.turn (prepend_all o.after.events later) fit o.is
+    (runs_before ts o.turn.state xs o.after later (turn_counts s x o.turn fit o.is).fits
     o.after_is on)) reads
 
 pub run_fits : (ts : List Lexeme) (s : State) (ran : Ran) → Fits s → run ts s ≡ Some ran
     → Fits ran.state
 run_fits [] s ran fit is = subst (λ r. Fits r.state) (same_Some _ ran is) fit
 run_fits (x ∷ ts) s ran fit is =
-    let o = ran_on s x ts ran (step s x) refl is in
+    let o = ran_on s x ts ran (next_turn s x) refl is in
     subst (λ r. Fits r.state) (sym o.whole)
-    (run_fits ts o.turn.state o.after (step_counts s x o.turn fit o.is).fits o.after_is)
+    (run_fits ts o.turn.state o.after (turn_counts s x o.turn fit o.is).fits o.after_is)

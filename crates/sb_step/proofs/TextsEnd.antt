@@ -3,24 +3,24 @@ use Rattle.std.proofs.Common.{◌≡◌, ℕ, ◌≤◌, List, [], ◌∷◌, �
 use Rattle.std.proofs.lemmas.Option.{same_Some}
 use Rattle.sb_lex.specs.declared.kinds.Mark.TheVariants as mark
 use Rattle.sb_step.specs.declared.file.Record.{Record}
-use Rattle.sb_step.specs.declared.steps.Span.{Span}
-use Rattle.sb_step.specs.declared.steps.Part.{Part}
-use Rattle.sb_step.specs.declared.steps.Outside.{Outside}
-use Rattle.sb_step.specs.declared.steps.Outside.TheVariants as outside
-use Rattle.sb_step.specs.declared.steps.Frame.{Frame}
-use Rattle.sb_step.specs.declared.steps.Frame.TheVariants as frame
-use Rattle.sb_step.specs.declared.steps.Want.{Want}
-use Rattle.sb_step.specs.declared.steps.Want.TheVariants as want
-use Rattle.sb_step.specs.declared.steps.Found.{Found}
-use Rattle.sb_step.specs.declared.steps.Found.TheVariants as found
+use Rattle.sb_step.specs.declared.states.Span.{Span}
+use Rattle.sb_step.specs.declared.states.Part.{Part}
+use Rattle.sb_step.specs.declared.states.Section.{Section}
+use Rattle.sb_step.specs.declared.states.Section.TheVariants as section
+use Rattle.sb_step.specs.declared.states.Bracket.{Bracket}
+use Rattle.sb_step.specs.declared.states.Bracket.TheVariants as bracket
+use Rattle.sb_step.specs.declared.states.Want.{Want}
+use Rattle.sb_step.specs.declared.states.Want.TheVariants as want
+use Rattle.sb_step.specs.declared.states.Event.{Event}
+use Rattle.sb_step.specs.declared.states.Event.TheVariants as event
 use Rattle.sb_step.specs.Lexemes.{Lexeme, IsMark}
-use Rattle.sb_step.specs.Grammar.{File, IsText, ParameterList}
+use Rattle.sb_step.specs.Grammar.{greatest_depth, File, IsText, ParameterList}
 use Rattle.sb_step.specs.Faults.{BeginsText}
-use Rattle.sb_step.specs.Steps.{start, end_at, end_of, file_of, Ran, run}
+use Rattle.sb_step.specs.Turns.{start, end_at, end_of, file_of, Ran, run}
 use Rattle.sb_step.proofs.Continuations.{Rest, Then, After, Closing, Wanted, no_more, AtEntities, AtFirstEntity, AtInstances, AtEndOfHeader, AtRecordEnd, AtNextRecord, AtBody, AtEquals, AtFirstRecord, AtSimpleList, AtInnerList, EntityFrom, NamedFrom, PartFrom, Follows, prepend}
 use Rattle.sb_step.proofs.ListsByLexeme.{list_on, parameter_on, more_on}
 use Rattle.sb_step.proofs.SectionsByLexeme.{many_on}
-use Rattle.sb_step.proofs.TextsAreRead.{Shallow, Reads, read_text, text_read, start_fits, prepend_all, runs_on, runs_before, run_fits}
+use Rattle.sb_step.proofs.TextsAreRead.{Shallow, Continues, read_text, text_read, start_fits, prepend_all, runs_on, runs_before, run_fits}
 use Rattle.sb_step.proofs.SomeTextGoesOn.{some_text_goes_on}
 
 -- where nothing follows
@@ -66,76 +66,76 @@ next_record_none r L a =
     subst (Then (IsMark mark.Close) (AtRecordEnd r L)) same a.second
 
 -- a state at which a text has ended
-pub record Ended (o : Outside) (fs : List Frame) (f : File) : Type 0 where
+pub record Ended (o : Section) (fs : List Bracket) (f : File) : Type 0 where
   pub place : ℕ
   pub is : end_at o fs ≡ Some place
   pub whole : f ≡ no_more place
 
-outside_ended : (o : Outside) (f : File) → Follows o f [] → Ended o [] f
-outside_ended outside.Begin f g = absurd g
-outside_ended outside.BeginSemicolon f g = absurd g
-outside_ended outside.Header f g = absurd g
-outside_ended outside.HeaderSemicolon f g = absurd g
-outside_ended outside.FirstEntity f g =
+section_ended : (o : Section) (f : File) → Follows o f [] → Ended o [] f
+section_ended section.Begin f g = absurd g
+section_ended section.BeginSemicolon f g = absurd g
+section_ended section.Header f g = absurd g
+section_ended section.HeaderSemicolon f g = absurd g
+section_ended section.FirstEntity f g =
     absurd (first_entity_none f.header (AtEndOfHeader f.instances f.data_end) g)
-outside_ended outside.Entities f g = absurd (entities_none f.header f.instances f.data_end g)
-outside_ended (outside.EntityOrEnd s) f (inl g) =
+section_ended section.Entities f g = absurd (entities_none f.header f.instances f.data_end g)
+section_ended (section.EntityOrEnd s) f (inl g) =
     absurd (entity_none s AtSimpleList f.header (AtEndOfHeader f.instances f.data_end)
     (λ r L a. list_none (AtRecordEnd r L) a) g)
-outside_ended (outside.EntityOrEnd s) f (inr g) = absurd g.1
-outside_ended (outside.EntityOpen s) f g =
+section_ended (section.EntityOrEnd s) f (inr g) = absurd g.1
+section_ended (section.EntityOpen s) f g =
     absurd (entity_none s AtSimpleList f.header (AtEndOfHeader f.instances f.data_end)
     (λ r L a. list_none (AtRecordEnd r L) a) g)
-outside_ended (outside.EntityEnd s) f g =
+section_ended (section.EntityEnd s) f g =
     absurd (entity_none s AtRecordEnd f.header (AtEndOfHeader f.instances f.data_end)
     (λ r L a. a) g)
-outside_ended outside.Data f g = absurd g.1
-outside_ended outside.DataSemicolon f g = absurd g.1
-outside_ended outside.Instances f g = absurd (instances_none f.instances f.data_end g.1)
-outside_ended (outside.Equals n) f g =
+section_ended section.Data f g = absurd g.1
+section_ended section.DataSemicolon f g = absurd g.1
+section_ended section.Instances f g = absurd (instances_none f.instances f.data_end g.1)
+section_ended (section.Equals n) f g =
     absurd (named_none n AtEquals f.instances f.data_end (λ r L a. a) g.1)
-outside_ended (outside.Body n) f g = absurd (named_none n AtBody f.instances f.data_end body_none
+section_ended (section.Body n) f g = absurd (named_none n AtBody f.instances f.data_end body_none
     g.1)
-outside_ended (outside.SimpleOpen p) f g =
+section_ended (section.SimpleOpen p) f g =
     absurd (part_none p AtSimpleList f.instances f.data_end
     (λ r L a. list_none (AtRecordEnd r L) a) g.1)
-outside_ended (outside.FirstRecord p) f g =
+section_ended (section.FirstRecord p) f g =
     absurd (part_none p AtFirstRecord f.instances f.data_end (λ r L a. a) g.1)
-outside_ended (outside.RecordOpen p) f g =
+section_ended (section.RecordOpen p) f g =
     absurd (part_none p AtInnerList f.instances f.data_end
     (λ r L a. list_none (AtNextRecord r L) a) g.1)
-outside_ended (outside.NextRecord p) f g =
+section_ended (section.NextRecord p) f g =
     absurd (part_none p AtNextRecord f.instances f.data_end next_record_none g.1)
-outside_ended (outside.InstanceEnd p) f g =
+section_ended (section.InstanceEnd p) f g =
     absurd (part_none p AtRecordEnd f.instances f.data_end (λ r L a. a) g.1)
-outside_ended (outside.EndSemicolon k) f g = absurd g.1
-outside_ended (outside.LastWord k) f g = absurd g.1
-outside_ended (outside.LastSemicolon k) f g = absurd g.1
-outside_ended (outside.End k) f g = record { place = k; is = refl; whole = g.0 }
+section_ended (section.EndSemicolon k) f g = absurd g.1
+section_ended (section.LastWord k) f g = absurd g.1
+section_ended (section.LastSemicolon k) f g = absurd g.1
+section_ended (section.End k) f g = record { place = k; is = refl; whole = g.0 }
 
-closing_none : (f : Frame) (fs : List Frame) (K : Rest) → Closing (f ∷ fs) K [] → ⊥
-closing_none frame.List fs K a = more_on a.first
-closing_none frame.Typed fs K t = t
+closing_none : (f : Bracket) (fs : List Bracket) (K : Rest) → Closing (f ∷ fs) K [] → ⊥
+closing_none bracket.List fs K a = more_on a.first
+closing_none bracket.Typed fs K t = t
 
-wanted_none : (f : Frame) (fs : List Frame) (w : Want) (K : Rest) → Wanted (f ∷ fs) w K [] → ⊥
+wanted_none : (f : Bracket) (fs : List Bracket) (w : Want) (K : Rest) → Wanted (f ∷ fs) w K [] → ⊥
 wanted_none f fs want.First K (inl c) = c
 wanted_none f fs want.First K (inr a) = parameter_on a.first
 wanted_none f fs want.Parameter K a = parameter_on a.first
 wanted_none f fs want.Next K c = closing_none f fs K c
 wanted_none f fs want.Open K t = t
 
-frames_ended : (o : Outside) (fs : List Frame) (w : Want) (f : File)
+brackets_ended : (o : Section) (fs : List Bracket) (w : Want) (f : File)
     → Wanted fs w (Follows o f) [] → Ended o fs f
-frames_ended o [] w f g = outside_ended o f g
-frames_ended o (x ∷ fs) w f g = absurd (wanted_none x fs w (Follows o f) g)
+brackets_ended o [] w f g = section_ended o f g
+brackets_ended o (x ∷ fs) w f g = absurd (wanted_none x fs w (Follows o f) g)
 
-no_shallow : (d : ℕ) → d ≤ 64 → Shallow d []
+no_shallow : (d : ℕ) → d ≤ greatest_depth → Shallow d []
 no_shallow d low [] back same = omega arith
 no_shallow d low (x ∷ front) back same = absurd (cc)
 
-ended_reads : (o : Outside) (fs : List Frame) (w : Want) (k : ℕ) → end_at o fs ≡ Some k
-    → Reads (record { outside = o; nest = record { frames = fs; want = w } }) (no_more k) []
-ended_reads (outside.End j) [] w k is =
+ended_reads : (o : Section) (fs : List Bracket) (w : Want) (k : ℕ) → end_at o fs ≡ Some k
+    → Continues (record { section = o; nest = record { brackets = fs; want = w } }) (no_more k) []
+ended_reads (section.End j) [] w k is =
     let same = same_Some j k is in
     record {
       goes = (ap no_more (sym same), refl);
@@ -145,14 +145,14 @@ ended_reads (outside.End j) [] w k is =
 ended_reads _ _ w k is = absurd (cc)
 
 -- what was found is what the text describes
-prepend_all-no_more : (founds : List Found) (k : ℕ) → prepend_all founds (no_more k)
-    ≡ file_of founds k
+prepend_all-no_more : (events : List Event) (k : ℕ) → prepend_all events (no_more k)
+    ≡ file_of events k
 prepend_all-no_more [] k = refl
-prepend_all-no_more (found.Nothing ∷ founds) k = prepend_all-no_more founds k
-prepend_all-no_more (found.Entity r ∷ founds) k =
-    ap (prepend (found.Entity r)) (prepend_all-no_more founds k)
-prepend_all-no_more (found.Instance n r ∷ founds) k =
-    ap (prepend (found.Instance n r)) (prepend_all-no_more founds k)
+prepend_all-no_more (event.Nothing ∷ events) k = prepend_all-no_more events k
+prepend_all-no_more (event.Entity r ∷ events) k =
+    ap (prepend (event.Entity r)) (prepend_all-no_more events k)
+prepend_all-no_more (event.Instance n r ∷ events) k =
+    ap (prepend (event.Instance n r)) (prepend_all-no_more events k)
 
 -- Texts and runs
 
@@ -162,33 +162,33 @@ pub record EndsText (xs : List Lexeme) (f : File) : Type 0 where
   pub place : ℕ
   pub is : run xs start ≡ Some ran
   pub ends : end_of ran.state ≡ Some place
-  pub whole : f ≡ file_of ran.founds place
+  pub whole : f ≡ file_of ran.events place
 
 -- a text is read to its end
 pub text_ends : (xs : List Lexeme) (f : File) → IsText xs f → EndsText xs f
 text_ends xs f text =
     let r = runs_on xs start f [] start_fits
-    (subst (Reads start f) (sym (append-nil xs)) (read_text xs f text)) in
-    let e = frames_ended r.ran.state.outside r.ran.state.nest.frames r.ran.state.nest.want
+    (subst (Continues start f) (sym (append-nil xs)) (read_text xs f text)) in
+    let e = brackets_ended r.ran.state.section r.ran.state.nest.brackets r.ran.state.nest.want
     r.later r.reads.goes in
     record {
       ran = r.ran;
       place = e.place;
       is = r.is;
       ends = e.is;
-      whole = r.whole ∙ ap (prepend_all r.ran.founds) e.whole
-          ∙ prepend_all-no_more r.ran.founds e.place;
+      whole = r.whole ∙ ap (prepend_all r.ran.events) e.whole
+          ∙ prepend_all-no_more r.ran.events e.place;
     }
 
 -- what is read to its end is a text
 pub ends_text : (xs : List Lexeme) (ran : Ran) (k : ℕ) → run xs start ≡ Some ran
-    → end_of ran.state ≡ Some k → IsText xs (file_of ran.founds k)
+    → end_of ran.state ≡ Some k → IsText xs (file_of ran.events k)
 ends_text xs ran k is ends =
     let reads = runs_before xs start [] ran (no_more k) start_fits is
-    (ended_reads ran.state.outside ran.state.nest.frames ran.state.nest.want k ends) in
-    subst (IsText xs) (prepend_all-no_more ran.founds k)
-    (text_read xs (prepend_all ran.founds (no_more k))
-    (subst (Reads start (prepend_all ran.founds (no_more k))) (append-nil xs) reads))
+    (ended_reads ran.state.section ran.state.nest.brackets ran.state.nest.want k ends) in
+    subst (IsText xs) (prepend_all-no_more ran.events k)
+    (text_read xs (prepend_all ran.events (no_more k))
+    (subst (Continues start (prepend_all ran.events (no_more k))) (append-nil xs) reads))
 
 -- what begins a text is read
 pub begun_runs : (xs : List Lexeme) → BeginsText xs → (ran : Ran) × (run xs start ≡ Some ran)
@@ -203,7 +203,7 @@ runs_begin xs ran is =
     let h = some_text_goes_on ran.state (run_fits xs start ran start_fits is) in
     record {
       others = h.lexemes;
-      file = prepend_all ran.founds h.file;
-      text = text_read (xs ++ h.lexemes) (prepend_all ran.founds h.file)
+      file = prepend_all ran.events h.file;
+      text = text_read (xs ++ h.lexemes) (prepend_all ran.events h.file)
           (runs_before xs start h.lexemes ran h.file start_fits is h.reads);
     }

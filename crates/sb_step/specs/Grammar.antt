@@ -94,9 +94,13 @@ Sections file =
     ⋅ EndOfData file.data_end ⋅ Semicolon
     ⋅ One (IsWord word.Last) ⋅ Semicolon
 
--- at no place are more than 64 parentheses open
+-- how many parentheses may be open at one place
+abbrev pub greatest_depth : ℕ
+greatest_depth = 64
+
+-- at no place are more parentheses open than may be
 abbrev pub IsShallow : List Lexeme → Type 0
-IsShallow xs = (front back : List Lexeme) → xs ≡ front ++ back → opened front ≤ closed front + 64
+IsShallow xs = (front back : List Lexeme) → xs ≡ front ++ back → opened front ≤ closed front + greatest_depth
 
 -- a text of the grammar, and the file that it describes
 pub record IsText (xs : List Lexeme) (file : File) : Type 0 where

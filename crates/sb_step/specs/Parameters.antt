@@ -16,7 +16,7 @@ use Rattle.sb_step.specs.Lexemes.{Lexeme, lexemes, IsKeyword, IsMark}
 use Rattle.sb_step.specs.Rules.{Rule, One, ◌⋅◌}
 use Rattle.sb_step.specs.Grammar.{BeginsSimple, SemicolonAt, ParameterList}
 use Rattle.sb_step.specs.Indexed.{Indexed}
-use Rattle.sb_step.specs.Answers.{IsIndexed}
+use Rattle.sb_step.specs.IndexAnswers.{IsIndexed}
 
 -- a byte as it is written in a string: an apostrophe twice
 abbrev pub written : ℕ → List ℕ

@@ -4,11 +4,11 @@ use Rattle.sb_lex.specs.declared.kinds.Token.{Token}
 use Rattle.sb_lex.specs.Tokens.{IsNext}
 use Rattle.sb_step.specs.declared.error.StepError.{StepError}
 use Rattle.sb_step.specs.declared.error.StepError.TheVariants as step_error
-use Rattle.sb_step.specs.declared.steps.Found.{Found}
+use Rattle.sb_step.specs.declared.states.Event.{Event}
 use Rattle.sb_step.specs.declared.collected.Collected.{Collected}
 use Rattle.sb_step.specs.Lexemes.{Lexeme, lexemes}
 use Rattle.sb_step.specs.Indexed.{Indexed}
-use Rattle.sb_step.specs.Steps.{State, step, start, run}
+use Rattle.sb_step.specs.Turns.{State, next_turn, start, run}
 use Rattle.sb_step.specs.Collects.{AreCollected}
 
 -- the tokens from one place to another, the last of which ends there
@@ -19,23 +19,23 @@ TokensTo input from (t ∷ tokens) to = IsNext input from t × TokensTo input t.
 -- the tokens up to the place were read and led to the state, and what was found was collected
 pub record Progress (input : List ℕ) (place : ℕ) (s : State) (c : Collected) : Type 0 where
   pub before : List Token
-  pub founds : List Found
+  pub events : List Event
   pub tokens : TokensTo input 0 before place
-  pub reads : run (lexemes input before) start ≡ Some (record { state = s; founds = founds })
-  pub collected : AreCollected founds c
+  pub reads : run (lexemes input before) start ≡ Some (record { state = s; events = events })
+  pub collected : AreCollected events c
 
 -- a lexeme was accepted
 pub record Accepted (s t : State) (x : Lexeme) (c d : Collected) : Type 0 where
-  pub found : Found
-  pub steps : step s x ≡ Some (record { state = t; found = found })
-  pub collects : (founds : List Found) → AreCollected founds c
-      → AreCollected (founds ++ found ∷ []) d
+  pub event : Event
+  pub turns : next_turn s x ≡ Some (record { state = t; event = event })
+  pub collects : (events : List Event) → AreCollected events c
+      → AreCollected (events ++ event ∷ []) d
 
 -- what the answer to a lexeme says
 abbrev pub Accepts : State → State → Lexeme → Collected → Collected → Result (Unit {0}) StepError
     → Type 0
 Accepts s t x c d (Ok done) = Accepted s t x c d
-Accepts s t x c d (Err (step_error.Syntax place)) = (place ≡ x.token.start) × (step s x ≡ None)
+Accepts s t x c d (Err (step_error.Syntax place)) = (place ≡ x.token.start) × (next_turn s x ≡ None)
 Accepts s t x c d (Err (step_error.Duplicate n)) = ⊥
 Accepts s t x c d (Err step_error.NoMemory) = Unit {0}
 

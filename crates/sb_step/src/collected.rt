@@ -1,7 +1,7 @@
 // What was found in a text so far.
 use crate::file::Record;
 use crate::instances::Instances;
-use crate::steps::Found;
+use crate::states::Event;
 use std::alloc::{AllocError, Global};
 
 /// The entities of the header and the instances that were read.
@@ -13,7 +13,7 @@ pub(crate) struct Collected {
 
 impl Collected {
     ghost use Rattle.std.specs.Prelude.{◌≡◌, List, [], ◌∷◌, ◌++◌, OnOk, IfOk};
-    ghost use Rattle.sb_step.specs.declared.steps.Found.{Found as Event};
+    ghost use Rattle.sb_step.specs.declared.states.Event.{Event as Seen};
     ghost use Rattle.sb_step.specs.Collects.{AreCollected};
 
     /// Nothing yet, with room for so many instances.
@@ -27,14 +27,14 @@ impl Collected {
     }
 
     /// Keeps what was found at one token more.
-    pub(crate) fn add(&mut self, found: Found) -> Result<(), AllocError>
-        ensures { (founds : List Event) → OnOk result (AreCollected founds self.old
-            → AreCollected (founds ++ found ∷ []) self.new) }
+    pub(crate) fn add(&mut self, event: Event) -> Result<(), AllocError>
+        ensures { (events : List Seen) → OnOk result (AreCollected events self.old
+            → AreCollected (events ++ event ∷ []) self.new) }
     {
-        match found {
-            Found::Nothing => {}
-            Found::Entity(entity) => self.header.push(entity)?,
-            Found::Instance(number, body) => self.instances.insert(number, body)?,
+        match event {
+            Event::Nothing => {}
+            Event::Entity(entity) => self.header.push(entity)?,
+            Event::Instance(number, body) => self.instances.insert(number, body)?,
         }
         Ok(())
     }

@@ -1,9 +1,9 @@
 // A whole text, token by token.
 ghost use Rattle.std.specs.Prelude.{◌≡◌, ◌↔◌, ℕ, [], Ok, Err};
-ghost use Rattle.sb_step.specs.Answers.{IsAnswer, IsInTime, IsIndexed, HasDoubled};
+ghost use Rattle.sb_step.specs.IndexAnswers.{IsAnswer, IsInTime, IsIndexed, HasDoubled};
 ghost use Rattle.sb_step.specs.Faults.{IsFaultAt};
 ghost use Rattle.sb_step.specs.Indexed.{Indexed};
-ghost use Rattle.sb_step.specs.Kept.{NumbersAreKept};
+ghost use Rattle.sb_step.specs.StoredInstances.{NumbersAreStored};
 ghost use Rattle.sb_step.specs.Collects.{AreCollected};
 ghost use Rattle.sb_step.specs.Machines.{state_of};
 ghost use Rattle.sb_step.specs.Progress as spec;
@@ -11,9 +11,10 @@ ghost use Rattle.sb_step.specs.Progress as spec;
 use crate::collected::Collected;
 use crate::error::StepError;
 use crate::instances::Instances;
+use crate::laws::one_file_or_one_fault;
 use crate::machine::Machine;
 use crate::step_file::StepFile;
-use sb_lex::{BadToken, Lexer, Token};
+use sb_lex::{BadToken, Lexer, Token, tokens_are_one_list};
 use std::alloc::Global;
 
 /// How many bytes an instance mostly has at least. So much room is made at first that the table of
@@ -40,6 +41,7 @@ pub fn index<'a>(alloc: Global, bytes: &'a [u8]) -> Result<StepFile<'a>, StepErr
     ensures duplicate { (number : ℕ) → IsInTime result
         → (result ≡ Err (StepError.Duplicate number)) ↔ HasDoubled bytes.now number }
 {
+    one_file_or_one_fault();
     read(alloc, bytes)
 }
 
@@ -56,6 +58,7 @@ fn read_into<'a>(bytes: &'a [u8], empty: Collected) -> Result<StepFile<'a>, Step
     requires { AreCollected [] empty }
     ensures { IsAnswer bytes.now result }
 {
+    tokens_are_one_list();
     let mut lexer = Lexer::new(bytes);
     let mut machine = Machine::new();
     let mut collected = empty;
@@ -84,7 +87,7 @@ fn accept(
         (record { token = token; text = text.now }) collected.old collected.new result }
 {
     match machine.advance(token, text) {
-        Some(found) => match collected.add(found) {
+        Some(event) => match collected.add(event) {
             Ok(()) => Ok(()),
             Err(_) => Err(StepError::NoMemory),
         },
@@ -98,7 +101,7 @@ fn finish<'a>(
     collected: Collected,
 ) -> Result<StepFile<'a>, StepError>
     requires answer { IsAnswer bytes.now (spec.finished bytes.now end collected) }
-    requires numbers { NumbersAreKept collected.instances }
+    requires numbers { NumbersAreStored collected.instances }
     ensures { IsAnswer bytes.now result }
 {
     let Collected { header, instances } = collected;

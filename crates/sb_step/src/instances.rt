@@ -1,6 +1,6 @@
 // The instances that were read, by their numbers.
 ghost use Rattle.std.specs.Prelude.{◌≡◌, max};
-ghost use Rattle.sb_step.specs.Steps as spec;
+ghost use Rattle.sb_step.specs.Turns as spec;
 
 use crate::file::Record;
 use crate::hashing::NumberHasher;
@@ -25,12 +25,12 @@ pub(crate) struct Instances {
 
 impl Instances {
     ghost use Rattle.std.specs.Prelude.{◌≡◌, ℕ, List, [], ◌∷◌, ◌++◌, OnOk, IfOk};
-    ghost use Rattle.sb_step.specs.declared.file.Record.{Record as Found};
-    ghost use Rattle.sb_step.specs.Kept.{AreKept};
+    ghost use Rattle.sb_step.specs.declared.file.Record.{Record as Stored};
+    ghost use Rattle.sb_step.specs.StoredInstances.{AreStored};
 
     /// None yet, with room for so many.
     pub(crate) fn with_capacity(alloc: Global, room: usize) -> Result<Instances, AllocError>
-        ensures { IfOk result (AreKept []) }
+        ensures { IfOk result (AreStored []) }
     {
         Ok(Instances {
             records: Records::with_capacity_and_hasher(alloc, room, BuildHasherDefault::new())?,
@@ -42,8 +42,8 @@ impl Instances {
 
     /// Keeps one instance more.
     pub(crate) fn insert(&mut self, number: u32, body: Record) -> Result<(), AllocError>
-        ensures { (instances : List (ℕ × Found)) → OnOk result (AreKept instances self.old
-            → AreKept (instances ++ (number, body) ∷ []) self.new) }
+        ensures { (instances : List (ℕ × Stored)) → OnOk result (AreStored instances self.old
+            → AreStored (instances ++ (number, body) ∷ []) self.new) }
     {
         self.numbers.push(number)?;
         self.greatest = greater(self.greatest, number);

@@ -19,8 +19,8 @@ mod parameters_tests;
 mod reading;
 mod schema;
 mod sections;
+mod states;
 mod step_file;
-mod steps;
 #[cfg(test)]
 mod tests;
 mod values;

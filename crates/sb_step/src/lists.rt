@@ -1,37 +1,38 @@
 // What may stand next within parameter lists, and the parentheses that are open there.
 ghost use Rattle.std.specs.Prelude.{◌≡◌, ℕ, ◌+◌, ◌*◌, ◌/◌, ◌%◌, ◌^◌, ◌<◌, ◌≤◌, ◌↔◌, List, [], ◌∷◌, length, IsTrue, Some, None, if◌then◌else◌};
 ghost use Rattle.sb_step.specs.Lexemes.{is_open as is_open_of, is_close as is_close_of};
-ghost use Rattle.sb_step.specs.Steps as spec;
+ghost use Rattle.sb_step.specs.Grammar.{greatest_depth};
+ghost use Rattle.sb_step.specs.Turns as spec;
 
 use crate::kinds::{is_close, is_comma, is_keyword, is_open, is_value};
-use crate::steps::{Frame, Want};
+use crate::states::{Bracket, Want};
 use sb_lex::Kind;
 use std::marker::Model;
 
 /// The parentheses that are open, the innermost first. Each is a bit, so that 64 take no memory.
 #[derive(Drop)]
-pub(crate) struct Frames {
+pub(crate) struct Brackets {
     bits: u64,
     len: usize,
 }
 
-impl Model for Frames {
+impl Model for Brackets {
     ghost use Rattle.std.specs.Prelude.{◌^◌, ◌<◌, ◌≤◌, List};
-    ghost use Rattle.sb_step.specs.declared.steps.Frame.{Frame};
-    ghost use Rattle.sb_step.specs.Steps.{frames_of, IsKept};
+    ghost use Rattle.sb_step.specs.declared.states.Bracket.{Bracket};
+    ghost use Rattle.sb_step.specs.Turns.{brackets_of, AreBits};
 
-    ghost Value = { List Frame };
+    ghost Value = { List Bracket };
 
-    ghost view = { λ f. frames_of f.len f.bits };
+    ghost view = { λ f. brackets_of f.len f.bits };
 
-    ghost invariant = { λ f. IsKept f.len f.bits };
+    ghost invariant = { λ f. AreBits f.len f.bits };
 }
 
-impl Frames {
-    pub(crate) fn new() -> Frames
+impl Brackets {
+    pub(crate) fn new() -> Brackets
         ensures { result ≡ [] }
     {
-        Frames { bits: 0, len: 0 }
+        Brackets { bits: 0, len: 0 }
     }
 
     #[inline(always)]
@@ -43,13 +44,13 @@ impl Frames {
 
     /// One parenthesis more.
     #[inline(always)]
-    pub(crate) fn push(&mut self, frame: Frame)
-        requires { length self.old < 64 }
-        ensures { self.new ≡ frame ∷ self.old }
+    pub(crate) fn push(&mut self, bracket: Bracket)
+        requires { length self.old < greatest_depth }
+        ensures { self.new ≡ bracket ∷ self.old }
     {
-        let bit = match frame {
-            Frame::List => 1,
-            Frame::Typed => 0,
+        let bit = match bracket {
+            Bracket::List => 1,
+            Bracket::Typed => 0,
         };
         self.bits = self.bits * 2 + bit;
         self.len += 1;
@@ -59,7 +60,7 @@ impl Frames {
     #[inline(always)]
     pub(crate) fn pop(&mut self)
         requires { 0 < length self.old }
-        ensures { spec.shut self.old ≡ record { frames = self.new; want = Want.Next } }
+        ensures { spec.shut self.old ≡ record { brackets = self.new; want = Want.Next } }
     {
         self.bits /= 2;
         self.len -= 1;
@@ -75,41 +76,46 @@ impl Frames {
 }
 
 /// What is wanted behind the kind where a parameter list is open, if it may stand there.
-pub(crate) fn inside_step(frames: &mut Frames, want: Want, room: usize, kind: Kind) -> Option<Want>
-    requires open { 0 < length frames.old }
-    requires room { room ≤ 64 }
-    ensures { spec.Leads (spec.by_want want room frames.old kind) frames.new result }
+pub(crate) fn list_move(
+    brackets: &mut Brackets,
+    want: Want,
+    room: usize,
+    kind: Kind,
+) -> Option<Want>
+    requires open { 0 < length brackets.old }
+    requires room { room ≤ greatest_depth }
+    ensures { spec.MovesTo (spec.by_want want room brackets.old kind) brackets.new result }
 {
     match want {
-        Want::First => close_or_parameter(frames, room, kind),
-        Want::Parameter => parameter(frames, room, kind),
-        Want::Next => close_or_comma(frames, kind),
+        Want::First => close_or_parameter(brackets, room, kind),
+        Want::Parameter => parameter(brackets, room, kind),
+        Want::Next => close_or_comma(brackets, kind),
         Want::Open => parameter_of_typed(kind),
     }
 }
 
-fn close_or_parameter(frames: &mut Frames, room: usize, kind: Kind) -> Option<Want>
-    requires open { 0 < length frames.old }
-    requires room { room ≤ 64 }
-    ensures { spec.Leads (spec.by_want Want.First room frames.old kind) frames.new result }
+fn close_or_parameter(brackets: &mut Brackets, room: usize, kind: Kind) -> Option<Want>
+    requires open { 0 < length brackets.old }
+    requires room { room ≤ greatest_depth }
+    ensures { spec.MovesTo (spec.by_want Want.First room brackets.old kind) brackets.new result }
 {
     if is_close(kind) {
-        frames.pop();
+        brackets.pop();
         Some(Want::Next)
     } else {
-        parameter(frames, room, kind)
+        parameter(brackets, room, kind)
     }
 }
 
-fn close_or_comma(frames: &mut Frames, kind: Kind) -> Option<Want>
-    requires { 0 < length frames.old }
-    ensures { spec.Leads (if is_close_of kind then Some (spec.shut frames.old)
-        else spec.comma frames.old kind) frames.new result }
+fn close_or_comma(brackets: &mut Brackets, kind: Kind) -> Option<Want>
+    requires { 0 < length brackets.old }
+    ensures { spec.MovesTo (if is_close_of kind then Some (spec.shut brackets.old)
+        else spec.comma brackets.old kind) brackets.new result }
 {
     if is_close(kind) {
-        frames.pop();
+        brackets.pop();
         Some(Want::Next)
-    } else if frames.is_list() && is_comma(kind) {
+    } else if brackets.is_list() && is_comma(kind) {
         Some(Want::Parameter)
     } else {
         None
@@ -127,27 +133,27 @@ fn parameter_of_typed(kind: Kind) -> Option<Want>
 }
 
 /// The first token of a parameter.
-fn parameter(frames: &mut Frames, room: usize, kind: Kind) -> Option<Want>
-    requires { room ≤ 64 }
-    ensures { spec.Leads (spec.parameter room frames.old kind) frames.new result }
+fn parameter(brackets: &mut Brackets, room: usize, kind: Kind) -> Option<Want>
+    requires { room ≤ greatest_depth }
+    ensures { spec.MovesTo (spec.parameter room brackets.old kind) brackets.new result }
 {
     if is_value(kind) {
         Some(Want::Next)
     } else if is_open(kind) {
-        deeper(frames, room, Frame::List, Want::First)
+        deeper(brackets, room, Bracket::List, Want::First)
     } else if is_keyword(kind) {
-        deeper(frames, room, Frame::Typed, Want::Open)
+        deeper(brackets, room, Bracket::Typed, Want::Open)
     } else {
         None
     }
 }
 
-fn deeper(frames: &mut Frames, room: usize, frame: Frame, want: Want) -> Option<Want>
-    requires { room ≤ 64 }
-    ensures { spec.Leads (spec.deeper room frame frames.old want) frames.new result }
+fn deeper(brackets: &mut Brackets, room: usize, bracket: Bracket, want: Want) -> Option<Want>
+    requires { room ≤ greatest_depth }
+    ensures { spec.MovesTo (spec.deeper room bracket brackets.old want) brackets.new result }
 {
-    if frames.len() < room {
-        frames.push(frame);
+    if brackets.len() < room {
+        brackets.push(bracket);
         Some(want)
     } else {
         None

@@ -1,17 +1,21 @@
 // The machine that reads a text token by token.
 ghost use Rattle.std.specs.Prelude.{◌≡◌, ◌<◌, ◌≤◌, length, [], if◌then◌else◌};
-ghost use Rattle.sb_step.specs.Steps as spec;
+ghost use Rattle.sb_step.specs.Grammar.{greatest_depth};
+ghost use Rattle.sb_step.specs.Turns as spec;
 
-use crate::lists::{Frames, inside_step};
-use crate::sections::outside_step;
-use crate::steps::{Found, Frame, Move, Outside, Want};
+use crate::lists::{Brackets, list_move};
+use crate::sections::section_move;
+use crate::states::{Bracket, Event, Move, Section, Want};
 use sb_lex::{Kind, Token};
+
+/// How many parentheses may be open at one place.
+const GREATEST_DEPTH: usize = 64;
 
 /// How far a text was read.
 #[derive(Drop)]
 pub(crate) struct Machine {
-    pub outside: Outside,
-    pub frames: Frames,
+    pub section: Section,
+    pub brackets: Brackets,
     pub want: Want,
 }
 
@@ -22,79 +26,81 @@ impl Machine {
         ensures { state_of result ≡ spec.start }
     {
         Machine {
-            outside: Outside::Begin,
-            frames: Frames::new(),
+            section: Section::Begin,
+            brackets: Brackets::new(),
             want: Want::Next,
         }
     }
 
     /// Goes on with a token, if it may stand there: what is found at it.
     #[inline]
-    pub(crate) fn advance(&mut self, token: Token, text: &[u8]) -> Option<Found>
+    pub(crate) fn advance(&mut self, token: Token, text: &[u8]) -> Option<Event>
         ensures { spec.Advances (state_of self.old) (record { token = token; text = text.now })
             result (state_of self.new) }
     {
-        if self.frames.len() == 0 {
-            self.advance_outside(token, text)
+        if self.brackets.len() == 0 {
+            self.advance_section(token, text)
         } else {
-            self.advance_inside(token.kind)
+            self.advance_list(token.kind)
         }
     }
 
-    fn advance_outside(&mut self, token: Token, text: &[u8]) -> Option<Found>
-        requires { self.old.frames ≡ [] }
+    fn advance_section(&mut self, token: Token, text: &[u8]) -> Option<Event>
+        requires { self.old.brackets ≡ [] }
         ensures { spec.Advances (state_of self.old) (record { token = token; text = text.now })
             result (state_of self.new) }
     {
-        let step = outside_step(self.outside, token, text)?;
-        self.outside = step.outside;
+        let next = section_move(self.section, token, text)?;
+        self.section = next.section;
         self.want = Want::Next;
-        if step.opens {
-            self.frames.push(Frame::List);
+        if next.opens {
+            self.brackets.push(Bracket::List);
             self.want = Want::First;
         }
-        Some(step.found)
+        Some(next.event)
     }
 
     #[inline(always)]
-    fn advance_inside(&mut self, kind: Kind) -> Option<Found>
-        requires { 0 < length self.old.frames }
-        ensures { spec.AdvancesInside (state_of self.old) kind result (state_of self.new) }
+    fn advance_list(&mut self, kind: Kind) -> Option<Event>
+        requires { 0 < length self.old.brackets }
+        ensures { spec.AdvancesList (state_of self.old) kind result (state_of self.new) }
     {
-        let want = inside_step(&mut self.frames, self.want, room(self.outside), kind)?;
+        let want = list_move(&mut self.brackets, self.want, room(self.section), kind)?;
         self.want = want;
-        Some(Found::Nothing)
+        Some(Event::Nothing)
     }
 
     /// Where the ENDSEC of the data begins, at the end of a text.
     pub(crate) fn end(&self) -> Option<usize>
         ensures { result ≡ spec.end_of (state_of self.now) }
     {
-        if self.frames.len() == 0 {
-            data_end(self.outside)
+        if self.brackets.len() == 0 {
+            data_end(self.section)
         } else {
             None
         }
     }
 }
 
-fn data_end(outside: Outside) -> Option<usize>
-    ensures { result ≡ spec.end_at outside [] }
+fn data_end(section: Section) -> Option<usize>
+    ensures { result ≡ spec.end_at section [] }
 {
-    match outside {
-        Outside::End(place) => Some(place),
+    match section {
+        Section::End(place) => Some(place),
         _ => None,
     }
 }
 
-/// How many parentheses of parameters may be open, so that no more than 64 are open in all.
+/// How many parentheses of parameters may be open, so that no more than the greatest
+/// depth are open in all.
 #[inline(always)]
-fn room(outside: Outside) -> usize
-    ensures room { result ≡ spec.room_of outside }
-    ensures few { result ≤ 64 }
+fn room(section: Section) -> usize
+    ensures room { result ≡ spec.room_of section }
+    ensures few { result ≤ greatest_depth }
 {
-    match outside {
-        Outside::FirstRecord(_) | Outside::RecordOpen(_) | Outside::NextRecord(_) => 63,
-        _ => 64,
+    match section {
+        Section::FirstRecord(_) | Section::RecordOpen(_) | Section::NextRecord(_) => GREATEST_DEPTH
+            - 1,
+        _ => GREATEST_DEPTH,
     }
 }

@@ -3,10 +3,11 @@ ghost use Rattle.std.specs.Prelude.{◌≡◌, ◌↔◌, ℕ, nat_eq, List, Ok,
 ghost use Rattle.std.specs.Map.{lookup};
 ghost use Rattle.sb_step.specs.declared.param.Param.{Param};
 ghost use Rattle.sb_step.specs.Parameters.{HasParameters};
-ghost use Rattle.sb_step.specs.Held.{IsParamsAnswer, HasMemory, AwaitsByForm, SaysByForm, AwaitsList, ListSays, Gives};
+ghost use Rattle.sb_step.specs.ParamsAnswers.{IsParamsAnswer, HasMemory, AwaitsByForm, SaysByForm, AwaitsList, ListSays, Gives};
 
 use crate::error::ParamsError;
 use crate::file::Form;
+use crate::laws::one_list_of_parameters;
 use crate::param::Params;
 use crate::reading::{list, next};
 use crate::step_file::StepFile;
@@ -29,6 +30,7 @@ pub fn params(alloc: Global, file: &StepFile<'_>, number: u32) -> Result<Params,
     ensures parameters { (ps : List Param) → HasMemory result → (result ≡ Ok ps)
         ↔ HasParameters file.now number ps }
 {
+    one_list_of_parameters();
     find(alloc, file, number)
 }
 

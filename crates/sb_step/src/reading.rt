@@ -4,7 +4,7 @@ ghost use Rattle.sb_lex.specs.Tokens.{IsToken};
 ghost use Rattle.sb_step.specs.Lexemes.{lexeme_at, IsKeyword};
 ghost use Rattle.sb_step.specs.Grammar.{Parameter, MoreParameters};
 ghost use Rattle.sb_step.specs.Parameters.{IsParameter};
-ghost use Rattle.sb_step.specs.Reads.{HasNext, ReadsToken, Awaits, Reads, Behind, InList, AreInList, ReadsItem};
+ghost use Rattle.sb_step.specs.Readers.{HasNext, ReadsToken, Awaits, CarriesOver, Behind, InList, AreInList, ReadsItem};
 
 use crate::kinds::{is_close, is_comma, is_keyword, is_open};
 use crate::param::{Param, Params};
@@ -49,7 +49,7 @@ fn parameter(
     requires input { lexer.old.input ≡ bytes.now }
     requires token { IsToken bytes.now first }
     requires awaits { Awaits (Behind (lexeme_at bytes.now first) Parameter) lexer.old }
-    ensures { IfOk result (λ p. Reads (Behind (lexeme_at bytes.now first) Parameter)
+    ensures { IfOk result (λ p. CarriesOver (Behind (lexeme_at bytes.now first) Parameter)
         (Behind (lexeme_at bytes.now first) (IsParameter p)) lexer.old lexer.new) }
 {
     if is_keyword(first.kind) {
@@ -73,7 +73,7 @@ fn typed(
     requires token { IsToken bytes.now keyword }
     requires keyword { IsKeyword (lexeme_at bytes.now keyword) }
     requires awaits { Awaits (Behind (lexeme_at bytes.now keyword) Parameter) lexer.old }
-    ensures { IfOk result (λ p. Reads (Behind (lexeme_at bytes.now keyword) Parameter)
+    ensures { IfOk result (λ p. CarriesOver (Behind (lexeme_at bytes.now keyword) Parameter)
         (Behind (lexeme_at bytes.now keyword) (IsParameter p)) lexer.old lexer.new) }
 {
     let _opens = next(lexer);
@@ -89,7 +89,7 @@ fn typed(
 pub(crate) fn list(alloc: Global, bytes: &[u8], lexer: &mut Lexer<'_>) -> Result<Params, AllocError>
     requires input { lexer.old.input ≡ bytes.now }
     requires awaits { Awaits InList lexer.old }
-    ensures { IfOk result (λ ps. Reads InList (AreInList ps) lexer.old lexer.new) }
+    ensures { IfOk result (λ ps. CarriesOver InList (AreInList ps) lexer.old lexer.new) }
 {
     let mut items = Items::new(alloc);
     let mut token = next(lexer);

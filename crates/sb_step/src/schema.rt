@@ -6,7 +6,7 @@ ghost use Rattle.sb_lex.specs.declared.kinds.Token.{Token as At};
 ghost use Rattle.sb_lex.specs.Tokens.{AreTokensFrom};
 ghost use Rattle.sb_step.specs.Spans.{RecordLies};
 ghost use Rattle.sb_step.specs.Schema.{is_schema as is_schema_of};
-ghost use Rattle.sb_step.specs.SchemaSteps as spec;
+ghost use Rattle.sb_step.specs.SchemaReading as spec;
 
 use crate::file::{Form, Record};
 use crate::kinds::{is_close, is_open};
@@ -57,9 +57,9 @@ pub(crate) fn one_string(bytes: &[u8], place: usize) -> Option<&[u8]>
 }
 
 fn two_open(lexer: &mut Lexer<'_>) -> bool
-    ensures read { (tokens : List At) → spec.StandsBefore lexer.old tokens
+    ensures read { (tokens : List At) → spec.TokensAhead lexer.old tokens
         → (result ≡ spec.both_open tokens)
-        × spec.StandsBefore lexer.new (spec.behind_first (spec.behind_first tokens)) }
+        × spec.TokensAhead lexer.new (spec.behind_first (spec.behind_first tokens)) }
     ensures input { lexer.new.input ≡ lexer.old.input }
 {
     let first = token(lexer);
@@ -68,7 +68,7 @@ fn two_open(lexer: &mut Lexer<'_>) -> bool
 }
 
 fn two_close(lexer: &mut Lexer<'_>) -> bool
-    ensures read { (tokens : List At) → spec.StandsBefore lexer.old tokens
+    ensures read { (tokens : List At) → spec.TokensAhead lexer.old tokens
         → result ≡ spec.both_close tokens }
 {
     let first = token(lexer);
@@ -78,8 +78,8 @@ fn two_close(lexer: &mut Lexer<'_>) -> bool
 
 /// The next token, if there is one.
 fn token(lexer: &mut Lexer<'_>) -> Option<Token>
-    ensures read { (tokens : List At) → spec.StandsBefore lexer.old tokens
-        → (result ≡ spec.first_of tokens) × spec.StandsBefore lexer.new (spec.behind_first tokens) }
+    ensures read { (tokens : List At) → spec.TokensAhead lexer.old tokens
+        → (result ≡ spec.first_of tokens) × spec.TokensAhead lexer.new (spec.behind_first tokens) }
     ensures lies { IfSome result (spec.TokenLies (length lexer.old.input)) }
     ensures input { lexer.new.input ≡ lexer.old.input }
 {

@@ -1,87 +1,87 @@
 // What may stand next outside of parameter lists.
 ghost use Rattle.std.specs.Prelude.{◌≡◌, Some, None, if◌then◌else◌};
-ghost use Rattle.sb_step.specs.Steps as spec;
+ghost use Rattle.sb_step.specs.Turns as spec;
 
 use crate::file::{Form, Record};
 use crate::kinds::{
     is_close, is_equals, is_first, is_keyword, is_last, is_open, is_semicolon, is_the,
 };
-use crate::steps::{Found, Move, Outside, Part, Span};
+use crate::states::{Event, Move, Part, Section, Span};
 use sb_lex::{Kind, Token};
 
 #[inline(always)]
-fn moves(outside: Outside) -> Option<Move>
-    ensures { result ≡ Some (spec.moves outside) }
+fn moves(section: Section) -> Option<Move>
+    ensures { result ≡ Some (spec.moves section) }
 {
     Some(Move {
-        outside,
+        section,
         opens: false,
-        found: Found::Nothing,
+        event: Event::Nothing,
     })
 }
 
 #[inline(always)]
-fn enters(outside: Outside) -> Option<Move>
-    ensures { result ≡ Some (spec.enters outside) }
+fn enters(section: Section) -> Option<Move>
+    ensures { result ≡ Some (spec.enters section) }
 {
     Some(Move {
-        outside,
+        section,
         opens: true,
-        found: Found::Nothing,
+        event: Event::Nothing,
     })
 }
 
 #[inline(always)]
-fn finds(outside: Outside, found: Found) -> Option<Move>
-    ensures { result ≡ Some (spec.finds outside found) }
+fn finds(section: Section, event: Event) -> Option<Move>
+    ensures { result ≡ Some (spec.finds section event) }
 {
     Some(Move {
-        outside,
+        section,
         opens: false,
-        found,
+        event,
     })
 }
 
 /// The move, if the test holds.
 #[inline(always)]
-fn only(holds: bool, step: Option<Move>) -> Option<Move>
-    ensures { result ≡ (if holds then step else None) }
+fn only(holds: bool, next: Option<Move>) -> Option<Move>
+    ensures { result ≡ (if holds then next else None) }
 {
-    if holds { step } else { None }
+    if holds { next } else { None }
 }
 
 /// What follows the token where no parameter list is open, if it may stand there.
-pub(crate) fn outside_step(outside: Outside, token: Token, text: &[u8]) -> Option<Move>
-    ensures { result ≡ spec.outside_step outside (record { token = token; text = text.now }) }
+pub(crate) fn section_move(section: Section, token: Token, text: &[u8]) -> Option<Move>
+    ensures { result ≡ spec.section_move section (record { token = token; text = text.now }) }
 {
     let kind = token.kind;
-    match outside {
-        Outside::Begin => only(is_first(kind), moves(Outside::BeginSemicolon)),
-        Outside::BeginSemicolon => only(is_semicolon(kind), moves(Outside::Header)),
-        Outside::Header => only(
+    match section {
+        Section::Begin => only(is_first(kind), moves(Section::BeginSemicolon)),
+        Section::BeginSemicolon => only(is_semicolon(kind), moves(Section::Header)),
+        Section::Header => only(
             is_the(b"HEADER", kind, text),
-            moves(Outside::HeaderSemicolon),
+            moves(Section::HeaderSemicolon),
         ),
-        Outside::HeaderSemicolon => only(is_semicolon(kind), moves(Outside::FirstEntity)),
-        Outside::FirstEntity => only(is_keyword(kind), moves(Outside::EntityOpen(span_of(token)))),
-        Outside::Entities => entity_or_end(token, text),
-        Outside::EntityOrEnd(keyword) => list_or_end(kind, keyword),
-        Outside::EntityOpen(keyword) => only(is_open(kind), enters(Outside::EntityEnd(keyword))),
-        Outside::EntityEnd(keyword) => only(is_semicolon(kind), entity_found(keyword, token.start)),
-        Outside::Data => only(is_the(b"DATA", kind, text), moves(Outside::DataSemicolon)),
-        Outside::DataSemicolon => only(is_semicolon(kind), moves(Outside::Instances)),
-        Outside::Instances => instance_or_end(token, text),
-        Outside::Equals(number) => only(is_equals(kind), moves(Outside::Body(number))),
-        Outside::Body(number) => body(number, token),
-        Outside::SimpleOpen(part) => only(is_open(kind), enters(Outside::InstanceEnd(part))),
-        Outside::FirstRecord(part) => only(is_keyword(kind), moves(Outside::RecordOpen(part))),
-        Outside::RecordOpen(part) => only(is_open(kind), enters(Outside::NextRecord(part))),
-        Outside::NextRecord(part) => record_or_end(kind, part),
-        Outside::InstanceEnd(part) => only(is_semicolon(kind), instance_found(part, token.start)),
-        Outside::EndSemicolon(place) => only(is_semicolon(kind), moves(Outside::LastWord(place))),
-        Outside::LastWord(place) => only(is_last(kind), moves(Outside::LastSemicolon(place))),
-        Outside::LastSemicolon(place) => only(is_semicolon(kind), moves(Outside::End(place))),
-        Outside::End(_) => None,
+        Section::HeaderSemicolon => only(is_semicolon(kind), moves(Section::FirstEntity)),
+        Section::FirstEntity => only(is_keyword(kind), moves(Section::EntityOpen(span_of(token)))),
+        Section::Entities => entity_or_end(token, text),
+        Section::EntityOrEnd(keyword) => list_or_end(kind, keyword),
+        Section::EntityOpen(keyword) => only(is_open(kind), enters(Section::EntityEnd(keyword))),
+        Section::EntityEnd(keyword) => only(is_semicolon(kind), entity_found(keyword, token.start)),
+        Section::Data => only(is_the(b"DATA", kind, text), moves(Section::DataSemicolon)),
+        Section::DataSemicolon => only(is_semicolon(kind), moves(Section::Instances)),
+        Section::Instances => instance_or_end(token, text),
+        Section::Equals(number) => only(is_equals(kind), moves(Section::Body(number))),
+        Section::Body(number) => body(number, token),
+        Section::SimpleOpen(part) => only(is_open(kind), enters(Section::InstanceEnd(part))),
+        Section::FirstRecord(part) => only(is_keyword(kind), moves(Section::RecordOpen(part))),
+        Section::RecordOpen(part) => only(is_open(kind), enters(Section::NextRecord(part))),
+        Section::NextRecord(part) => record_or_end(kind, part),
+        Section::InstanceEnd(part) => only(is_semicolon(kind), instance_found(part, token.start)),
+        Section::EndSemicolon(place) => only(is_semicolon(kind), moves(Section::LastWord(place))),
+        Section::LastWord(place) => only(is_last(kind), moves(Section::LastSemicolon(place))),
+        Section::LastSemicolon(place) => only(is_semicolon(kind), moves(Section::End(place))),
+        Section::End(_) => None,
     }
 }
 
@@ -95,15 +95,15 @@ fn span_of(token: Token) -> Span
 }
 
 fn entity_or_end(token: Token, text: &[u8]) -> Option<Move>
-    ensures { result ≡ spec.outside_step Outside.Entities
+    ensures { result ≡ spec.section_move Section.Entities
         (record { token = token; text = text.now }) }
 {
     if is_the(b"ENDSEC", token.kind, text) {
-        moves(Outside::EntityOrEnd(span_of(token)))
+        moves(Section::EntityOrEnd(span_of(token)))
     } else {
         only(
             is_keyword(token.kind),
-            moves(Outside::EntityOpen(span_of(token))),
+            moves(Section::EntityOpen(span_of(token))),
         )
     }
 }
@@ -112,30 +112,30 @@ fn list_or_end(kind: Kind, keyword: Span) -> Option<Move>
     ensures { result ≡ spec.list_or_end keyword kind }
 {
     if is_open(kind) {
-        enters(Outside::EntityEnd(keyword))
+        enters(Section::EntityEnd(keyword))
     } else {
-        only(is_semicolon(kind), moves(Outside::Data))
+        only(is_semicolon(kind), moves(Section::Data))
     }
 }
 
 fn entity_found(keyword: Span, end: usize) -> Option<Move>
-    ensures { result ≡ Some (spec.finds Outside.Entities
-        (Found.Entity (spec.entity_of keyword end))) }
+    ensures { result ≡ Some (spec.finds Section.Entities
+        (Event.Entity (spec.entity_of keyword end))) }
 {
     let entity = Record {
         start: keyword.start,
         end,
         form: Form::Simple(keyword.end),
     };
-    finds(Outside::Entities, Found::Entity(entity))
+    finds(Section::Entities, Event::Entity(entity))
 }
 
 fn instance_or_end(token: Token, text: &[u8]) -> Option<Move>
-    ensures { result ≡ spec.outside_step Outside.Instances
+    ensures { result ≡ spec.section_move Section.Instances
         (record { token = token; text = text.now }) }
 {
     if is_the(b"ENDSEC", token.kind, text) {
-        moves(Outside::EndSemicolon(token.start))
+        moves(Section::EndSemicolon(token.start))
     } else {
         name(token.kind)
     }
@@ -145,7 +145,7 @@ fn name(kind: Kind) -> Option<Move>
     ensures { result ≡ spec.names (spec.number_of kind) }
 {
     match kind {
-        Kind::Name(number) => moves(Outside::Equals(number)),
+        Kind::Name(number) => moves(Section::Equals(number)),
         _ => None,
     }
 }
@@ -154,7 +154,7 @@ fn body(number: u32, token: Token) -> Option<Move>
     ensures { result ≡ spec.body number token }
 {
     if is_keyword(token.kind) {
-        moves(Outside::SimpleOpen(Part {
+        moves(Section::SimpleOpen(Part {
             number,
             start: token.start,
             form: Form::Simple(token.end),
@@ -165,10 +165,10 @@ fn body(number: u32, token: Token) -> Option<Move>
 }
 
 fn complex(number: u32, start: usize) -> Option<Move>
-    ensures { result ≡ Some (spec.moves (Outside.FirstRecord
+    ensures { result ≡ Some (spec.moves (Section.FirstRecord
         (record { number = number; start = start; form = Form.Complex }))) }
 {
-    moves(Outside::FirstRecord(Part {
+    moves(Section::FirstRecord(Part {
         number,
         start,
         form: Form::Complex,
@@ -179,20 +179,20 @@ fn record_or_end(kind: Kind, part: Part) -> Option<Move>
     ensures { result ≡ spec.record_or_end part kind }
 {
     if is_keyword(kind) {
-        moves(Outside::RecordOpen(part))
+        moves(Section::RecordOpen(part))
     } else {
-        only(is_close(kind), moves(Outside::InstanceEnd(part)))
+        only(is_close(kind), moves(Section::InstanceEnd(part)))
     }
 }
 
 fn instance_found(part: Part, end: usize) -> Option<Move>
-    ensures { result ≡ Some (spec.finds Outside.Instances
-        (Found.Instance part.number (spec.record_of part end))) }
+    ensures { result ≡ Some (spec.finds Section.Instances
+        (Event.Instance part.number (spec.record_of part end))) }
 {
     let record = Record {
         start: part.start,
         end,
         form: part.form,
     };
-    finds(Outside::Instances, Found::Instance(part.number, record))
+    finds(Section::Instances, Event::Instance(part.number, record))
 }

@@ -20,7 +20,7 @@ pub struct StepFile<'a> {
 
 impl<'a> Model for StepFile<'a> {
     ghost use Rattle.sb_step.specs.Indexed.{Indexed};
-    ghost use Rattle.sb_step.specs.Answers.{Keeps};
+    ghost use Rattle.sb_step.specs.IndexAnswers.{IsStored};
 
     ghost Value = { Indexed };
 
@@ -33,7 +33,7 @@ impl<'a> Model for StepFile<'a> {
       };
     } };
 
-    ghost invariant = { λ s. Keeps s.numbers.items s.greatest (record {
+    ghost invariant = { λ s. IsStored s.numbers.items s.greatest (record {
       input = s.bytes.now;
       file = record {
         header = s.header.items;

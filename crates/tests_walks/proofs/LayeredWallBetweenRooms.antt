@@ -1,16 +1,16 @@
 -- The walk through a layered wall between two rooms: plaster, brick and gypsum, depth 100, and the
 -- other room at the end.
 
-use Rattle.std.proofs.Common.{◌≡◌, refl, ap, subst, ◌∙◌, arith, ℕ, ◌+◌, ◌*◌, ◌<◌}
+use Rattle.std.proofs.Common.{◌≡◌, refl, ap, ◌∙◌, arith, ℕ, ◌+◌, ◌*◌, ◌<◌}
 use Rattle.std.proofs.Common.{ℤ, pos}
 use Rattle.std.proofs.Common.{negsuc, ◌<ℤ◌, ◌-ℤ◌, Bool, true, false, ◌&&◌, List, [], ◌∷◌}
 use Rattle.std.proofs.Common.{nat_lt}
-use Rattle.std.specs.Int.{IsGcd}
 use Rattle.std.proofs.lemmas.Int.{ints}
 use Rattle.std.proofs.lemmas.Bool.{lt-ltb, le-ltb}
-use Rattle.sb_fraction.specs.Divisors.{greatest_divisor, divisor_within}
-use Rattle.sb_fraction.specs.Ratio.{reduced}
-use Rattle.sb_fraction.proofs.GreatestDivisor.{greatest_divisor_is}
+use Rattle.theory_numbers.specs.Divisors.{greatest_divisor, divisor_within}
+use Rattle.theory_numbers.specs.Fractions.{reduced}
+use Rattle.theory_numbers.proofs.LowestTerms.{lowest_is_reduced}
+use Rattle.theory_numbers.proofs.Reduced.{whole_is_reduced}
 use Rattle.theory_numbers.specs.Arrows.{Arrow, arrow, cross, dot}
 use Rattle.theory_numbers.specs.Reduced.{IsReduced}
 use Rattle.theory_numbers.proofs.Signs.{test_less, test_not_less, test_at_most}
@@ -23,14 +23,14 @@ use Rattle.sb_model.specs.declared.label.Label.TheVariants as label
 use Rattle.sb_model.specs.declared.walk.End.TheVariants as end
 use Rattle.sb_model.specs.declared.walk.Item.{Item}
 use Rattle.sb_model.specs.declared.walk.Walk.{Walk}
-use Rattle.sb_model.specs.Spots.{Spot, spot, vector}
+use Rattle.sb_fraction.specs.Spots.{Spot, spot, vector}
 use Rattle.sb_model.specs.Solids.{is_in_solid, is_between_heights}
 use Rattle.sb_model.specs.Labels.{label_at}
-use Rattle.sb_model.specs.Corners.{whole}
+use Rattle.theory_numbers.specs.Fractions.{whole}
 use Rattle.sb_model.specs.Passages.{Ray, ray_from, at_depth, ArePassages}
 use Rattle.sb_model.specs.Walks.{item, course, IsWalkOf}
-use Rattle.sb_model.proofs.ExampleModels.{block, layered_wall_between_rooms}
-use Rattle.theory_models.proofs.InsideRectangle.{inside_rectangle}
+use Rattle.theory_models.proofs.ExampleModels.{block, layered_wall_between_rooms}
+use Rattle.theory_plans.proofs.InsideRectangle.{inside_rectangle}
 
 -- the ray from (4000, 1500, 1000) on Side(1) of space #20, along x
 abbrev through_the_wall : Ray
@@ -201,28 +201,14 @@ by_numbers P all none (pos n) (pos k) some = all n k (omega (arith, ints))
 by_numbers P all none (pos n) (negsuc k) some = none n k (omega (arith, ints))
 by_numbers P all none (negsuc n) y some = absurd (omega (arith, ints))
 
--- a fraction in lowest terms is one
-is_reduced : (num den : ℕ) → 0 < den → greatest_divisor num den ≡ 1 → IsReduced (pos num) (pos den)
-is_reduced num den some one = record {
-  positive = omega (arith, ints);
-  no_divisor = subst (λ g. IsGcd num den g) one (greatest_divisor_is num den);
-}
-
+-- the fractions at which the label changes are reduced
 first_break_reduced : IsReduced (pos 25) (pos 2)
 unfolding greatest_divisor divisor_within
-first_break_reduced = is_reduced 25 2 (omega arith) refl
+first_break_reduced = lowest_is_reduced (record { num = pos 25; den = pos 2 }) refl
 
 second_break_reduced : IsReduced (pos 175) (pos 2)
 unfolding greatest_divisor divisor_within
-second_break_reduced = is_reduced 175 2 (omega arith) refl
-
-third_break_reduced : IsReduced (pos 100) (pos 1)
-unfolding greatest_divisor divisor_within
-third_break_reduced = is_reduced 100 1 (omega arith) refl
-
-last_break_reduced : IsReduced (pos 4100) (pos 1)
-unfolding greatest_divisor divisor_within
-last_break_reduced = is_reduced 4100 1 (omega arith) refl
+second_break_reduced = lowest_is_reduced (record { num = pos 175; den = pos 2 }) refl
 
 -- the breaks: 0, 12.5, 87.5, 100 and 4100
 abbrev later_breaks : List (Break Label)
@@ -322,11 +308,11 @@ the_passages = (
         omega (arith, ints),
         (λ u good low high. in_second u.x u.y good low high),
         (
-          third_break_reduced,
+          whole_is_reduced (pos 100),
           omega (arith, ints),
           (λ u good low high. in_third u.x u.y good low high),
           (
-            last_break_reduced,
+            whole_is_reduced (pos 4100),
             omega (arith, ints),
             (λ u good low high. in_room u.x u.y good low high),
             (tt, λ u good low high. behind u.x u.y good low),

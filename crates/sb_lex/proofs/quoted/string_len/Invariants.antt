@@ -1,5 +1,5 @@
 use Rattle.std.proofs.Common.{◌≡◌, ◌≤◌, ◌-◌, length, drop}
-use Rattle.sb_lex.specs.Steps.{after, string_len}
+use Rattle.sb_lex.specs.Scanning.{after, string_len}
 use Rattle.sb_lex.proofs.quoted.string_len.Given as goal
 
 abbrev pub invariant-pieces : goal.invariant-pieces

@@ -1,6 +1,6 @@
 use Rattle.std.proofs.Common.{refl}
-use Rattle.sb_fraction.specs.Divisors.{greatest_divisor, divisor_within}
-use Rattle.sb_fraction.specs.Ratio.{reduced}
+use Rattle.theory_numbers.specs.Divisors.{greatest_divisor, divisor_within}
+use Rattle.theory_numbers.specs.Fractions.{reduced}
 use Rattle.theory_numbers.specs.Arrows.{cross, dot}
 use Rattle.theory_plane.specs.Sides.{clearance}
 use Rattle.sb_model.proofs.tests.bottom.Goals as goal

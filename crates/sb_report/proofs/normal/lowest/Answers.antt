@@ -1,5 +1,5 @@
 use Rattle.std.proofs.Common.{◌∙◌, ◌/◌, ap, sym}
-use Rattle.sb_fraction.specs.Divisors.{greatest_divisor}
+use Rattle.theory_numbers.specs.Divisors.{greatest_divisor}
 use Rattle.sb_report.proofs.LowestBesideZero.{lowest_beside_zero}
 use Rattle.sb_report.proofs.normal.lowest.Goals as goal
 

@@ -1,7 +1,7 @@
 use Rattle.std.proofs.Common.{◌≡◌, Ok, Err, Some, None, sym, ap, ◌∙◌, subst}
-use Rattle.sb_lex.specs.Tokens.{Answers, IsNext, moved}
-use Rattle.sb_step.specs.Answers.{IsAnswer}
-use Rattle.sb_step.specs.Steps.{start}
+use Rattle.sb_lex.specs.Tokens.{IsTokenAnswer, IsNext, moved}
+use Rattle.sb_step.specs.IndexAnswers.{IsAnswer}
+use Rattle.sb_step.specs.Turns.{start}
 use Rattle.sb_step.specs.Machines.{state_of}
 use Rattle.sb_step.specs.Progress.{Progress, finished}
 use Rattle.sb_step.proofs.ReadingGoesOn.{nothing_read, one_more, fault_at_bad, answer_at_end, numbers_at_end, error_answers}
@@ -25,7 +25,7 @@ tokens-preserved c =
     let invariant = c.tokens.invariant in
     let next : IsNext input place c.in-Ok-Some.token =
     subst (λ i. IsNext i place c.in-Ok-Some.token) invariant.input_is
-    (subst (λ o. Answers c.tokens.lexer (Ok o)) c.in-Ok-Some.field-0-is
+    (subst (λ o. IsTokenAnswer c.tokens.lexer (Ok o)) c.in-Ok-Some.field-0-is
     c.in-Ok-Some.ensures.answer) in
     let behind : c.next.new.self ≡ moved c.tokens.lexer (Ok (Some c.in-Ok-Some.token)) =
     subst (λ o. c.next.new.self ≡ moved c.tokens.lexer (Ok o)) c.in-Ok-Some.field-0-is
@@ -47,9 +47,9 @@ returns-in-Err-accept c =
     let invariant = c.tokens.invariant in
     let next : IsNext input place c.in-Ok-Some.token =
     subst (λ i. IsNext i place c.in-Ok-Some.token) invariant.input_is
-    (subst (λ o. Answers c.tokens.lexer (Ok o)) c.in-Ok-Some.field-0-is
+    (subst (λ o. IsTokenAnswer c.tokens.lexer (Ok o)) c.in-Ok-Some.field-0-is
     c.in-Ok-Some.ensures.answer) in
-    error_answers input place c.in-Ok-Some.token (state_of c.tokens.machine)
+    error_answers c.tokens_are_one_list.ensures.exist_from input place c.in-Ok-Some.token (state_of c.tokens.machine)
     (state_of c.accept.new.machine) c.tokens.collected c.accept.new.collected
     c.in-Err-accept.error invariant.progress next c.in-Err-accept.ensures
 
@@ -62,9 +62,9 @@ finish-requires-clause-answer c =
     let input = c.args.bytes.now in
     let place = c.tokens.lexer.place in
     let invariant = c.tokens.invariant in
-    let ends = subst (λ i. Answers (record { input = i; place = place }) (Ok None))
+    let ends = subst (λ i. IsTokenAnswer (record { input = i; place = place }) (Ok None))
     invariant.input_is
-    (subst (λ o. Answers c.tokens.lexer (Ok o)) c.in-Ok-None.field-0-is
+    (subst (λ o. IsTokenAnswer c.tokens.lexer (Ok o)) c.in-Ok-None.field-0-is
     c.in-Ok-None.ensures.answer) in
     subst (λ e. IsAnswer input (finished input e c.tokens.collected)) (sym c.end.ensures)
     (answer_at_end input place (state_of c.tokens.machine) c.tokens.collected
@@ -77,5 +77,5 @@ returns-in-Err c =
     let invariant = c.tokens.invariant in
     fault_at_bad input place c.in-Err.field-0.0 (state_of c.tokens.machine) c.tokens.collected
     invariant.progress
-    (subst (λ i. Answers (record { input = i; place = place }) (Err c.in-Err.field-0))
+    (subst (λ i. IsTokenAnswer (record { input = i; place = place }) (Err c.in-Err.field-0))
     invariant.input_is c.in-Err.ensures.answer)

@@ -8,7 +8,7 @@ pub returns-clause-exist : goal.returns-clause-exist
 returns-clause-exist c = each_instance_has_parameters
 
 pub returns-clause-unique : goal.returns-clause-unique
-returns-clause-unique c = has_once
+returns-clause-unique c = has_once c.tokens_are_one_list.ensures.unique_from
 
 pub returns-clause-only_lists : goal.returns-clause-only_lists
 returns-clause-only_lists c = λ ps xs rest says. said_list says

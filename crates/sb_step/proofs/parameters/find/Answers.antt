@@ -1,7 +1,7 @@
 use Rattle.std.proofs.Common.{sym, subst}
 use Rattle.std.specs.Prelude.{nat_eq}
-use Rattle.sb_step.specs.Held.{IsParamsAnswer}
-use Rattle.sb_step.proofs.ParametersOfAnInstance.{instance_awaits, held_answers}
+use Rattle.sb_step.specs.ParamsAnswers.{IsParamsAnswer}
+use Rattle.sb_step.proofs.ParametersOfAnInstance.{instance_awaits, params_answered}
 use Rattle.sb_step.proofs.parameters.find.Goals as goal
 
 pub by_form-requires : goal.by_form-requires
@@ -12,5 +12,5 @@ by_form-requires c =
 pub returns-in-Some : goal.returns-in-Some
 returns-in-Some c =
     subst (λ indexed. IsParamsAnswer indexed c.args.number c.by_form.result) c.file.view_is
-    (held_answers _ c.file.invariant.is.file c.args.number c.in-Some.place.now
+    (params_answered _ c.file.invariant.is.file c.args.number c.in-Some.place.now
     (sym c.in-Some.ensures.value) c.by_form.result c.by_form.ensures)

@@ -1,7 +1,7 @@
 use Rattle.std.proofs.Common.{sym, subst}
 use Rattle.std.proofs.lemmas.Result.{IfOk-weaker}
 use Rattle.sb_step.specs.Grammar.{ParameterList}
-use Rattle.sb_step.specs.Reads.{Awaits, Stands}
+use Rattle.sb_step.specs.Readers.{Awaits, AreAhead}
 use Rattle.sb_step.proofs.ParametersOfAnInstance.{behind_parenthesis, list_said}
 use Rattle.sb_step.proofs.parameters.list_at.Goals as goal
 
@@ -14,7 +14,7 @@ list-requires-clause-awaits c =
 pub returns : goal.returns
 returns c =
     IfOk-weaker c.list.result _ _
-    (λ ps reads. λ xs rest stands l. list_said c.at-lexer.result c.next-opens.new.lexer
+    (λ ps reads. λ xs rest ahead l. list_said c.at-lexer.result c.next-opens.new.lexer
     c.next-opens.result c.next-opens.ensures c.list.new.lexer ps reads xs rest
-    (subst (λ r. Stands r xs) (sym c.at-lexer.ensures) stands) l)
+    (subst (λ r. AreAhead r xs) (sym c.at-lexer.ensures) ahead) l)
     c.list.ensures

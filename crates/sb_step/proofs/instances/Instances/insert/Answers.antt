@@ -4,7 +4,7 @@ use Rattle.std.proofs.lemmas.Bool.{true≢false, false≢true}
 use Rattle.indexmap.specs.IndexMap.{get}
 use Rattle.indexmap.proofs.CallerLemmas.{insert_entry-new}
 use Rattle.sb_step.specs.declared.file.Record.{Record}
-use Rattle.sb_step.proofs.InstancesAreKept.{kept_first, kept_further}
+use Rattle.sb_step.proofs.InstancesAreStored.{stored_first, stored_further}
 use Rattle.sb_step.proofs.instances.Instances.insert.Goals as goal
 
 none_of : (o : Option Record) → is_some o ≡ false → o ≡ None
@@ -19,7 +19,7 @@ pub returns-then-is_some : goal.returns-then-is_some
 returns-then-is_some c = λ instances kept.
     let e = c.in_ok-known.ensures in
     let known = some_of c.in_ok-known.known (sym c.if-is_some.ensures) in
-    kept_further instances c.args.number c.args.body c.args.self.now
+    stored_further instances c.args.number c.args.body c.args.self.now
     (record {
       records = c.insert.new.self;
       numbers = c.push.new.self;
@@ -34,7 +34,7 @@ returns-else-is_some c = λ instances kept.
     let e = c.in_ok-known.ensures in
     let none : get nat_eq c.args.self.now.records c.args.number ≡ None =
     sym e.old ∙ none_of c.in_ok-known.known (sym c.if-is_some.ensures) in
-    kept_first instances c.args.number c.args.body c.args.self.now
+    stored_first instances c.args.number c.args.body c.args.self.now
     (record {
       records = c.insert.new.self;
       numbers = c.push.new.self;

@@ -1,0 +1,12 @@
+-- The laws by topic.
+
+-- a run of bytes ends where the first byte fails
+pub mod RunsAreLongest
+-- strings at the front, one behind the other
+pub mod PrefixesJoin
+-- any number of strings, and one more
+pub mod RepeatsGrow
+-- the parts of a joined string
+pub mod JoinedHasParts
+-- the inside of a text, and of a slice
+pub mod InsidesAreBetween

@@ -1,0 +1,35 @@
+-- A repeated string with one piece more, at its end or its front, is a repeated string.
+use Rattle.std.proofs.Common.{ℕ, List, [], ◌∷◌, ◌++◌, sym, refl, ap, ◌∙◌, append-nil}
+use Rattle.std.specs.List.{concat, AllByRecursion}
+use Rattle.std.proofs.lemmas.List.Folds.{concat-append}
+use Rattle.theory_bytes.specs.Sets.{Repeated}
+
+-- one string more at the end
+each_push : (P : List ℕ → Type 0) (pieces : List (List ℕ)) (more : List ℕ) → AllByRecursion P
+    pieces → P more → AllByRecursion P (pieces ++ more ∷ [])
+each_push P [] more each is = (is, tt)
+each_push P (p ∷ ps) more each is = (each.0, each_push P ps more each.1 is)
+
+-- a string with one piece more at its end
+pub repeated_push : (P : List ℕ → Type 0) (xs more : List ℕ) → Repeated P xs → P more
+    → Repeated P (xs ++ more)
+repeated_push P xs more r is = record {
+  pieces = r.pieces ++ more ∷ [];
+  each = each_push P r.pieces more r.each is;
+  joined =
+      ap (λ l. l ++ more) r.joined ∙ ap (λ l. concat r.pieces ++ l) (sym (append-nil more))
+      ∙ sym (concat-append r.pieces (more ∷ []));
+}
+
+-- and one more at the front
+pub repeated_cons : (P : List ℕ → Type 0) (more xs : List ℕ) → P more → Repeated P xs
+    → Repeated P (more ++ xs)
+repeated_cons P more xs is r = record {
+  pieces = more ∷ r.pieces;
+  each = (is, r.each);
+  joined = ap (λ l. more ++ l) r.joined;
+}
+
+-- no piece at all
+pub repeated_nothing : (P : List ℕ → Type 0) → Repeated P []
+repeated_nothing P = record { pieces = []; each = tt; joined = refl }
