@@ -9,7 +9,7 @@ use Rattle.theory_plane.specs.Points.{FacePoint, IsFacePoint, abscissa_of}
 use Rattle.theory_lists.specs.Members.{Stands}
 use Rattle.theory_lists.proofs.Members.{all_stands}
 use Rattle.theory_patches.specs.Marked.{MarkedPatch}
-use Rattle.theory_patches.specs.Sheets.{Sheet, IsSheet, IsOffCuts, IsMarkedAt}
+use Rattle.theory_patches.specs.Sheets.{Sheet, IsSheet, IsMarkedAt}
 use Rattle.theory_patches.proofs.MarkedAt.{marked_in_first, marked_in_second, marked_in_either}
 use Rattle.theory_patches.proofs.MarkedAt.{none_marked}
 use Rattle.theory_joining.specs.Runs.{IsRunOver, IsInSlab, AreRunsOver}
@@ -20,26 +20,7 @@ use Rattle.theory_joining.specs.Laws.{TellsEqual, HasJoin}
 use Rattle.theory_joining.proofs.MarksOfPut.{inside_parts}
 use Rattle.theory_joining.proofs.JoinedOn.{joined_on}
 use Rattle.theory_joining.proofs.JoinedIsTrimmed.{joined_is_trimmed}
-use Rattle.theory_joining.proofs.JoinedIsOne.{joined_ends}
-
--- ---- the beginning and the end
-
-module _ {M : Type 0} (sheet : Sheet) (Has : FacePoint → M → Type 0) where
-  -- where no point has a mark before a number, nothing is joined up to it
-  pub joined_from_nothing : (cur : Arrow)
-      → ((point : FacePoint) → IsFacePoint point → IsOffCuts sheet point
-      → IsBelow (abscissa_of point) cur → (mark : M) → Has point mark → ⊥)
-      → IsJoinedUpTo sheet Has cur []
-  joined_from_nothing cur none =
-      record {
-        patches = tt;
-        spaced = tt;
-        marks =
-            λ point point_in off before mark. (
-              λ marked. absurd (none_marked point mark marked),
-              λ has. absurd (none point point_in off before mark has),
-            );
-      }
+use Rattle.theory_joining.proofs.MarksBefore.{joined_from_nothing, joined_ends}
 
 -- ---- slab after slab, for any relation of points and marks
 

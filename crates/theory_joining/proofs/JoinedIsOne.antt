@@ -3,31 +3,19 @@
 use Rattle.std.proofs.Common.{List, IsPermutation}
 use Rattle.theory_numbers.specs.Arrows.{Arrow}
 use Rattle.theory_numbers.specs.Rationals.{IsRational, IsBelow}
-use Rattle.theory_numbers.proofs.Rationals.{below_at_most_trans}
-use Rattle.theory_plane.specs.Points.{FacePoint, IsFacePoint, abscissa_of}
+use Rattle.theory_plane.specs.Points.{FacePoint, abscissa_of}
 use Rattle.theory_lists.specs.Members.{Stands}
 use Rattle.theory_lists.proofs.Members.{all_stands}
 use Rattle.theory_patches.specs.Marked.{MarkedPatch}
-use Rattle.theory_patches.specs.Sheets.{Sheet, IsSheet, IsOffCuts, IsMarkedAt}
+use Rattle.theory_patches.specs.Sheets.{Sheet, IsSheet, IsOffCuts}
 use Rattle.theory_patches.specs.Laws.{CoverAlike}
 use Rattle.theory_patches.proofs.OneList.{one_list_of_patches}
-use Rattle.theory_joining.specs.Joined.{IsPatchUpTo, IsJoinedUpTo}
+use Rattle.theory_joining.specs.Joined.{IsJoinedUpTo}
 use Rattle.theory_joining.specs.Laws.{Passes, HasOneJoin}
-use Rattle.theory_joining.proofs.MarksOfPut.{inside_parts}
+use Rattle.theory_joining.proofs.MarksBefore.{joined_ends}
 use Rattle.theory_joining.proofs.JoinedIsTrimmed.{joined_is_trimmed}
 
 module _ {M : Type 0} (sheet : Sheet) (Has : FacePoint → M → Type 0) where
-  -- what is joined up to a number has no mark beyond it
-  pub joined_ends : (cur : Arrow) → IsRational cur → (ps : List (MarkedPatch M))
-      → IsJoinedUpTo sheet Has cur ps → (point : FacePoint) → IsFacePoint point → (mark : M)
-      → IsMarkedAt ps point mark → IsBelow (abscissa_of point) cur
-  joined_ends cur cur_in ps joined point point_in mark (p, stands, has_mark, inside) =
-      let p_in =
-      all_stands (λ q. IsPatchUpTo sheet cur q.region) p ps joined.patches stands
-      in
-      below_at_most_trans (abscissa_of point) p.region.high cur point_in
-      p_in.patch.region.high_in cur_in (inside_parts p.region point inside).before p_in.within
-
   -- the points that the law is asked about
   record IsAskedAbout (cur : Arrow) (point : FacePoint) : Type 0 where
     pub off : IsOffCuts sheet point
@@ -46,13 +34,13 @@ module _ {M : Type 0} (sheet : Sheet) (Has : FacePoint → M → Type 0) where
             λ point point_in off mark marked.
             record {
               off = off;
-              before = joined_ends cur cur_in ps first point point_in mark marked;
+              before = joined_ends sheet Has cur cur_in ps first point point_in mark marked;
             };
         second_plain =
             λ point point_in off mark marked.
             record {
               off = off;
-              before = joined_ends cur cur_in qs second point point_in mark marked;
+              before = joined_ends sheet Has cur cur_in qs second point point_in mark marked;
             };
         same_marks =
             λ point point_in asked mark.

@@ -10,6 +10,8 @@ pub mod PutIsSpaced
 pub mod PutByKey
 -- the step from the beginning of a slab to its end
 pub mod JoinedOn
+-- what is before a number, and nothing else
+pub mod MarksBefore
 -- the end: spaced is trimmed
 pub mod JoinedIsTrimmed
 -- and one list
