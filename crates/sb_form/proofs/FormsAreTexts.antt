@@ -1,16 +1,14 @@
 -- Every input of the first form is an exchange text, and no number is used twice in it.
-use Rattle.std.proofs.Common.{◌≡◌, ℕ, Bool, true, false, ◌&&◌, List, Option, Some, None, refl}
-use Rattle.std.proofs.Common.{sym, subst, arith}
+use Rattle.std.proofs.Common.{◌≡◌, ℕ, Bool, true, false, ◌&&◌, List, Option, Some, None, refl, sym, subst, arith}
 use Rattle.std.specs.Prelude.{is_some}
-use Rattle.sb_lex.specs.Scanning.{scan_letters, scan_name, scan_unsigned, scan_enumeration, exponent_len}
+use Rattle.sb_lex.specs.Scanning.{scan_letters, scan_name, scan_unsigned, scan_enclosed, exponent_len}
 use Rattle.sb_step.specs.Lexemes.{Lexeme}
 use Rattle.sb_step.specs.Grammar.{File, IsText}
 use Rattle.sb_step.specs.Faults.{IsFile}
 use Rattle.sb_step.specs.Numbers.{AreApart}
-use Rattle.sb_step.specs.Turns.{start, end_of, file_of, instances_of, Ran, run}
-use Rattle.sb_step.proofs.TextsEnd.{ends_text}
-use Rattle.sb_form.specs.FirstForm.{before_place, before_sizes, before_height, behind_height}
-use Rattle.sb_form.specs.FirstForm.{IsFormOf}
+use Rattle.sb_step.specs.Index.Turns.{start, end_of, file_of, instances_of, Ran, run}
+use Rattle.sb_step.proofs.Texts.TextsEnd.{ends_text}
+use Rattle.sb_form.specs.FirstForm.{before_place, before_sizes, before_height, behind_height, IsFormOf}
 use Rattle.sb_form.specs.AsText.{FormsAreTexts}
 use Rattle.sb_form.specs.declared.matcher.FirstForm.{FirstForm}
 use Rattle.sb_form.proofs.TokensAtTheFront.{Lead, tokens_at, lexemes_at, lead_reads}
@@ -49,7 +47,7 @@ text_read xs (Some ran) is reads = by (end_of ran.state) refl reads
 -- so with those of the form: #1, #2, #3, #10 to #17 and #20
 form_reads : (f : FirstForm) → reads_text (run (form_lexemes f) start) ≡ true
 unfolding before_place before_sizes before_height behind_height
-    scan_letters scan_name scan_unsigned scan_enumeration exponent_len
+    scan_letters scan_name scan_unsigned scan_enclosed exponent_len
 form_reads f = refl
 
 form_read : (f : FirstForm) → ReadsText (form_lexemes f)
