@@ -5,8 +5,8 @@ use Rattle.std.specs.Ordering.{int_eq}
 use Rattle.std.proofs.lemmas.Int.{ints, by_lt_z}
 use Rattle.std.proofs.lemmas.Bool.{and_from, and_left, and_right, and_parts, false≢true}
 use Rattle.std.proofs.lemmas.Bool.Decides.{Decides-int_eq}
-use Rattle.theory_numbers.specs.Arrows.{Arrow, cross}
-use Rattle.theory_numbers.specs.Rationals.{IsRational, IsBelow, rational}
+use Rattle.theory_numbers.specs.Arrows.{Arrow}
+use Rattle.theory_numbers.specs.Rationals.{IsBelow}
 use Rattle.theory_numbers.proofs.Signs.{less_from, test_less, test_not_less, test_at_most}
 use Rattle.theory_numbers.proofs.Signs.{test_not_at_most}
 use Rattle.theory_numbers.proofs.Shapes.{var, num, minus, plus, times, negated, equal}
@@ -17,14 +17,12 @@ use Rattle.theory_cuttings.specs.Passages.{ray_start}
 use Rattle.sb_model.specs.declared.face.FaceKind.TheVariants as kind
 use Rattle.sb_model.specs.declared.label.Label.{Label}
 use Rattle.sb_model.specs.declared.label.Label.TheVariants as label
-use Rattle.sb_fraction.specs.Spots.{Spot, IsSpot, vector, along}
+use Rattle.sb_fraction.specs.Spots.{Spot, IsSpot, vector, along, times_w}
 use Rattle.theory_plans.specs.Inside.{is_in_plan}
 use Rattle.sb_model.specs.Solids.{is_between_heights}
 use Rattle.sb_model.specs.Labels.{label_at, open_label}
 use Rattle.sb_model.specs.Faces.{bottom_of, top_of, is_in_plane, is_of_face}
-use Rattle.sb_fraction.specs.Spots.{times_w}
-use Rattle.sb_fraction.specs.Directions.{axis_x}
-use Rattle.sb_fraction.specs.Directions.{axis_y, axis_z}
+use Rattle.sb_fraction.specs.Directions.{axis_x, axis_y, axis_z}
 use Rattle.theory_plans.specs.Rectangles.{rectangle, is_between_xs, is_between_ys}
 use Rattle.theory_plans.proofs.InsideRectangle.{inside_rectangle}
 use Rattle.theory_models.proofs.PassagesOfRays.{LooksOut, looks_out_throughout, looks_out_up_to}
@@ -134,6 +132,15 @@ is_earth_label _ = false
 void_is_not_earth : label.Void ≡ label.Earth → ⊥
 void_is_not_earth same = false≢true (ap is_earth_label same)
 
+-- a point that is not between the heights of the box has the label of the open
+label_off_heights : (k : Besides) (n : ℕ) (e : Extent) (q : Spot)
+    → is_between_heights e.z0 e.z1 q ≡ false
+    → label_at (box_model k n e) q ≡ open_label (pos 0) q
+label_off_heights k n e q off =
+    label_outside k n e q
+    (and_right (is_in_plan (rectangle e.x0 e.x1 e.y0 e.y1 ∷ []) q)
+    (is_between_heights e.z0 e.z1 q) off)
+
 -- ---- the ray down from Bottom
 
 -- the point of the ray
@@ -144,13 +151,11 @@ down_label : (k : Besides) (n : ℕ) (e : Extent) (p : Spot) → IsSpot p → p.
     → (u : Arrow) → IsBelow ray_start u
     → label_at (box_model k n e) (down p u) ≡ open_label (pos 0) (down p u)
 down_label k n e p positive at u after =
-    label_outside k n e (down p u)
-    (and_right (is_in_plan (rectangle e.x0 e.x1 e.y0 e.y1 ∷ []) (down p u))
-    (is_between_heights e.z0 e.z1 (down p u))
+    label_off_heights k n e (down p u)
     (and_left (int_lt (e.z0 *ℤ (down p u).w) (down p u).z)
     (int_lt (down p u).z (e.z1 *ℤ (down p u).w))
     (test_not_less (e.z0 *ℤ (down p u).w) (down p u).z
-    (falls e.z0 p.z p.w u.x u.y at positive (deep u after)))))
+    (falls e.z0 p.z p.w u.x u.y at positive (deep u after))))
 
 sunk : (c : ℤ) (p : Spot) (u : Arrow) → IsSpot p → p.z ≡ c *ℤ p.w → (c *ℤ u.x) <ℤ u.y
     → (down p u).z <ℤ pos 0
@@ -212,12 +217,10 @@ up_label : (k : Besides) (n : ℕ) (e : Extent) (p : Spot) → IsSpot p → p.z 
     → (u : Arrow) → IsBelow ray_start u
     → label_at (box_model k n e) (up p u) ≡ open_label (pos 0) (up p u)
 up_label k n e p positive at u after =
-    label_outside k n e (up p u)
-    (and_right (is_in_plan (rectangle e.x0 e.x1 e.y0 e.y1 ∷ []) (up p u))
-    (is_between_heights e.z0 e.z1 (up p u))
+    label_off_heights k n e (up p u)
     (and_right (int_lt (e.z0 *ℤ (up p u).w) (up p u).z) (int_lt (up p u).z (e.z1 *ℤ (up p u).w))
     (test_not_less (up p u).z (e.z1 *ℤ (up p u).w)
-    (rises e.z1 p.z p.w u.x u.y at positive (deep u after)))))
+    (rises e.z1 p.z p.w u.x u.y at positive (deep u after))))
 
 not_raised : (c : ℤ) (p : Spot) (u : Arrow) → IsSpot p → p.z ≡ c *ℤ p.w
     → ((c *ℤ u.x) +ℤ u.y) <ℤ pos 0 → (up p u).z <ℤ pos 0

@@ -1,6 +1,6 @@
 -- A patch between whole abscissae and level lines or heights is a patch.
 use Rattle.std.proofs.Common.{◌≡◌, ◌≤◌, ◌<ℤ◌, ◌+ℤ◌, ◌-ℤ◌, ◌*ℤ◌, ℕ, ℤ, pos, true, false, refl, arith}
-use Rattle.std.proofs.Common.{IsTrue, ap, ◌*◌, ◌^◌}
+use Rattle.std.proofs.Common.{IsTrue, ap}
 use Rattle.std.specs.Ordering.{int_eq}
 use Rattle.std.specs.Prelude.{unsigned_abs, int_lt, int_le, nat_le}
 use Rattle.std.proofs.lemmas.Int.{ints, to_z-of_z}
@@ -8,8 +8,7 @@ use Rattle.std.proofs.lemmas.Bool.{and_from, and_parts, and_left, not_from_false
 use Rattle.theory_numbers.specs.Divisors.{greatest_divisor, divisor_within}
 use Rattle.sb_fraction.specs.Bounds.{greatest_num}
 use Rattle.sb_fraction.specs.Plane.{is_direction, is_coordinate, greatest_coordinate}
-use Rattle.theory_numbers.specs.Fractions.{Ratio}
-use Rattle.theory_numbers.specs.Fractions.{whole}
+use Rattle.theory_numbers.specs.Fractions.{Ratio, whole}
 use Rattle.theory_numbers.specs.Arrows.{cross, dot}
 use Rattle.theory_numbers.specs.Rationals.{is_below}
 use Rattle.theory_plane.specs.Sides.{level, clearance, clearance_at}

@@ -1,7 +1,7 @@
 -- What holds of each face of a box: a plain point lies in one patch of it and looks out at the
 -- patch's end, and the points of a patch are points of the face.
 use Rattle.std.proofs.Common.{◌≡◌, refl, sym, ap, ◌∙◌, arith, ℕ, ℤ, pos, ◌*ℤ◌, ◌<ℤ◌, ◌≤ℤ◌, Bool}
-use Rattle.std.proofs.Common.{true, false, not, ◌&&◌, [], int_lt, subst, ⊎_elim, Option, Some}
+use Rattle.std.proofs.Common.{true, false, not, ◌&&◌, int_lt, subst, ⊎_elim, Option, Some}
 use Rattle.std.specs.List.{AllByRecursion}
 use Rattle.std.proofs.lemmas.Int.{ints}
 use Rattle.std.proofs.lemmas.Bool.{and_from, and_parts, true≢false, false≢true}
@@ -17,18 +17,16 @@ use Rattle.sb_model.specs.declared.face.FaceKind.TheVariants as kind
 use Rattle.sb_model.specs.declared.label.Label.TheVariants as label
 use Rattle.sb_model.specs.declared.walk.End.{End}
 use Rattle.sb_model.specs.declared.walk.End.TheVariants as end
-use Rattle.sb_fraction.specs.Spots.{Spot, Vector, IsSpot, along, reading}
+use Rattle.sb_fraction.specs.Spots.{Spot, Vector, IsSpot, along, reading, times_w}
 use Rattle.sb_fraction.specs.Edges.{Edge, is_on}
 use Rattle.sb_model.specs.Solids.{is_between_heights}
 use Rattle.sb_model.specs.PlanEdges.{is_abscissa}
 use Rattle.sb_model.specs.PlainPoints.{is_plain, is_off_cuts, is_off_side_cuts, is_at_height}
 use Rattle.sb_model.specs.PlainPoints.{is_at_ground}
 use Rattle.sb_model.specs.Labels.{label_at, open_label}
-use Rattle.sb_model.specs.Faces.{Surface, side_over, is_in_plane, is_of_face}
-use Rattle.sb_fraction.specs.Spots.{times_w}
-use Rattle.sb_fraction.specs.Directions.{direction_of}
-use Rattle.sb_model.specs.Faces.{is_of_side, edge_numbered, bottom_of, top_of}
-use Rattle.sb_fraction.specs.Directions.{axis_z}
+use Rattle.sb_model.specs.Faces.{Surface, side_over, is_in_plane, is_of_face, is_of_side}
+use Rattle.sb_model.specs.Faces.{edge_numbered, bottom_of, top_of}
+use Rattle.sb_fraction.specs.Directions.{direction_of, axis_z}
 use Rattle.sb_model.specs.Patches.{is_same_kind}
 use Rattle.theory_lists.specs.OneOf.{ExactlyOne}
 use Rattle.theory_models.proofs.PatchesBetweenLevels.{is_in_window}

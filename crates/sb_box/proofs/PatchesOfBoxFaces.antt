@@ -19,9 +19,8 @@ use Rattle.theory_lists.specs.Members.{AllOfTwo}
 use Rattle.theory_lists.specs.OneOf.{ExactlyOne}
 use Rattle.theory_models.proofs.PatchesBetweenLevels.{is_in_window}
 use Rattle.theory_lists.proofs.Blocks.{none-append, none_where, first_alone, one_behind}
-use Rattle.theory_lists.proofs.Blocks.{one_in_first, one_in_second, all-append}
+use Rattle.theory_lists.proofs.Blocks.{one_in_first, one_in_second, all-append, two-append}
 use Rattle.theory_lists.proofs.Members.{all_follow}
-use Rattle.theory_lists.proofs.Blocks.{two-append}
 use Rattle.sb_box.specs.declared.extent.Extent.{Extent}
 use Rattle.sb_box.specs.BoxList.{BoxPatch, box_patch, box_patches, side_patches, is_cut, below}
 use Rattle.sb_box.specs.BoxList.{above}
@@ -122,39 +121,31 @@ meets_whole face low high z0 z1 not_cut =
     ))
     (λ over. inr (rw (test_at_most (pos 0) z0 over) refl, over))
 
+part_between : (face : FaceKind) (low high z0 z1 lower upper : ℤ) (met : End) → z0 ≤ℤ lower
+    → upper ≤ℤ z1 → MeetsBySide (box_patch face low high lower upper met)
+    → IsPart face low high z0 z1 (box_patch face low high lower upper met)
+part_between face low high z0 z1 lower upper met from to meets = record {
+  kind_is = refl;
+  low_is = refl;
+  high_is = refl;
+  from_bottom = from;
+  to_top = to;
+  meets = meets;
+}
+
 -- the patches of a side are its parts
 pub side_is_parts : (face : FaceKind) (low high z0 z1 : ℤ) → z0 <ℤ z1
     → AllByRecursion (IsPart face low high z0 z1) (side_patches face low high z0 z1)
 side_is_parts face low high z0 z1 rising =
     all_of_side (IsPart face low high z0 z1) face low high z0 z1
     (λ cut. let signs = cut_tells z0 z1 cut in (
-      record {
-        kind_is = refl;
-        low_is = refl;
-        high_is = refl;
-        from_bottom = omega (arith, ints);
-        to_top = omega (arith, ints);
-        meets = inl (refl, omega (arith, ints));
-      },
-      record {
-        kind_is = refl;
-        low_is = refl;
-        high_is = refl;
-        from_bottom = omega (arith, ints);
-        to_top = omega (arith, ints);
-        meets = inr (refl, omega (arith, ints));
-      },
+      part_between face low high z0 z1 z0 (pos 0) end.Earth (omega (arith, ints))
+          (omega (arith, ints)) (inl (refl, omega (arith, ints))),
+      part_between face low high z0 z1 (pos 0) z1 end.Outside (omega (arith, ints))
+          (omega (arith, ints)) (inr (refl, omega (arith, ints))),
     ))
-    (λ not_cut. record {
-      kind_is = refl;
-      low_is = refl;
-      high_is = refl;
-      from_bottom =
-          omega (arith, ints);
-      to_top = omega (arith, ints);
-      meets =
-          meets_whole face low high z0 z1 not_cut;
-    })
+    (λ not_cut. part_between face low high z0 z1 z0 z1 (above z0) (omega (arith, ints))
+    (omega (arith, ints)) (meets_whole face low high z0 z1 not_cut))
 
 -- ---- each inner point of a side off the ground lies in one part
 

@@ -1,18 +1,14 @@
 -- The digits of a number below a million are plain, end at the point behind them, and give the
 -- number back.
-use Rattle.std.proofs.Common.{◌≡◌, ◌<◌, ◌≤◌, ◌+◌, ◌-◌, ◌++◌, ◌==◌, ◌∙◌, ℕ, zero, suc, List, [], ◌∷◌}
-use Rattle.std.proofs.Common.{Some, true, length, get_or, take, refl, ap, sym, arith, rules, not}
-use Rattle.std.proofs.Common.{length-append, lt-ltb, eqb-true, drop, drop-cons, add-one}
+use Rattle.std.proofs.Common.{◌≡◌, ◌<◌, ◌≤◌, ◌+◌, ◌-◌, ◌++◌, ◌==◌, ◌∙◌, ℕ, zero, suc, List, [], ◌∷◌, Some, true, length, get_or, take, refl, ap, sym, arith, rules, not, length-append, lt-ltb, eqb-true, drop, drop-cons, add-one}
 use Rattle.std.specs.Prelude.{decimal}
 use Rattle.std.specs.List.{list_all, position, prefix_len}
 use Rattle.std.specs.Char.{is_ascii_digit, digit_value}
 use Rattle.std.specs.Int.{IsInRange}
 use Rattle.std.specs.Str.{all_ascii_digits}
 use Rattle.std.specs.Str.Parse.{digits_value}
-use Rattle.std.proofs.lemmas.Str.Parse.{IsNumeralModel, numerals_by_value, tells_all_ascii_digits}
-use Rattle.std.proofs.lemmas.Str.Parse.{digit_at, digits_value-take-le, digits_value_short}
-use Rattle.std.proofs.lemmas.Fmt.{digits_decimal, length-decimal-le, decimal_nonempty}
-use Rattle.std.proofs.lemmas.Fmt.{first_decimal, decimal-digits_value, decimal_digit}
+use Rattle.std.proofs.lemmas.Str.Parse.{IsNumeralModel, numerals_by_value, tells_all_ascii_digits, digit_at, digits_value-take-le, digits_value_short}
+use Rattle.std.proofs.lemmas.Fmt.{digits_decimal, length-decimal-le, decimal_nonempty, first_decimal, decimal-digits_value, decimal_digit}
 use Rattle.std.proofs.Math.Seq.{take-append_seam}
 use Rattle.std.proofs.lemmas.List.{take-append-drop}
 use Rattle.std.proofs.lemmas.List.Quantifiers.{position-Some}
@@ -26,6 +22,7 @@ list_all-digits : (ds : List ℕ) → list_all is_ascii_digit ds ≡ all_ascii_d
 list_all-digits [] = refl
 list_all-digits (d ∷ ds) = rw (list_all-digits ds) refl
 
+-- the decimal of a short number has digits alone
 pub digits_decimal_all : (n : ℕ) → n < 1000000 → list_all is_ascii_digit (decimal n) ≡ true
 digits_decimal_all n short =
     list_all-digits (decimal n) ∙ digits_decimal plain_numerals n (omega arith)
@@ -55,6 +52,7 @@ decimal_is_plain (suc n) short = (
       (omega (arith, first_decimal (suc n) (omega arith) (omega arith), zero_leads)),
 )
 
+-- and plain digits write a short number
 pub short_value : (ds : List ℕ) → HasPlainLength ds → list_all is_ascii_digit ds ≡ true
     → digits_value 10 ds < 1000000
 short_value ds plain all =

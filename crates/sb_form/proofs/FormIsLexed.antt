@@ -2,20 +2,22 @@
 -- them stand its six numbers.
 use Rattle.std.proofs.Common.{◌++◌, ℕ, ℤ, List, [], ◌∷◌, Option, Some, None, refl, subst, sym}
 use Rattle.std.proofs.Math.Seq.{drop-append_seam}
-use Rattle.sb_lex.specs.Scanning.{scan_letters, scan_name, scan_unsigned, scan_enumeration, exponent_len}
+use Rattle.sb_lex.specs.Scanning.{scan_letters, scan_name, scan_unsigned, scan_enclosed, exponent_len}
 use Rattle.sb_form.specs.Numbers.{IsShort, number_text}
-use Rattle.sb_form.specs.FirstForm.{before_place, before_sizes, before_height, behind_height, comma}
-use Rattle.sb_form.specs.FirstForm.{form_text, AreShort}
+use Rattle.sb_form.specs.FirstForm.{before_place, before_sizes, before_height, behind_height, comma, form_text, AreShort}
 use Rattle.sb_form.specs.declared.matcher.FirstForm.{FirstForm}
 use Rattle.sb_form.proofs.TokensAtTheFront.{Piece, Lexed, lexed, Lead, lead_append, lexed_leads}
 use Rattle.sb_form.proofs.NumbersAreReals.{EndsReal, real_of, number_is_first}
 
 -- the pieces of a fixed part, as many as it has tokens
 
+-- the pieces that were found
 abbrev pub pieces_in : Option Lexed → List Piece
 pieces_in None = []
 pieces_in (Some l) = l.pieces
 
+-- the fixed parts of the text as pieces: before the place, a comma, before the sizes, before the
+-- height, and behind it
 abbrev pub place_pieces : List Piece
 place_pieces = pieces_in (lexed 71 before_place)
 
@@ -34,7 +36,7 @@ last_pieces = pieces_in (lexed 61 behind_height)
 -- they lead, whatever follows
 
 place_leads : (rest : List ℕ) → Lead place_pieces (before_place ++ rest) rest
-unfolding before_place scan_letters scan_name scan_unsigned scan_enumeration exponent_len
+unfolding before_place scan_letters scan_name scan_unsigned scan_enclosed exponent_len
 place_leads rest =
     lexed_leads 71 (before_place ++ rest) (record { pieces = place_pieces; rest = rest }) refl
 
@@ -43,12 +45,12 @@ comma_leads rest =
     lexed_leads 1 (comma ++ rest) (record { pieces = comma_pieces; rest = rest }) refl
 
 sizes_leads : (rest : List ℕ) → Lead sizes_pieces (before_sizes ++ rest) rest
-unfolding before_sizes scan_letters scan_name scan_unsigned scan_enumeration exponent_len
+unfolding before_sizes scan_letters scan_name scan_unsigned scan_enclosed exponent_len
 sizes_leads rest =
     lexed_leads 33 (before_sizes ++ rest) (record { pieces = sizes_pieces; rest = rest }) refl
 
 height_leads : (rest : List ℕ) → Lead height_pieces (before_height ++ rest) rest
-unfolding before_height scan_letters scan_name scan_unsigned scan_enumeration exponent_len
+unfolding before_height scan_letters scan_name scan_unsigned scan_enclosed exponent_len
 height_leads rest =
     lexed_leads 25 (before_height ++ rest) (record { pieces = height_pieces; rest = rest }) refl
 
@@ -57,7 +59,7 @@ abbrev pub line_feed : List ℕ
 line_feed = 10 ∷ []
 
 last_leads : Lead last_pieces behind_height line_feed
-unfolding behind_height scan_letters scan_name scan_unsigned scan_enumeration exponent_len
+unfolding behind_height scan_letters scan_name scan_unsigned scan_enclosed exponent_len
 last_leads = lexed_leads 61 behind_height (record { pieces = last_pieces; rest = line_feed }) refl
 
 -- what follows the numbers ends them

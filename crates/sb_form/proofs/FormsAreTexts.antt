@@ -1,16 +1,14 @@
 -- Every input of the first form is an exchange text, and no number is used twice in it.
-use Rattle.std.proofs.Common.{◌≡◌, ℕ, Bool, true, false, ◌&&◌, List, Option, Some, None, refl}
-use Rattle.std.proofs.Common.{sym, subst, arith}
+use Rattle.std.proofs.Common.{◌≡◌, ℕ, Bool, true, false, ◌&&◌, List, Option, Some, None, refl, sym, subst, arith}
 use Rattle.std.specs.Prelude.{is_some}
-use Rattle.sb_lex.specs.Scanning.{scan_letters, scan_name, scan_unsigned, scan_enumeration, exponent_len}
+use Rattle.sb_lex.specs.Scanning.{scan_letters, scan_name, scan_unsigned, scan_enclosed, exponent_len}
 use Rattle.sb_step.specs.Lexemes.{Lexeme}
 use Rattle.sb_step.specs.Grammar.{File, IsText}
 use Rattle.sb_step.specs.Faults.{IsFile}
 use Rattle.sb_step.specs.Numbers.{AreApart}
-use Rattle.sb_step.specs.Turns.{start, end_of, file_of, instances_of, Ran, run}
-use Rattle.sb_step.proofs.TextsEnd.{ends_text}
-use Rattle.sb_form.specs.FirstForm.{before_place, before_sizes, before_height, behind_height}
-use Rattle.sb_form.specs.FirstForm.{IsFormOf}
+use Rattle.sb_step.specs.Index.Turns.{start, end_of, file_of, instances_of, Ran, run}
+use Rattle.sb_step.proofs.Texts.TextsEnd.{ends_text}
+use Rattle.sb_form.specs.FirstForm.{before_place, before_sizes, before_height, behind_height, IsFormOf}
 use Rattle.sb_form.specs.AsText.{FormsAreTexts}
 use Rattle.sb_form.specs.declared.matcher.FirstForm.{FirstForm}
 use Rattle.sb_form.proofs.TokensAtTheFront.{Lead, tokens_at, lexemes_at, lead_reads}
@@ -27,13 +25,13 @@ record ReadsText (xs : List Lexeme) : Type 0 where
   place : ℕ
   is : run xs start ≡ Some ran
   ends : end_of ran.state ≡ Some place
-  rise : rises_from 0 (instances_of ran.founds) ≡ true
+  rise : rises_from 0 (instances_of ran.events) ≡ true
 
 -- the same as a test of its run
 abbrev pub reads_text : Option Ran → Bool
 reads_text None = false
 reads_text (Some ran) =
-    is_some (end_of ran.state) && rises_from 0 (instances_of ran.founds)
+    is_some (end_of ran.state) && rises_from 0 (instances_of ran.events)
 
 text_read : (xs : List Lexeme) (o : Option Ran) → run xs start ≡ o → reads_text o ≡ true
     → ReadsText xs
@@ -41,7 +39,7 @@ text_read xs None is reads = absurd (cc reads)
 text_read xs (Some ran) is reads = by (end_of ran.state) refl reads
   where
     by : (place : Option ℕ) → end_of ran.state ≡ place
-        → (is_some place && rises_from 0 (instances_of ran.founds)) ≡ true → ReadsText xs
+        → (is_some place && rises_from 0 (instances_of ran.events)) ≡ true → ReadsText xs
     by None ends reads = absurd (cc reads)
     by (Some place) ends reads =
         record { ran = ran; place = place; is = is; ends = ends; rise = reads }
@@ -49,7 +47,7 @@ text_read xs (Some ran) is reads = by (end_of ran.state) refl reads
 -- so with those of the form: #1, #2, #3, #10 to #17 and #20
 form_reads : (f : FirstForm) → reads_text (run (form_lexemes f) start) ≡ true
 unfolding before_place before_sizes before_height behind_height
-    scan_letters scan_name scan_unsigned scan_enumeration exponent_len
+    scan_letters scan_name scan_unsigned scan_enclosed exponent_len
 form_reads f = refl
 
 form_read : (f : FirstForm) → ReadsText (form_lexemes f)
@@ -57,7 +55,7 @@ form_read f = text_read (form_lexemes f) (run (form_lexemes f) start) refl (form
 
 -- the file of the form
 form_file : FirstForm → File
-form_file f = let r = form_read f in file_of r.ran.founds r.place
+form_file f = let r = form_read f in file_of r.ran.events r.place
 
 form_is_text : (f : FirstForm) → IsText (form_lexemes f) (form_file f)
 unfolding form_file
@@ -79,7 +77,7 @@ form_is_file f input form =
 form_is_apart : (f : FirstForm) → AreApart (form_file f).instances
 unfolding form_file
 form_is_apart f =
-    let r = form_read f in rising_are_apart 0 (instances_of r.ran.founds) r.rise
+    let r = form_read f in rising_are_apart 0 (instances_of r.ran.events) r.rise
 
 -- every input of the first form is an exchange text
 pub forms_are_texts : FormsAreTexts

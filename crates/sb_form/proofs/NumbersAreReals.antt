@@ -1,7 +1,5 @@
 -- A number of the first form is read as one real.
-use Rattle.std.proofs.Common.{◌≡◌, ◌<◌, ◌+◌, ◌++◌, ◌==◌, ◌∙◌, ℕ, ℤ, pos, negsuc, suc, true, false}
-use Rattle.std.proofs.Common.{List, [], ◌∷◌, Some, length, get_or, drop, refl, ap, sym, subst}
-use Rattle.std.proofs.Common.{arith, append_assoc, length-append}
+use Rattle.std.proofs.Common.{◌≡◌, ◌<◌, ◌+◌, ◌++◌, ◌==◌, ◌∙◌, ℕ, ℤ, pos, negsuc, suc, true, false, List, [], ◌∷◌, Some, length, get_or, drop, refl, ap, sym, subst, arith, append_assoc, length-append}
 use Rattle.std.specs.Prelude.{decimal, slice_index}
 use Rattle.std.specs.List.{list_all, prefix_len}
 use Rattle.std.specs.Int.{IsInRange}
@@ -12,8 +10,7 @@ use Rattle.std.proofs.lemmas.Fmt.{decimal_nonempty}
 use Rattle.std.proofs.lemmas.Bool.{and_parts, ne_eqb}
 use Rattle.sb_lex.specs.declared.kinds.Kind.TheVariants as kind
 use Rattle.sb_lex.specs.Bytes.{capital_e, is_letter}
-use Rattle.sb_lex.specs.Scanning.{longer, head_of, exponent_len, fraction_len, scan_unsigned, scan_at}
-use Rattle.sb_lex.specs.Scanning.{scan}
+use Rattle.sb_lex.specs.Scanning.{longer, head_of, exponent_len, fraction_len, scan_unsigned, scan_at, scan}
 use Rattle.sb_lex.specs.Kinds.{BlankPiece}
 use Rattle.theory_bytes.proofs.RepeatsGrow.{repeated_nothing}
 use Rattle.sb_form.specs.Numbers.{IsShort, number_text, digit_nine, digit_zero, minus, point}
@@ -93,6 +90,7 @@ abbrev pub real_of : ℤ → Piece
 real_of n =
     record { gap = 0; of_kind = kind.Real; size = length (number_text n); text = number_text n }
 
+-- a short number is the first token of the bytes, where no digit or letter goes on with it
 pub number_is_first : (n : ℤ) (rest : List ℕ) → IsShort n → EndsReal rest
     → IsFirst (real_of n) (number_text n ++ rest)
 number_is_first n rest short ends = record {

@@ -1,6 +1,5 @@
 -- Where a text begins with a number of the first form, there is one such number and one rest.
-use Rattle.std.proofs.Common.{◌≡◌, ◌<◌, ◌++◌, ◌==◌, ◌∙◌, ℕ, ℤ, pos, negsuc, suc, List, [], ◌∷◌}
-use Rattle.std.proofs.Common.{true, length, get_or, ap, sym, arith, append_assoc}
+use Rattle.std.proofs.Common.{◌≡◌, ◌<◌, ◌++◌, ◌==◌, ◌∙◌, ℕ, ℤ, pos, negsuc, suc, List, [], ◌∷◌, true, length, get_or, ap, sym, arith, append_assoc}
 use Rattle.std.specs.Prelude.{decimal}
 use Rattle.std.specs.List.{list_all, position}
 use Rattle.std.specs.Char.{is_ascii_digit}
@@ -23,6 +22,7 @@ digits_next ds es r s left right same =
     append_cancel_left es _ _ (ap (λ l. l ++ point ∷ r) (sym digits) ∙ same) in
     (digits, cc)
 
+-- a decimal with its point is read in one way
 pub decimal_next : (m n : ℕ) (r s : List ℕ) → m < 1000000 → n < 1000000
     → decimal m ++ point ∷ r ≡ decimal n ++ point ∷ s → (m ≡ n) × (r ≡ s)
 decimal_next m n r s left right same =

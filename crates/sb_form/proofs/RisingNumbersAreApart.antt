@@ -1,10 +1,9 @@
 -- Where the numbers of instances rise, no two are one number.
-use Rattle.std.proofs.Common.{◌≡◌, ◌<◌, ◌≤◌, ◌+◌, ◌==◌, ◌&&◌, ℕ, Bool, true, cond, List, [], ◌∷◌}
-use Rattle.std.proofs.Common.{refl, ap, arith, ⊎_elim}
+use Rattle.std.proofs.Common.{◌≡◌, ◌<◌, ◌≤◌, ◌+◌, ◌==◌, ◌&&◌, ℕ, Bool, true, cond, List, [], ◌∷◌, refl, ap, arith, ⊎_elim}
 use Rattle.std.specs.Prelude.{nat_lt}
 use Rattle.std.proofs.lemmas.Bool.{and_parts, cases_Bool, eqb-true, ltb-true}
 use Rattle.std.proofs.lemmas.List.Sums.{sum_by-cons}
-use Rattle.sb_step.specs.declared.file.Record.{Record}
+use Rattle.sb_step.specs.declared.step_file.records.Record.{Record}
 use Rattle.sb_step.specs.Numbers.{uses, AreApart}
 
 -- each number is above the one before, and the first above this
@@ -28,6 +27,7 @@ none_above n from (i ∷ later) low rises =
     (λ other. omega (arith, uses-cons n i later, others, ap {B = ℕ} (λ b. cond b 1 0) other))
     (cases_Bool (i.0 == n))
 
+-- instances whose numbers rise are apart
 pub rising_are_apart : (from : ℕ) (instances : List (ℕ × Record))
     → rises_from from instances ≡ true → AreApart instances
 rising_are_apart from [] rises n = omega arith

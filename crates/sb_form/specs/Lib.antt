@@ -1,3 +1,4 @@
+-- What contracts of this crate cite, in reading order.
 pub mod Numbers
 pub mod FirstForm
 pub mod Meaning

@@ -21,6 +21,7 @@ use Rattle.sb_form.specs.declared.meaning.Defect.TheVariants.{Shape, Range, OffG
 abbrev pub has_shape : FirstForm → Bool
 has_shape f = int_lt (pos 0) f.size_x && (int_lt (pos 0) f.size_y && int_lt (pos 0) f.height)
 
+-- a coordinate doubled
 abbrev pub twice : ℤ → ℤ
 twice z = z +ℤ z
 
@@ -41,6 +42,7 @@ is_near_up z height = is_near_doubled (twice z) && is_near_doubled (twice (z +�
 abbrev pub is_near : FirstForm → Bool
 is_near f = is_near_about f.x f.size_x && (is_near_about f.y f.size_y && is_near_up f.z f.height)
 
+-- an even number
 abbrev pub is_even : ℤ → Bool
 is_even z = unsigned_abs z % 2 == 0
 
@@ -86,10 +88,12 @@ nanometres millimetres = millimetres *ℤ pos 1000000
 abbrev pub space_number : ℕ
 space_number = 20
 
+-- the frame of the space: not turned, with its origin at the form's place
 abbrev pub frame_of : FirstForm → Frame
 frame_of f =
     record { turn = unturned; shift = nanometres f.x ∷ nanometres f.y ∷ nanometres f.z ∷ [] }
 
+-- the one space
 abbrev pub space_of : FirstForm → Space
 space_of f = record {
   number = space_number;

@@ -1,7 +1,6 @@
 -- The whole numbers that the first form holds: `0.`, or an optional minus, a digit from 1 to 9, at
 -- most five further digits, and a point.
-use Rattle.std.specs.Prelude.{◌≡◌, ◌<◌, ◌≤◌, ◌++◌, ℕ, ℤ, List, length, codes, unsigned_abs}
-use Rattle.std.specs.Prelude.{slice_index}
+use Rattle.std.specs.Prelude.{◌≡◌, ◌<◌, ◌≤◌, ◌++◌, ℕ, ℤ, List, length, codes, unsigned_abs, slice_index}
 use Rattle.std.specs.Fmt.{signed_decimal}
 
 -- it has at most six digits

@@ -18,8 +18,8 @@ abbrev pub is_plan_point : Point → Bool
 is_plan_point p = is_coordinate p.x && is_coordinate p.y
 
 -- the plan points (ax, ay) and (bx, by) differ
-abbrev pub are_apart : ℤ → ℤ → ℤ → ℤ → Bool
-are_apart ax ay bx by = not (int_eq ax bx && int_eq ay by)
+abbrev pub are_two_points : ℤ → ℤ → ℤ → ℤ → Bool
+are_two_points ax ay bx by = not (int_eq ax bx && int_eq ay by)
 
 -- the greatest size of a number of a direction
 abbrev pub longest_step : ℕ

@@ -39,7 +39,8 @@ holds_later b text h = record {
 }
 
 closing_here : (b : ℕ) (bs : List ℕ) → closes b bs ≡ true → Closing (b ∷ bs) 0
-closing_here b [] closed = absurd (both_ways (closes b []) (and_right (eqb b byte.asterisk) (eqb 0 byte.slash) refl)
+closing_here b [] closed = absurd (both_ways (closes b []) (and_right (eqb b byte.asterisk)
+    (eqb 0 byte.slash) refl)
     closed)
 closing_here b (c ∷ bs) closed =
     let parts = and_parts (eqb b byte.asterisk) (eqb c byte.slash) closed in
@@ -52,7 +53,8 @@ closing_here b (c ∷ bs) closed =
     }
 
 -- one byte more at the front, unless `*/` begins with it, leaves a text unclosed
-unclosed_more : (b : ℕ) (text rest : List ℕ) → closes b (text ++ (byte.asterisk ∷ byte.slash ∷ rest)) ≡ false
+unclosed_more : (b : ℕ) (text rest : List ℕ)
+    → closes b (text ++ (byte.asterisk ∷ byte.slash ∷ rest)) ≡ false
     → Unclosed text → Unclosed (b ∷ text)
 unclosed_more b text rest apart unclosed h = at_front h.before h.found
   where
@@ -63,8 +65,10 @@ unclosed_more b text rest apart unclosed h = at_front h.before h.found
         let second : get_or (text ++ (byte.asterisk ∷ byte.slash ∷ rest)) 0 0 ≡ byte.slash = ap
         (λ l. get_or (l ++ (byte.asterisk ∷ byte.slash ∷ rest)) 0 0) behind in
         both_ways (closes b (text ++ (byte.asterisk ∷ byte.slash ∷ rest))) apart
-        (and_from (eqb b byte.asterisk) (eqb (get_or (text ++ (byte.asterisk ∷ byte.slash ∷ rest)) 0 0) byte.slash)
-        (eq-eqb b byte.asterisk first) (eq-eqb (get_or (text ++ (byte.asterisk ∷ byte.slash ∷ rest)) 0 0) byte.slash second))
+        (and_from (eqb b byte.asterisk) (eqb (get_or (text ++
+        (byte.asterisk ∷ byte.slash ∷ rest)) 0 0) byte.slash)
+        (eq-eqb b byte.asterisk first) (eq-eqb (get_or (text ++
+        (byte.asterisk ∷ byte.slash ∷ rest)) 0 0) byte.slash second))
     at_front (x ∷ before) found =
         let later : text ≡ before ++ (byte.asterisk ∷ byte.slash ∷ h.after) = cc in
         unclosed (record { before = before; after = h.after; found = later })
@@ -89,7 +93,8 @@ closing_found (b ∷ bs) =
 
 not_closed_here : (b : ℕ) (text rest : List ℕ) → Unclosed (b ∷ text)
     → closes b (text ++ (byte.asterisk ∷ byte.slash ∷ rest)) ≡ false
-not_closed_here b [] rest unclosed = and_right (eqb b byte.asterisk) (eqb byte.asterisk byte.slash) refl
+not_closed_here b [] rest unclosed = and_right (eqb b byte.asterisk)
+    (eqb byte.asterisk byte.slash) refl
 not_closed_here b (c ∷ text) rest unclosed =
     false_from_ne_true (closes b (c ∷ text ++ (byte.asterisk ∷ byte.slash ∷ rest))) (λ closed.
     let parts = and_parts (eqb b byte.asterisk) (eqb c byte.slash) closed in
@@ -100,7 +105,8 @@ not_closed_here b (c ∷ text) rest unclosed =
     }))
 
 -- and it is found
-pub close_at-text : (text rest : List ℕ) → Unclosed text → close_at (text ++ (byte.asterisk ∷ byte.slash ∷ rest))
+pub close_at-text : (text rest : List ℕ) → Unclosed text
+    → close_at (text ++ (byte.asterisk ∷ byte.slash ∷ rest))
     ≡ Some (length text)
 close_at-text [] rest unclosed = refl
 close_at-text (b ∷ text) rest unclosed =
@@ -117,7 +123,8 @@ comment_len-comment xs rest is =
     (close_at-text t.inside rest t.is)
     ∙ omega (arith, around_length (codes "/*") (codes "*/") Unclosed xs t)
 
-comment_at_front : (bs : List ℕ) (o : Option ℕ) → IsClosing o bs → 0 < closed_len o → HasPrefix IsComment
+comment_at_front : (bs : List ℕ) (o : Option ℕ) → IsClosing o bs → 0 < closed_len o
+    → HasPrefix IsComment
     (byte.slash ∷ byte.asterisk ∷ bs) (closed_len o)
 comment_at_front bs None c some = absurd (omega arith)
 comment_at_front bs (Some n) c some =
@@ -126,10 +133,13 @@ comment_at_front bs (Some n) c some =
     record {
       rest = c.rest;
       prefix =
-          prefix_so_long IsComment (byte.slash ∷ byte.asterisk ∷ bs) c.rest (2 + (n + 2)) (n + 4) (omega arith)
-          (prefix_joined (Text (codes "/*")) (Unclosed ⋅ Text (codes "*/")) (byte.slash ∷ byte.asterisk ∷ bs) bs
+          prefix_so_long IsComment (byte.slash ∷ byte.asterisk ∷ bs) c.rest (2 + (n + 2)) (n + 4)
+          (omega arith)
+          (prefix_joined (Text (codes "/*")) (Unclosed ⋅ Text (codes "*/"))
+          (byte.slash ∷ byte.asterisk ∷ bs) bs
           c.rest 2 (n + 2) (prefix_text (codes "/*") bs 2 refl)
-          (prefix_joined Unclosed (Text (codes "*/")) bs (byte.asterisk ∷ byte.slash ∷ c.rest) c.rest n 2 inside
+          (prefix_joined Unclosed (Text (codes "*/")) bs
+          (byte.asterisk ∷ byte.slash ∷ c.rest) c.rest n 2 inside
           (prefix_text (codes "*/") c.rest 2 refl)));
     }
 
@@ -148,7 +158,8 @@ comment_found (x ∷ y ∷ bs) some =
     let opened = eqb x byte.slash && eqb y byte.asterisk in
     let P : ℕ → Type 0 = λ n. 0 < n → HasPrefix IsComment (x ∷ y ∷ bs) n in
     cond_both opened (closed_len (close_at bs)) 0 P
-    (λ both more. let parts = and_parts (eqb x byte.slash) (eqb y byte.asterisk) both in let Q : List ℕ
+    (λ both more. let parts = and_parts (eqb x byte.slash)
+    (eqb y byte.asterisk) both in let Q : List ℕ
     → Type 0 = λ l. HasPrefix IsComment l (closed_len (close_at bs)) in subst Q
     (λ i. sym (eqb-true x byte.slash parts.0) i ∷ (sym (eqb-true y byte.asterisk parts.1) i ∷ bs))
     (comment_at_front bs (close_at bs) (closing_found bs) more))

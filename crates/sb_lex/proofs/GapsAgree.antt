@@ -15,7 +15,8 @@ use Rattle.theory_bytes.proofs.RepeatsGrow.{repeated_push}
 use Rattle.sb_lex.proofs.CommentsClose.{comment_len-comment, comment_found}
 
 -- where a length is found, a piece so long stands there
-pub piece_found : (bytes : List ℕ) → 0 < piece_len bytes → HasPrefix BlankPiece bytes (piece_len bytes)
+pub piece_found : (bytes : List ℕ) → 0 < piece_len bytes
+    → HasPrefix BlankPiece bytes (piece_len bytes)
 unfolding comment_len
 piece_found [] some = absurd (omega arith)
 piece_found (b ∷ bs) some =

@@ -15,8 +15,7 @@ use Rattle.sb_lex.specs.declared.kinds.Mark.TheVariants as mark
 use Rattle.sb_lex.specs.declared.first_byte.Head.{Head}
 use Rattle.sb_lex.specs.declared.first_byte.Head.TheVariants as head
 use Rattle.sb_lex.specs.Bytes.{is_white}
-use Rattle.theory_bytes.specs.Sets.{begins_with}
-use Rattle.theory_bytes.specs.Sets.{Begins}
+use Rattle.theory_bytes.specs.Sets.{begins_with, Begins}
 use Rattle.sb_lex.specs.Kinds.{IsOf, not_after, Unclosed, BlankPiece}
 use Rattle.sb_lex.specs.Tokens.{IsCandidate, IsToken, IsGap, Reading, IsTokenAnswer}
 use Rattle.sb_lex.specs.Scanning.{Scanned, head_of, scan_at, scan, comment_len, piece_len}
@@ -133,14 +132,19 @@ none_found input place (Some x) within no_token found =
 low_head : (h : Head) (b : ℕ) → b ≤ byte.space → HeadFits h b → h ≡ head.Other
 low_head head.Letter b low fits =
     ⊎_elim (λ (capital : (leb byte.capital_a b && leb b byte.capital_z) ≡ true). absurd
-    (omega (arith, leb-true byte.capital_a b (and_parts (leb byte.capital_a b) (leb b byte.capital_z) capital).0)))
+    (omega (
+      arith,
+      leb-true byte.capital_a b (and_parts (leb byte.capital_a b)
+          (leb b byte.capital_z) capital).0,
+    )))
     (λ underscore. absurd (omega (arith, eqb-true b byte.underscore underscore)))
     (or_cases _ (eqb b byte.underscore) fits)
 low_head head.Digit b low fits = absurd
     (omega (arith, leb-true byte.zero b (and_parts (leb byte.zero b) (leb b byte.nine) fits).0))
 low_head head.Sign b low fits =
     ⊎_elim (λ plus. absurd (omega (arith, eqb-true b byte.plus plus)))
-    (λ minus. absurd (omega (arith, eqb-true b byte.minus minus))) (or_cases (eqb b byte.plus) (eqb b byte.minus) fits)
+    (λ minus. absurd (omega (arith, eqb-true b byte.minus minus))) (or_cases (eqb b byte.plus)
+    (eqb b byte.minus) fits)
 low_head head.Exclamation b low fits = absurd (omega arith)
 low_head head.Hash b low fits = absurd (omega arith)
 low_head head.Apostrophe b low fits = absurd (omega (arith, eqb-true b byte.apostrophe fits))
@@ -157,7 +161,11 @@ low_head head.Other b low fits = refl
 
 white_is_low : (b : ℕ) → is_white b ≡ true → b ≤ byte.space
 white_is_low b white =
-    ⊎_elim (λ (control : (leb byte.tab b && leb b byte.carriage_return) ≡ true). omega (arith, leb-true b byte.carriage_return (and_parts (leb byte.tab b) (leb b byte.carriage_return) control).1))
+    ⊎_elim (λ (control : (leb byte.tab b && leb b byte.carriage_return) ≡ true). omega (
+      arith,
+      leb-true b byte.carriage_return (and_parts (leb byte.tab b)
+          (leb b byte.carriage_return) control).1,
+    ))
     (λ space. omega (arith, eqb-true b byte.space space)) (or_cases _ (eqb b byte.space) white)
 
 blank_is_no_token : (text rest : List ℕ) → BlankPiece text → scan (text ++ rest) ≡ None
@@ -293,7 +301,8 @@ answered input from (Err bad) is =
 -- two gaps from one place end at one place
 stops_agree : (input : List ℕ) (from p q : ℕ) → Stop input from p → Stop input from q → p ≡ q
 stops_agree input from p q a b =
-    let same = sym (drop_split input from p a.gap.ordered) ∙ drop_split input from q b.gap.ordered in
+    let same = sym (drop_split input from p a.gap.ordered)
+    ∙ drop_split input from q b.gap.ordered in
     let as_long = blanks_agree (slice_range input from p) (slice_range input from q) (drop p input)
     (drop q input) a.gap.blank b.gap.blank same a.stops b.stops in
     omega (

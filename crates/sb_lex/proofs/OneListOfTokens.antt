@@ -207,7 +207,8 @@ pub one_token_at_a_place : OneTokenAtAPlace
 one_token_at_a_place input t u is other same =
     let first = token_found input t (scan (drop t.start input)) is refl in
     let second = token_found input u (scan (drop u.start input)) other refl in
-    let found : ◌≡◌ {A = Scanned} (Some (t.kind, t.end - t.start)) (Some (u.kind, u.end - u.start)) =
+    let found : ◌≡◌ {A = Scanned} (Some (t.kind, t.end - t.start)) (Some
+    (u.kind, u.end - u.start)) =
     sym first ∙ ap (λ k. scan (drop k input)) same ∙ second in
     let parts = some_pair_parts t.kind u.kind (t.end - t.start) (u.end - u.start) found in
     let ends : t.end ≡ u.end =

@@ -1,5 +1,5 @@
 -- What is found at the front is a string of its kind.
-use Rattle.std.proofs.Common.{◌≡◌, ◌≢◌, ℕ, ◌+◌, ◌^◌, ◌<◌, Bool, true, false, cond, ◌&&◌, eqb, ltb, leb, List, [], ◌∷◌, Option, Some, None, length, get_or, take, drop, sym, refl, ap, ◌∙◌, subst, ⊎_elim, arith, one-add, drop_at, zero-add}
+use Rattle.std.proofs.Common.{◌≡◌, ◌≢◌, ℕ, ◌+◌, ◌<◌, Bool, true, false, cond, ◌&&◌, eqb, ltb, leb, List, [], ◌∷◌, Option, Some, None, length, get_or, take, drop, sym, refl, ap, ◌∙◌, subst, ⊎_elim, arith, one-add, drop_at, zero-add}
 use Rattle.std.specs.Prelude.{codes, nat_eq}
 use Rattle.std.specs.List.{prefix_len, starts_with, AllByRecursion}
 use Rattle.std.specs.Char.{is_ascii_digit}
@@ -16,10 +16,9 @@ use Rattle.sb_lex.specs.declared.kinds.Word.TheVariants as word
 use Rattle.sb_lex.specs.declared.first_byte.Head.{Head}
 use Rattle.sb_lex.specs.declared.first_byte.Head.TheVariants as head
 use Rattle.sb_lex.specs.Bytes.{is_letter, is_word_byte, is_hex, is_filling, is_sign, is_apostrophe}
-use Rattle.theory_bytes.specs.Sets.{begins_with}
-use Rattle.theory_bytes.specs.Sets.{Text, Byte, Bytes, SomeBytes, ◌⋅◌, Optional, Repeated}
-use Rattle.sb_lex.specs.Kinds.{numbers_end, word_text, mark_byte, Digits, Signed, Numeral, Letters, IsName, Exponent, StringPiece, HexDigits, IsOf, not_after}
-use Rattle.sb_lex.specs.Scanning.{Scanned, longer, heads, first_head, head_of, scan_words, or_keyword, scan_letters, scan_exclamation, scan_name, sign_len, exponent_len, fraction_len, scan_unsigned, string_len, as_string, scan_enumeration, scan_binary, scan_at, scan}
+use Rattle.theory_bytes.specs.Sets.{begins_with, Text, Byte, Bytes, SomeBytes, ◌⋅◌, Optional, Repeated}
+use Rattle.sb_lex.specs.Kinds.{numbers_end, word_text, mark_byte, Digits, Signed, Numeral, Letters, IsName, Exponent, StringPiece, IsOf, not_after}
+use Rattle.sb_lex.specs.Scanning.{Scanned, longer, heads, first_head, head_of, scan_words, or_keyword, scan_letters, scan_exclamation, scan_name, sign_len, exponent_len, fraction_len, scan_unsigned, string_len, as_string, scan_enclosed, scan_enumeration, scan_binary, scan_at, scan}
 use Rattle.theory_bytes.proofs.RunsAreLongest.{cut}
 use Rattle.theory_bytes.proofs.PrefixesJoin.{IsPrefix, HasPrefix, prefix_so_long, prefix_as, prefix_joined, prefix_text, prefix_byte, prefix_run, prefix_some, prefix_begun, prefix_nothing, prefix_optional, prefix_at, text_is}
 use Rattle.sb_lex.proofs.StringsEnd.{IsEnding, ending_found}
@@ -91,7 +90,13 @@ rows_fit = (
                       λ b. eqb-true b byte.open_parenthesis,
                       (
                         λ b. eqb-true b byte.close_parenthesis,
-                        (λ b. eqb-true b byte.comma, (λ b. eqb-true b byte.semicolon, (λ b. eqb-true b byte.equals, tt))),
+                        (
+                          λ b. eqb-true b byte.comma,
+                          (
+                            λ b. eqb-true b byte.semicolon,
+                            (λ b. eqb-true b byte.equals, tt),
+                          ),
+                        ),
                       ),
                     ),
                   ),
@@ -181,17 +186,20 @@ letters_front b bs letter =
     (λ dash. or_keyword_front (b ∷ bs) n (scan_words (b ∷ bs)) keyword (words_front (b ∷ bs)))
     (λ other. keyword)
 
-exclamation_front : (bs : List ℕ) → IsFront (scan_exclamation (byte.exclamation ∷ bs)) (byte.exclamation ∷ bs)
+exclamation_front : (bs : List ℕ) → IsFront (scan_exclamation (byte.exclamation ∷ bs))
+    (byte.exclamation ∷ bs)
 unfolding scan_exclamation
 exclamation_front [] = tt
 exclamation_front (b ∷ bs) =
     let n = prefix_len is_word_byte (b ∷ bs) in
     let rest = drop n (b ∷ bs) in
-    cond_both (is_letter b) (Some (kind.Keyword, 1 + n)) None (λ o. IsFront o (byte.exclamation ∷ b ∷ bs))
+    cond_both (is_letter b) (Some (kind.Keyword, 1 + n)) None (λ o. IsFront o
+    (byte.exclamation ∷ b ∷ bs))
     (λ letter. record {
       rest = rest;
       prefix =
-          prefix_joined (Optional (Text (codes "!"))) Letters (byte.exclamation ∷ b ∷ bs) (b ∷ bs) rest 1 n
+          prefix_joined (Optional (Text (codes "!"))) Letters (byte.exclamation ∷ b ∷ bs)
+          (b ∷ bs) rest 1 n
           (prefix_optional (Text (codes "!")) (byte.exclamation ∷ b ∷ bs) (b ∷ bs) 1
           (prefix_text (codes "!") (b ∷ bs) 1 refl)) (letters_stand b bs letter);
       free = nothing_barred rest;
@@ -282,9 +290,11 @@ exponent_ends (b ∷ bs) =
     let n = prefix_len is_ascii_digit (drop signed (b ∷ bs)) in
     let behind : drop signed (b ∷ bs) ≡ drop (sign_len bs) bs = ap (λ k. drop k (b ∷ bs))
     (one-add (sign_len bs)) in
-    cond_both (eqb b byte.capital_e && ltb 0 n) (signed + n) 0 (λ m. HasPrefix (Optional Exponent) (b ∷ bs) m)
+    cond_both (eqb b byte.capital_e && ltb 0 n) (signed + n) 0 (λ m. HasPrefix (Optional Exponent)
+    (b ∷ bs) m)
     (λ both. let parts = and_parts (eqb b byte.capital_e) (ltb 0 n) both in exponent_stands b bs n
-    (eqb-true b byte.capital_e parts.0) (ap (prefix_len is_ascii_digit) behind) (ltb-true 0 n parts.1))
+    (eqb-true b byte.capital_e parts.0) (ap (prefix_len is_ascii_digit) behind)
+    (ltb-true 0 n parts.1))
     (λ other. no_exponent (b ∷ bs))
 
 fraction_ends : (bytes : List ℕ) → HasPrefix (Bytes is_ascii_digit ⋅ Optional Exponent) bytes
@@ -311,7 +321,8 @@ IsUnsigned None bytes = Unit {0}
 IsUnsigned (Some x) bytes = HasPrefix (Unsigned x.0) bytes x.1
 
 real_found : (bytes : List ℕ) (n : ℕ) → n ≡ prefix_len is_ascii_digit bytes → 0 < n → get_or bytes
-    n 0 ≡ byte.point → HasPrefix (Unsigned kind.Real) bytes (n + 1 + fraction_len (drop (n + 1) bytes))
+    n 0 ≡ byte.point → HasPrefix (Unsigned kind.Real) bytes (n + 1 + fraction_len (drop
+    (n + 1) bytes))
 real_found bytes n size some point =
     let f = fraction_ends (drop (n + 1) bytes) in
     let m = fraction_len (drop (n + 1) bytes) in
@@ -342,7 +353,8 @@ number_found bytes =
     (λ point. real_found bytes n refl some (eqb-true (get_or bytes n 0) byte.point point))
     (λ plain. record { rest = drop n bytes; prefix = prefix_some is_ascii_digit bytes some }))
 
-number_front : (k : Kind) (bytes rest : List ℕ) (n : ℕ) → IsPrefix (Signed (Unsigned k)) bytes rest n
+number_front : (k : Kind) (bytes rest : List ℕ) (n : ℕ)
+    → IsPrefix (Signed (Unsigned k)) bytes rest n
     → Front bytes k n
 number_front kind.Integer bytes rest n s = record
     { rest = rest; prefix = s; free = nothing_barred rest }
@@ -368,7 +380,8 @@ signed_front b bytes (Some x) sign e =
 
 -- strings, enumerations and binaries
 
-string_front : (bs : List ℕ) (o : Option ℕ) → IsEnding o bs → IsFront (as_string o) (byte.apostrophe ∷ bs)
+string_front : (bs : List ℕ) (o : Option ℕ) → IsEnding o bs
+    → IsFront (as_string o) (byte.apostrophe ∷ bs)
 string_front bs None e = tt
 string_front bs (Some n) e =
     let inside : IsPrefix (Repeated StringPiece) bs (byte.apostrophe ∷ e.rest) (length e.inside) =
@@ -377,11 +390,14 @@ string_front bs (Some n) e =
     record {
       rest = e.rest;
       prefix =
-          prefix_so_long (IsOf kind.Str) (byte.apostrophe ∷ bs) e.rest (1 + (length e.inside + 1)) (1 + n)
+          prefix_so_long (IsOf kind.Str) (byte.apostrophe ∷ bs) e.rest (1 + (length e.inside + 1))
+          (1 + n)
           (omega (arith, e.long))
-          (prefix_joined (Text (codes "'")) (Repeated StringPiece ⋅ Text (codes "'")) (byte.apostrophe ∷ bs)
+          (prefix_joined (Text (codes "'")) (Repeated StringPiece ⋅ Text (codes "'"))
+          (byte.apostrophe ∷ bs)
           bs e.rest 1 (length e.inside + 1) (prefix_text (codes "'") bs 1 refl)
-          (prefix_joined (Repeated StringPiece) (Text (codes "'")) bs (byte.apostrophe ∷ e.rest) e.rest
+          (prefix_joined (Repeated StringPiece) (Text (codes "'")) bs
+          (byte.apostrophe ∷ e.rest) e.rest
           (length e.inside) 1 inside last));
       free = e.alone;
     }
@@ -398,23 +414,6 @@ between_stand b P bs n positive inside closed =
     (prefix_joined P (Text (b ∷ [])) bs (drop n bs) (drop (n + 1) bs) n 1 inside
     (prefix_at b bs n positive last)))
 
-enumeration_front : (bs : List ℕ) → IsFront (scan_enumeration (byte.point ∷ bs)) (byte.point ∷ bs)
-unfolding scan_enumeration
-enumeration_front [] = tt
-enumeration_front (b ∷ bs) =
-    let n = prefix_len is_word_byte (b ∷ bs) in
-    let rest = drop (n + 1) (b ∷ bs) in
-    let closed = eqb (get_or (byte.point ∷ b ∷ bs) (1 + n) 0) byte.point in
-    cond_both (is_letter b && closed) (Some (kind.Enumeration, n + 2)) None
-    (λ o. IsFront o (byte.point ∷ b ∷ bs)) (λ both. let parts = and_parts (is_letter b) closed both in
-    record {
-      rest = rest;
-      prefix =
-          between_stand byte.point Letters (b ∷ bs) n (omega arith) (letters_stand b bs parts.0)
-          (eqb-true (get_or (byte.point ∷ b ∷ bs) (1 + n) 0) byte.point parts.1);
-      free = nothing_barred rest;
-    }) (λ other. tt)
-
 -- the first digit of a binary is a hexadecimal digit
 pub filling_is_hex : (b : ℕ) → is_filling b ≡ true → is_hex b ≡ true
 filling_is_hex b filling =
@@ -423,23 +422,43 @@ filling_is_hex b filling =
     or_left (is_ascii_digit b) _
     (and_from (leb byte.zero b) (leb b byte.nine) parts.0 (le-leb b byte.nine (omega arith)))
 
-binary_front : (bs : List ℕ) → IsFront (scan_binary (byte.quote ∷ bs)) (byte.quote ∷ bs)
-unfolding scan_binary
-binary_front [] = tt
-binary_front (b ∷ bs) =
-    let n = prefix_len is_hex (b ∷ bs) in
+-- what is found between two equal marks
+enclosed_front : (k : Kind) (q : ℕ) (first more : ℕ → Bool) → 0 < q
+    → ((b : ℕ) → first b ≡ true → more b ≡ true)
+    → ((xs : List ℕ) → (Text (q ∷ []) ⋅ (Byte first ⋅ Bytes more) ⋅ Text (q ∷ [])) xs → IsOf k xs)
+    → ((rest : List ℕ) → begins_with (not_after k) rest ≡ false) → (bs : List ℕ)
+    → IsFront (scan_enclosed k q first more (q ∷ bs)) (q ∷ bs)
+unfolding scan_enclosed
+enclosed_front k q first more positive is_more of free [] =
+    cond_both (first 0 && eqb 0 q) (Some (k, 2)) None (λ o. IsFront o (q ∷ []))
+    (λ both. let parts = and_parts (first 0) (eqb 0 q) both in
+    absurd (omega (arith, eqb-true 0 q parts.1))) (λ other. tt)
+enclosed_front k q first more positive is_more of free (b ∷ bs) =
+    let n = prefix_len more (b ∷ bs) in
     let rest = drop (n + 1) (b ∷ bs) in
-    let closed = eqb (get_or (byte.quote ∷ b ∷ bs) (1 + n) 0) byte.quote in
-    cond_both (is_filling b && closed) (Some (kind.Binary, n + 2)) None
-    (λ o. IsFront o (byte.quote ∷ b ∷ bs)) (λ both. let parts = and_parts (is_filling b) closed both in
+    let closed = eqb (get_or (q ∷ b ∷ bs) (1 + n) 0) q in
+    let inside = Byte first ⋅ Bytes more in
+    cond_both (first b && closed) (Some (k, n + 2)) None (λ o. IsFront o (q ∷ b ∷ bs))
+    (λ both. let parts = and_parts (first b) closed both in
     record {
       rest = rest;
       prefix =
-          between_stand byte.quote HexDigits (b ∷ bs) n (omega arith)
-          (prefix_begun is_filling is_hex b bs parts.0 (filling_is_hex b parts.0))
-          (eqb-true (get_or (byte.quote ∷ b ∷ bs) (1 + n) 0) byte.quote parts.1);
-      free = nothing_barred rest;
+          prefix_as (Text (q ∷ []) ⋅ inside ⋅ Text (q ∷ [])) (IsOf k) (q ∷ b ∷ bs) rest (n + 2) of
+          (between_stand q inside (b ∷ bs) n positive
+          (prefix_begun first more b bs parts.0 (is_more b parts.0))
+          (eqb-true (get_or (q ∷ b ∷ bs) (1 + n) 0) q parts.1));
+      free = free rest;
     }) (λ other. tt)
+
+enumeration_front : (bs : List ℕ) → IsFront (scan_enumeration (byte.point ∷ bs)) (byte.point ∷ bs)
+enumeration_front =
+    enclosed_front kind.Enumeration byte.point is_letter is_word_byte (omega arith)
+    letter_is_word_byte (λ xs is. is) nothing_barred
+
+binary_front : (bs : List ℕ) → IsFront (scan_binary (byte.quote ∷ bs)) (byte.quote ∷ bs)
+binary_front =
+    enclosed_front kind.Binary byte.quote is_filling is_hex (omega arith) filling_is_hex
+    (λ xs is. is) nothing_barred
 
 head_front : (h : Head) (b : ℕ) (bs : List ℕ) → HeadFits h b → IsFront (scan_at h (b ∷ bs)) (b ∷ bs)
 head_front head.Letter b bs fits = letters_front b bs fits
@@ -451,7 +470,8 @@ head_front head.Exclamation b bs fits = subst (λ c. IsFront (scan_exclamation (
 head_front head.Hash b bs fits = subst (λ c. IsFront (scan_name (c ∷ bs)) (c ∷ bs)) (sym fits)
     (name_front bs)
 head_front head.Apostrophe b bs fits =
-    subst (λ c. IsFront (as_string (string_len bs)) (c ∷ bs)) (sym (eqb-true b byte.apostrophe fits))
+    subst (λ c. IsFront (as_string (string_len bs)) (c ∷ bs)) (sym
+    (eqb-true b byte.apostrophe fits))
     (string_front bs (string_len bs) (ending_found bs))
 head_front head.Point b bs fits = subst (λ c. IsFront (scan_enumeration (c ∷ bs)) (c ∷ bs))
     (sym fits) (enumeration_front bs)

@@ -91,14 +91,16 @@ module _ (rest : List ℕ) (at n : ℕ)
         get_or-drop (at + n + 1) rest 0 0 ∙ ap (λ k. get_or rest k 0) (add-zero (at + n + 1))
 
     -- the string ends here
-    pub string_ends : get_or rest (at + n + 1) 0 ≢ byte.apostrophe → string_len rest ≡ Some (at + n + 1)
+    pub string_ends : get_or rest (at + n + 1) 0 ≢ byte.apostrophe
+        → string_len rest ≡ Some (at + n + 1)
     string_ends other =
         passed ∙ ap (λ l. after (at + n) (string_len l)) here ∙ ap (after (at + n))
         (string_len-end (get_or rest (at + n) 0) (drop (at + n + 1) rest) apostrophe_here
         (λ same. other (sym behind ∙ same)))
 
     -- two apostrophes, and on
-    pub string_goes_on : get_or rest (at + n + 1) 0 ≡ byte.apostrophe → string_len rest ≡ after (at + n + 2)
+    pub string_goes_on : get_or rest (at + n + 1) 0 ≡ byte.apostrophe
+        → string_len rest ≡ after (at + n + 2)
         (string_len (drop (at + n + 2) rest))
     string_goes_on twice =
         let tail : drop 1 (drop (at + n + 1) rest) ≡ drop (at + n + 2) rest =

@@ -4,8 +4,7 @@ use Rattle.std.specs.List.{concat, AllByRecursion}
 use Rattle.std.proofs.lemmas.Bool.{cond_both, eqb-true, not-true, not_from_false}
 use Rattle.sb_lex.specs.Bytes as byte
 use Rattle.sb_lex.specs.Bytes.{is_apostrophe}
-use Rattle.theory_bytes.specs.Sets.{begins_with}
-use Rattle.theory_bytes.specs.Sets.{Repeated}
+use Rattle.theory_bytes.specs.Sets.{begins_with, Repeated}
 use Rattle.sb_lex.specs.Kinds.{StringPiece}
 use Rattle.sb_lex.specs.Scanning.{after, string_len}
 use Rattle.theory_bytes.proofs.RepeatsGrow.{repeated_cons, repeated_nothing}
@@ -58,9 +57,11 @@ ending_after_pair b c bs None first second e = tt
 ending_after_pair b c bs (Some n) first second e = record {
   inside = byte.apostrophe ∷ byte.apostrophe ∷ e.inside;
   rest = e.rest;
-  joined = λ i. eqb-true b byte.apostrophe first i ∷ (eqb-true c byte.apostrophe second i ∷ e.joined i);
+  joined = λ i. eqb-true b byte.apostrophe first i ∷
+      (eqb-true c byte.apostrophe second i ∷ e.joined i);
   long = omega (arith, e.long);
-  pieces = repeated_cons StringPiece (byte.apostrophe ∷ byte.apostrophe ∷ []) e.inside (inr refl) e.pieces;
+  pieces = repeated_cons StringPiece (byte.apostrophe ∷ byte.apostrophe ∷ []) e.inside
+      (inr refl) e.pieces;
   alone = e.alone;
 }
 
@@ -78,13 +79,15 @@ ending_found (b ∷ c ∷ bs) =
     second (ending_found bs)) (λ alone. ending_here b (c ∷ bs) first alone))
     (λ plain. ending_after_plain b (c ∷ bs) (string_len (c ∷ bs)) plain (ending_found (c ∷ bs)))
 
-string_len-last : (rest : List ℕ) → begins_with is_apostrophe rest ≡ false → string_len (byte.apostrophe ∷ rest)
+string_len-last : (rest : List ℕ) → begins_with is_apostrophe rest ≡ false
+    → string_len (byte.apostrophe ∷ rest)
     ≡ Some 1
 string_len-last [] alone = refl
 string_len-last (c ∷ rest) alone = rw alone refl
 
 ends_behind : (pieces : List (List ℕ)) (rest : List ℕ) → AllByRecursion StringPiece pieces
-    → begins_with is_apostrophe rest ≡ false → string_len (concat pieces ++ (byte.apostrophe ∷ rest)) ≡ Some
+    → begins_with is_apostrophe rest ≡ false
+    → string_len (concat pieces ++ (byte.apostrophe ∷ rest)) ≡ Some
     (suc (length (concat pieces)))
 ends_behind [] rest each alone = string_len-last rest alone
 ends_behind (p ∷ ps) rest each alone =
@@ -99,13 +102,16 @@ ends_behind (p ∷ ps) rest each alone =
     ∙ ap (after 1) later ∙ ap (λ n. Some n) (one-add (suc (length (concat ps)))) in
     subst P (sym plain.alone) at)
     (λ pair.
-    let at : P (byte.apostrophe ∷ byte.apostrophe ∷ []) = ap (after 2) later ∙ ap (λ n. Some n) (omega arith) in
+    let at : P (byte.apostrophe ∷ byte.apostrophe ∷ []) = ap (after 2) later
+    ∙ ap (λ n. Some n) (omega arith) in
     subst P (sym pair) at)
     each.0
 
 -- and it is found
 pub string_len-text : (inside rest : List ℕ) → Repeated StringPiece inside → begins_with
-    is_apostrophe rest ≡ false → string_len (inside ++ (byte.apostrophe ∷ rest)) ≡ Some (suc (length inside))
+    is_apostrophe rest ≡ false → string_len (inside ++ (byte.apostrophe ∷ rest)) ≡ Some (suc
+    (length inside))
 string_len-text inside rest pieces alone =
-    let P : List ℕ → Type 0 = λ l. string_len (l ++ (byte.apostrophe ∷ rest)) ≡ Some (suc (length l)) in
+    let P : List ℕ → Type 0 = λ l. string_len (l ++ (byte.apostrophe ∷ rest)) ≡ Some (suc
+    (length l)) in
     subst P (sym pieces.joined) (ends_behind pieces.pieces rest pieces.each alone)

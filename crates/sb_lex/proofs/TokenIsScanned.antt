@@ -1,6 +1,6 @@
 -- No string of any kind at the front is longer than what is found there, and one as long is of the
 -- same kind.
-use Rattle.std.proofs.Common.{◌≡◌, ℕ, suc, ◌+◌, ◌^◌, ◌<◌, ◌≤◌, Bool, true, false, cond, ◌&&◌, eqb, ltb, leb, List, [], ◌∷◌, ◌++◌, Some, None, length, get_or, take, drop, sym, refl, ap, ap₂, ◌∙◌, subst, ⊎_elim, inl, inr, arith, one-add, append_assoc, length-append, take_at, drop_at}
+use Rattle.std.proofs.Common.{◌≡◌, ℕ, suc, ◌+◌, ◌<◌, ◌≤◌, Bool, true, false, cond, ◌&&◌, eqb, ltb, leb, List, [], ◌∷◌, ◌++◌, Some, None, length, get_or, take, drop, sym, refl, ap, ap₂, ◌∙◌, subst, ⊎_elim, inl, inr, arith, one-add, append_assoc, length-append, take_at, drop_at}
 use Rattle.std.specs.Prelude.{codes, nat_eq}
 use Rattle.std.specs.List.{prefix_len, list_all, starts_with}
 use Rattle.std.specs.Char.{is_ascii_digit}
@@ -18,10 +18,9 @@ use Rattle.sb_lex.specs.declared.kinds.Word.{Word}
 use Rattle.sb_lex.specs.declared.kinds.Word.TheVariants as word
 use Rattle.sb_lex.specs.declared.first_byte.Head.TheVariants as head
 use Rattle.sb_lex.specs.Bytes.{is_letter, is_word_byte, is_hex, is_filling, is_sign, is_apostrophe}
-use Rattle.theory_bytes.specs.Sets.{begins_with}
-use Rattle.theory_bytes.specs.Sets.{Byte, Optional, Repeated}
+use Rattle.theory_bytes.specs.Sets.{begins_with, Byte, Bytes, ◌⋅◌, Optional, Repeated}
 use Rattle.sb_lex.specs.Kinds.{numbers_end, word_text, mark_byte, Digits, Signed, Numeral, Letters, IsInstanceNumber, IsName, Exponent, StringPiece, HexDigits, IsOf, not_after}
-use Rattle.sb_lex.specs.Scanning.{Scanned, longer, head_of, scan_words, or_keyword, scan_letters, scan_exclamation, scan_name, sign_len, exponent_len, fraction_len, scan_unsigned, as_string, scan_enumeration, scan_binary, scan_at, scan}
+use Rattle.sb_lex.specs.Scanning.{Scanned, longer, head_of, scan_words, or_keyword, scan_letters, scan_exclamation, scan_name, sign_len, exponent_len, fraction_len, scan_unsigned, as_string, scan_enclosed, scan_at, scan}
 use Rattle.theory_bytes.proofs.RunsAreLongest.{run_is_whole, run_is_longest}
 use Rattle.theory_bytes.proofs.JoinedHasParts.{around, around_append, around_length, begun, some_pass}
 use Rattle.sb_lex.proofs.StringsEnd.{string_len-text}
@@ -50,7 +49,8 @@ digit_bounds b digit =
 digit_is_no_letter : (b : ℕ) → is_ascii_digit b ≡ true → is_letter b ≡ false
 digit_is_no_letter b digit =
     let high = (digit_bounds b digit).1 in
-    or_from _ (eqb b byte.underscore) (and_left (leb byte.capital_a b) (leb b byte.capital_z) (lt-leb byte.capital_a b (omega arith)))
+    or_from _ (eqb b byte.underscore) (and_left (leb byte.capital_a b) (leb b byte.capital_z)
+    (lt-leb byte.capital_a b (omega arith)))
     (ne_eqb b byte.underscore (λ same. omega arith))
 
 digit_is_no_sign : (b : ℕ) → is_ascii_digit b ≡ true → is_sign b ≡ false
@@ -69,7 +69,8 @@ sign_head : (b : ℕ) → is_sign b ≡ true → head_of b ≡ head.Sign
 sign_head b sign =
     let P : ℕ → Type 0 = λ c. head_of c ≡ head.Sign in
     ⊎_elim (λ plus. subst P (sym (eqb-true b byte.plus plus)) refl)
-    (λ minus. subst P (sym (eqb-true b byte.minus minus)) refl) (or_cases (eqb b byte.plus) (eqb b byte.minus) sign)
+    (λ minus. subst P (sym (eqb-true b byte.minus minus)) refl) (or_cases (eqb b byte.plus)
+    (eqb b byte.minus) sign)
 
 -- words and keywords
 
@@ -111,7 +112,8 @@ letters_cover bytes n least =
     (λ dash. keyword_or_word bytes n least) (λ other. (least, λ same. refl))
 
 exclamation_covers : (b : ℕ) (bs : List ℕ) (n : ℕ) → is_letter b ≡ true → n ≤ prefix_len
-    is_word_byte (b ∷ bs) → Covers (scan_exclamation (byte.exclamation ∷ b ∷ bs)) kind.Keyword (1 + n)
+    is_word_byte (b ∷ bs) → Covers (scan_exclamation (byte.exclamation ∷ b ∷ bs)) kind.Keyword
+    (1 + n)
 unfolding scan_exclamation
 exclamation_covers b bs n letter least =
     let m = prefix_len is_word_byte (b ∷ bs) in
@@ -149,7 +151,8 @@ keyword_covers text rest t =
 -- names
 
 name_in_range : (bs : List ℕ) → 0 < digits_value 10 (take (prefix_len is_ascii_digit bs) bs)
-    → digits_value 10 (take (prefix_len is_ascii_digit bs) bs) < numbers_end → scan_name (byte.hash ∷ bs)
+    → digits_value 10 (take (prefix_len is_ascii_digit bs) bs) < numbers_end
+    → scan_name (byte.hash ∷ bs)
     ≡ Some (
       kind.Name (digits_value 10 (take (prefix_len is_ascii_digit bs) bs)),
       1 + prefix_len
@@ -197,12 +200,14 @@ unfolding exponent_len
 exponent_long bs n some least =
     let signed = 1 + sign_len bs in
     let m = prefix_len is_ascii_digit (drop signed (byte.capital_e ∷ bs)) in
-    let behind : drop signed (byte.capital_e ∷ bs) ≡ drop (sign_len bs) bs = ap (λ k. drop k (byte.capital_e ∷ bs))
+    let behind : drop signed (byte.capital_e ∷ bs) ≡ drop (sign_len bs) bs = ap (λ k. drop k
+    (byte.capital_e ∷ bs))
     (one-add (sign_len bs)) in
     let same : m ≡ prefix_len is_ascii_digit (drop (sign_len bs) bs) = ap
     (prefix_len is_ascii_digit) behind in
     let found : exponent_len (byte.capital_e ∷ bs) ≡ signed + m =
-    cond-true (eqb byte.capital_e byte.capital_e && ltb 0 m) (signed + m) 0 (lt-ltb 0 m (omega arith)) in
+    cond-true (eqb byte.capital_e byte.capital_e && ltb 0 m) (signed + m) 0 (lt-ltb 0 m
+    (omega arith)) in
     omega arith
 
 digits_begin : (digits : List ℕ) → Digits digits → begins_with is_ascii_digit digits ≡ true
@@ -240,7 +245,8 @@ signed_digits_long sign digits rest (inl none) some =
     subst (λ k. length digits ≤ prefix_len is_ascii_digit (drop k (digits ++ rest))) (sym bare)
     long.1 in
     let whole : 1 + sign_len (digits ++ rest) + length digits ≤ exponent_len
-    (byte.capital_e ∷ (digits ++ rest)) = exponent_long (digits ++ rest) (length digits) long.0 least in
+    (byte.capital_e ∷ (digits ++ rest)) = exponent_long (digits ++ rest)
+    (length digits) long.0 least in
     let at : P [] = omega arith in
     subst P (sym none) at
 signed_digits_long sign digits rest (inr mark) some =
@@ -251,7 +257,8 @@ signed_digits_long sign digits rest (inr mark) some =
     (byte.capital_e ∷ s ++ (digits ++ rest)) in
     let least : length digits ≤ prefix_len is_ascii_digit (drop (sign_len bs) bs) =
     subst (λ k. length digits ≤ prefix_len is_ascii_digit (drop k bs)) (sym one) long.1 in
-    let whole : 1 + sign_len bs + length digits ≤ exponent_len (byte.capital_e ∷ bs) = exponent_long bs
+    let whole : 1 + sign_len bs + length digits ≤ exponent_len
+    (byte.capital_e ∷ bs) = exponent_long bs
     (length digits) long.0 least in
     let at : P (mark.byte ∷ []) = omega arith in
     subst P (sym mark.alone) at
@@ -307,7 +314,11 @@ integer_covers digits rest some =
     (λ plain. (long.1, λ same. refl)))
 
 real_found : (bytes : List ℕ) (n : ℕ) → prefix_len is_ascii_digit bytes ≡ n → 0 < n → get_or bytes
-    n 0 ≡ byte.point → scan_unsigned bytes ≡ Some (kind.Real, n + 1 + fraction_len (drop (n + 1) bytes))
+    n 0 ≡ byte.point → scan_unsigned bytes ≡ Some (
+      kind.Real,
+      n + 1 + fraction_len (drop
+          (n + 1) bytes),
+    )
 unfolding scan_unsigned
 real_found bytes n size some point =
     let found : ℕ → Scanned = λ m. cond {A = Scanned} (eqb m 0) None
@@ -315,7 +326,11 @@ real_found bytes n size some point =
     (Some (kind.Real, m + 1 + fraction_len (drop (m + 1) bytes))) (Some (kind.Integer, m))) in
     let P : ℕ → Type 0 = λ m. found m ≡ Some
     (kind.Real, n + 1 + fraction_len (drop (n + 1) bytes)) in
-    let at : P n = rw (ne_eqb n 0 (λ none. omega arith), eq-eqb (get_or bytes n 0) byte.point point) refl in
+    let at : P n = rw (
+      ne_eqb n 0 (λ none. omega arith),
+      eq-eqb
+          (get_or bytes n 0) byte.point point,
+    ) refl in
     subst P (sym size) at
 
 real_covers : (text rest : List ℕ) → Unsigned kind.Real text → Covers (scan_unsigned (text ++ rest))
@@ -326,7 +341,8 @@ real_covers text rest t =
     let n = length digits in
     let fraction = t.second.second in
     let tail = fraction.front ++ (fraction.back ++ rest) in
-    let behind : t.back ≡ byte.point ∷ t.second.back = t.second.joined ∙ ap (λ l. l ++ t.second.back)
+    let behind : t.back ≡ byte.point ∷ t.second.back = t.second.joined
+    ∙ ap (λ l. l ++ t.second.back)
     t.second.first in
     let spread : t.second.back ++ rest ≡ tail =
     ap (λ l. l ++ rest) fraction.joined ∙ append_assoc fraction.front fraction.back rest in
@@ -335,7 +351,8 @@ real_covers text rest t =
     ∙ ap (λ l. digits ++ (l ++ rest)) behind ∙ ap (λ l. digits ++ (byte.point ∷ l)) spread in
     let size = run_is_whole is_ascii_digit digits (byte.point ∷ tail) all.0 refl in
     let after_point : drop (n + 1) (digits ++ (byte.point ∷ tail)) ≡ tail =
-    ap (drop (n + 1)) (sym (append_assoc digits (byte.point ∷ []) tail)) ∙ drop_at (digits ++ byte.point ∷ []) tail
+    ap (drop (n + 1)) (sym (append_assoc digits (byte.point ∷ []) tail))
+    ∙ drop_at (digits ++ byte.point ∷ []) tail
     (n + 1) (length-append digits (byte.point ∷ [])) in
     let found : scan_unsigned (text ++ rest) ≡ Some (kind.Real, n + 1 + fraction_len tail) =
     ap scan_unsigned whole ∙ real_found (digits ++ (byte.point ∷ tail)) n size all.1
@@ -421,49 +438,42 @@ between_found begins k b run rest n first size =
     (eq-eqb (get_or (b ∷ run ++ (b ∷ rest)) (1 + length run) 0) b (behind_run b b run rest))) in
     subst P (sym size) at
 
-enumeration_found : (letters rest : List ℕ) → Letters letters → scan_enumeration
-    (byte.point ∷ letters ++ (byte.point ∷ rest)) ≡ Some (kind.Enumeration, length letters + 2)
-unfolding scan_enumeration
-enumeration_found letters rest is =
-    let l = begun is_letter is_word_byte letters is in
-    let pass : list_all is_word_byte letters ≡ true =
-    ap (list_all is_word_byte) l.whole ∙ and_from (is_word_byte l.byte)
-    (list_all is_word_byte l.body) (letter_is_word_byte l.byte l.is_first) l.pass in
-    let size = run_is_whole is_word_byte letters (byte.point ∷ rest) pass refl in
-    let first : is_letter (get_or (letters ++ (byte.point ∷ rest)) 0 0) ≡ true =
-    ap (λ xs. is_letter (get_or (xs ++ (byte.point ∷ rest)) 0 0)) l.whole ∙ l.is_first in
-    between_found (is_letter (get_or (letters ++ (byte.point ∷ rest)) 0 0)) kind.Enumeration byte.point letters
-    rest (prefix_len is_word_byte (letters ++ (byte.point ∷ rest))) first size
-
-binary_found : (digits rest : List ℕ) → HexDigits digits → scan_binary (byte.quote ∷ digits ++ (byte.quote ∷ rest))
-    ≡ Some (kind.Binary, length digits + 2)
-unfolding scan_binary
-binary_found digits rest is =
-    let l = begun is_filling is_hex digits is in
-    let pass : list_all is_hex digits ≡ true =
-    ap (list_all is_hex) l.whole ∙ and_from (is_hex l.byte) (list_all is_hex l.body)
-    (filling_is_hex l.byte l.is_first) l.pass in
-    let size = run_is_whole is_hex digits (byte.quote ∷ rest) pass refl in
-    let first : is_filling (get_or (digits ++ (byte.quote ∷ rest)) 0 0) ≡ true =
-    ap (λ xs. is_filling (get_or (xs ++ (byte.quote ∷ rest)) 0 0)) l.whole ∙ l.is_first in
-    between_found (is_filling (get_or (digits ++ (byte.quote ∷ rest)) 0 0)) kind.Binary byte.quote digits rest
-    (prefix_len is_hex (digits ++ (byte.quote ∷ rest))) first size
+-- an inside between two equal marks is found
+enclosed_found : (k : Kind) (q : ℕ) (first more : ℕ → Bool) (run rest : List ℕ)
+    → ((b : ℕ) → first b ≡ true → more b ≡ true) → more q ≡ false → (Byte first ⋅ Bytes more) run
+    → scan_enclosed k q first more (q ∷ run ++ (q ∷ rest)) ≡ Some (k, length run + 2)
+unfolding scan_enclosed
+enclosed_found k q first more run rest is_more stops is =
+    let l = begun first more run is in
+    let pass : list_all more run ≡ true =
+    ap (list_all more) l.whole
+    ∙ and_from (more l.byte) (list_all more l.body) (is_more l.byte l.is_first) l.pass in
+    let begins : first (get_or (run ++ (q ∷ rest)) 0 0) ≡ true =
+    ap (λ xs. first (get_or (xs ++ (q ∷ rest)) 0 0)) l.whole ∙ l.is_first in
+    between_found (first (get_or (run ++ (q ∷ rest)) 0 0)) k q run rest
+    (prefix_len more (run ++ (q ∷ rest))) begins (run_is_whole more run (q ∷ rest) pass stops)
 
 enumeration_covers : (text rest : List ℕ) → IsOf kind.Enumeration text
     → Covers (scan (text ++ rest)) kind.Enumeration (length text)
 enumeration_covers text rest is =
     let t = around (codes ".") (codes ".") Letters text is in
     covers_same (scan (text ++ rest)) kind.Enumeration (length t.inside + 2) (length text)
-    (ap scan (around_append (codes ".") (codes ".") Letters text rest t) ∙ enumeration_found
-    t.inside rest t.is) (omega (arith, around_length (codes ".") (codes ".") Letters text t))
+    (ap scan (around_append (codes ".") (codes ".") Letters text rest t)
+    ∙ enclosed_found kind.Enumeration byte.point is_letter is_word_byte t.inside rest
+    letter_is_word_byte refl t.is) (omega (
+      arith,
+      around_length (codes ".")
+          (codes ".") Letters text t,
+    ))
 
 binary_covers : (text rest : List ℕ) → IsOf kind.Binary text → Covers (scan (text ++ rest))
     kind.Binary (length text)
 binary_covers text rest is =
     let t = around (codes "\"") (codes "\"") HexDigits text is in
     covers_same (scan (text ++ rest)) kind.Binary (length t.inside + 2) (length text)
-    (ap scan (around_append (codes "\"") (codes "\"") HexDigits text rest t) ∙ binary_found
-    t.inside rest t.is)
+    (ap scan (around_append (codes "\"") (codes "\"") HexDigits text rest t)
+    ∙ enclosed_found kind.Binary byte.quote is_filling is_hex t.inside rest filling_is_hex refl
+    t.is)
     (omega (arith, around_length (codes "\"") (codes "\"") HexDigits text t))
 
 mark_found : (m : Mark) (rest : List ℕ) → scan (mark_byte m ∷ rest) ≡ Some (kind.Mark m, 1)

@@ -1,7 +1,7 @@
 -- What the private functions promise: the kind and the length of the token at the front of the
 -- bytes that are left, found without going back. The proofs join this to the grammar: what is found
 -- is the token that the grammar has there.
-use Rattle.std.specs.Prelude.{ℕ, ◌+◌, ◌^◌, Bool, ◌&&◌, ◌==◌, nat_eq, nat_lt, if◌then◌else◌, List, [], ◌∷◌, take, drop, slice_index, codes, Option, Some, None}
+use Rattle.std.specs.Prelude.{ℕ, ◌+◌, Bool, ◌&&◌, ◌==◌, nat_eq, nat_lt, if◌then◌else◌, List, [], ◌∷◌, take, drop, slice_index, codes, Option, Some, None}
 use Rattle.std.specs.List.{prefix_len, starts_with}
 use Rattle.std.specs.Char.{is_ascii_digit}
 use Rattle.std.specs.Str.Parse.{digits_value}
@@ -127,19 +127,20 @@ abbrev pub as_string : Option ℕ → Scanned
 as_string None = None
 as_string (Some n) = Some (kind.Str, 1 + n)
 
+-- A mark is at the front: a byte of the first class, with those of the second that go on with it,
+-- and the same mark again.
+unfoldable pub scan_enclosed : Kind → ℕ → (ℕ → Bool) → (ℕ → Bool) → List ℕ → Scanned
+scan_enclosed k q first more rest =
+    let n = prefix_len more (drop 1 rest) in
+    if first (slice_index rest 1) && slice_index rest (1 + n) == q then Some (k, n + 2) else None
+
 -- a `.` is at the front
-unfoldable pub scan_enumeration : List ℕ → Scanned
-scan_enumeration rest =
-    let n = prefix_len is_word_byte (drop 1 rest) in
-    if is_letter (slice_index rest 1) && slice_index rest (1 + n) == point
-    then Some (kind.Enumeration, n + 2) else None
+abbrev pub scan_enumeration : List ℕ → Scanned
+scan_enumeration = scan_enclosed kind.Enumeration point is_letter is_word_byte
 
 -- a `"` is at the front
-unfoldable pub scan_binary : List ℕ → Scanned
-scan_binary rest =
-    let n = prefix_len is_hex (drop 1 rest) in
-    if is_filling (slice_index rest 1) && slice_index rest (1 + n) == quote
-    then Some (kind.Binary, n + 2) else None
+abbrev pub scan_binary : List ℕ → Scanned
+scan_binary = scan_enclosed kind.Binary quote is_filling is_hex
 
 -- the token at the front, by its first byte
 abbrev pub scan_at : Head → List ℕ → Scanned

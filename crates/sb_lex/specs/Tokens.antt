@@ -4,8 +4,7 @@ use Rattle.sb_lex.specs.declared.kinds.Kind.{Kind}
 use Rattle.sb_lex.specs.declared.kinds.Kind.TheVariants as kind
 use Rattle.sb_lex.specs.declared.kinds.Token.{Token}
 use Rattle.sb_lex.specs.declared.kinds.BadToken.{BadToken}
-use Rattle.theory_bytes.specs.Sets.{Begins}
-use Rattle.theory_bytes.specs.Sets.{begins_with}
+use Rattle.theory_bytes.specs.Sets.{Begins, begins_with}
 use Rattle.sb_lex.specs.Kinds.{IsOf, not_after, BlankPiece, Blank}
 
 -- what stands at the span is of the kind, and what may not follow it does not
@@ -142,4 +141,5 @@ OneTokenAtAPlace = (input : List ℕ) (t u : Token) → IsToken input t → IsTo
 -- a refusal is final: from the bad place on the same answer comes again
 abbrev pub RefusalStays : Type 0
 RefusalStays =
-    (at : Reading) (bad : BadToken) → IsTokenAnswer at (Err bad) → IsTokenAnswer (moved at (Err bad)) (Err bad)
+    (at : Reading) (bad : BadToken) → IsTokenAnswer at (Err bad)
+    → IsTokenAnswer (moved at (Err bad)) (Err bad)

@@ -2,3 +2,5 @@
 mod Passing
 mod OneSpaceIsNumbered
 mod StraightCorners
+-- and what the ranges are
+mod ExampleRanges

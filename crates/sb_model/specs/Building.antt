@@ -1,8 +1,8 @@
 -- What contracts see of a model, and what holds of every model.
 
 use Rattle.std.specs.Prelude.{ℕ, ℤ, Bool, true, false, not, ◌&&◌, ◌||◌, ◌==◌, ◌^◌, List, [], ◌∷◌}
-use Rattle.std.specs.Prelude.{length, nat_le, nat_lt, nat_eq}
-use Rattle.std.specs.Prelude.{unsigned_abs, pos, if◌then◌else◌, Option, Some, None, is_none}
+use Rattle.std.specs.Prelude.{length, nat_le, nat_lt, nat_eq, unsigned_abs, pos, if◌then◌else◌}
+use Rattle.std.specs.Prelude.{Option, Some, None, is_none}
 use Rattle.std.specs.Ordering.{int_eq}
 use Rattle.std.specs.List.{list_all, list_any, find}
 use Rattle.theory_numbers.specs.Divisors.{are_coprime}

@@ -3,11 +3,10 @@
 
 use Rattle.std.specs.Prelude.{◌≡◌, ℕ, ℤ, zero, suc, pos, ◌+◌, ◌*◌, ◌==◌, ◌+ℤ◌, ◌-ℤ◌, ◌*ℤ◌, Bool}
 use Rattle.std.specs.Prelude.{true, false, not, ◌&&◌, ◌||◌, int_le, List, [], ◌∷◌, ◌++◌, Option}
-use Rattle.std.specs.Prelude.{Some, None, IsTrue}
-use Rattle.std.specs.Prelude.{if◌then◌else◌}
+use Rattle.std.specs.Prelude.{Some, None, IsTrue, if◌then◌else◌}
 use Rattle.std.specs.Ordering.{int_eq}
 use Rattle.std.specs.List.{list_all, find}
-use Rattle.theory_numbers.specs.Fractions.{Ratio, reduced}
+use Rattle.theory_numbers.specs.Fractions.{Ratio, reduced, whole}
 use Rattle.theory_numbers.specs.Arrows.{Arrow}
 use Rattle.theory_numbers.specs.Rationals.{rational}
 use Rattle.theory_cuttings.specs.Cuttings.{Break}
@@ -29,7 +28,6 @@ use Rattle.sb_model.specs.PlanEdges.{plan_edges}
 use Rattle.sb_model.specs.Faces.{Surface}
 use Rattle.sb_model.specs.Passages.{Ray, ray_from, at_depth, ArePassages, Passage, passages_of}
 use Rattle.sb_model.specs.Passages.{Piece, pieces_of, start_of, end_of}
-use Rattle.theory_numbers.specs.Fractions.{whole}
 
 -- the edge stands at right angles to n, so a side with the normal n runs along it
 abbrev pub is_across : Vector → Edge → Bool

@@ -1,5 +1,5 @@
 -- Worked commands and lines: what the definitions accept, and what they refuse.
-use Rattle.std.proofs.Common.{◌≡◌, Some, None, refl, List, ℕ, [], ◌∷◌}
+use Rattle.std.proofs.Common.{◌≡◌, Some, None, refl, [], ◌∷◌}
 use Rattle.std.specs.Prelude.{codes}
 use Rattle.std.specs.Fmt.{digits}
 use Rattle.sb_run.specs.declared.answer.Answer.TheVariants.{Syntax, Refused}

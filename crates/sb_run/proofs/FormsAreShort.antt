@@ -1,5 +1,5 @@
 -- The text of a form is far shorter than the longest input.
-use Rattle.std.proofs.Common.{◌≡◌, ◌≤◌, ◌+◌, ◌++◌, ℕ, ℤ, pos, negsuc, suc, List, [], ◌∷◌, length}
+use Rattle.std.proofs.Common.{◌≡◌, ◌≤◌, ◌+◌, ◌++◌, ℕ, ℤ, pos, negsuc, suc, List, length}
 use Rattle.std.proofs.Common.{ap, arith, length-append, lit≤}
 use Rattle.std.specs.Prelude.{decimal, codes}
 use Rattle.std.proofs.lemmas.Fmt.{length-decimal-le}

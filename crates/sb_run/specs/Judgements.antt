@@ -22,6 +22,7 @@ use Rattle.sb_run.specs.declared.answer.Code.{Code}
 use Rattle.sb_run.specs.declared.answer.Code.TheVariants as code
 use Rattle.sb_run.specs.declared.judgement.Ready.{Ready}
 
+-- the code of a defect of the form
 abbrev pub code_of : Defect → Code
 code_of defect.Shape = code.Shape
 code_of defect.Range = code.Range

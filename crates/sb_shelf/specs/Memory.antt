@@ -8,6 +8,7 @@ use Rattle.sb_shelf.specs.World.{World, IsUntouched, one_more}
 use Rattle.sb_shelf.specs.Counting.{is_among}
 use Rattle.sb_shelf.specs.Input.{left_of, told_under}
 
+-- the page of an output
 abbrev pub page_of : MemoryShelf → Out → Page
 page_of m Ifc = m.ifc
 page_of m Idf = m.idf

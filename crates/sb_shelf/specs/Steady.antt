@@ -19,6 +19,7 @@ never_failing held bytes left ifc idf report = record {
   said_faults = 0;
 }
 
+-- the world that such a shelf stands for
 abbrev pub steady_state : SteadyShelf → World
 steady_state s =
     never_failing s.input.path s.input.bytes (left_of s.input) s.has_ifc s.has_idf s.has_report

@@ -7,7 +7,7 @@ use Rattle.sb_lex.specs.declared.kinds.Kind.TheVariants as kind
 use Rattle.sb_lex.specs.declared.kinds.Mark.TheVariants as mark
 use Rattle.sb_lex.specs.declared.kinds.Word.TheVariants as word
 use Rattle.sb_step.specs.Lexemes.{Lexeme, IsThe, is_open, is_close}
-use Rattle.sb_step.specs.Turns.{is_semicolon, is_comma, is_equals, is_first, is_last, is_keyword, number_of, is_the}
+use Rattle.sb_step.specs.KindTests.{is_semicolon, is_comma, is_equals, is_first, is_last, is_keyword, number_of, is_the}
 
 pub open_says : (k : Kind) → is_open k ≡ true → k ≡ kind.Mark mark.Open
 open_says (kind.Mark mark.Open) e = refl

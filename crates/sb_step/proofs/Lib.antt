@@ -1,33 +1,9 @@
 pub mod KindsSay
-pub mod TurnsByTest
-pub mod Continuations
-pub mod ListsByLexeme
-pub mod SectionsByLexeme
-pub mod DepthIsCounted
-pub mod SectionsAreFollowed
-pub mod TextsAreRead
-pub mod SomeTextGoesOn
-pub mod TextsEnd
-pub mod OneFileOrOneFault
-pub mod BracketsAreBits
-pub mod OneUseMore
-pub mod InstancesAreStored
-pub mod EventsAreCollected
-pub mod ReadingGoesOn
-pub mod OneAnswerToAnInput
-pub mod BehindRules
-pub mod RecordsLie
-pub mod OnlyOnePasses
-pub mod RecordsStand
-pub mod DoubledApostrophes
-pub mod InsidesOfTokens
-pub mod SaidIsParameter
-pub mod ParametersAreRead
-pub mod ListsAreRead
-pub mod ParametersByToken
-pub mod ParametersAreUnique
-pub mod ParametersOfAnInstance
-pub mod ParametersExist
-pub mod SchemaIsRead
-mod Examples
-mod ParameterExamples
+-- the machine goes on exactly where the grammar does
+pub mod Texts
+-- what `index` collects and answers
+pub mod Collecting
+-- records stand where the file has them
+pub mod Records
+-- a parameter list says one list, and this is read
+pub mod ParameterLists

@@ -2,8 +2,8 @@
 use Rattle.std.specs.Prelude.{◌≡◌, ℕ, ◌+◌, ◌≤◌, ◌⊎◌, List, [], ◌∷◌, ◌++◌, codes}
 use Rattle.sb_lex.specs.declared.kinds.Mark.TheVariants as mark
 use Rattle.sb_lex.specs.declared.kinds.Word.TheVariants as word
-use Rattle.sb_step.specs.declared.file.Form.TheVariants as form
-use Rattle.sb_step.specs.declared.file.Record.{Record}
+use Rattle.sb_step.specs.declared.step_file.records.Form.TheVariants as form
+use Rattle.sb_step.specs.declared.step_file.records.Record.{Record}
 use Rattle.sb_step.specs.Lexemes.{Lexeme, IsWord, IsKeyword, IsThe, IsName, IsMark, IsValue, opened, closed}
 use Rattle.sb_step.specs.Rules.{Rule, One, ◌⋅◌, Many, Each, SomeOf}
 
@@ -100,7 +100,8 @@ greatest_depth = 64
 
 -- at no place are more parentheses open than may be
 abbrev pub IsShallow : List Lexeme → Type 0
-IsShallow xs = (front back : List Lexeme) → xs ≡ front ++ back → opened front ≤ closed front + greatest_depth
+IsShallow xs = (front back : List Lexeme) → xs ≡ front ++ back
+    → opened front ≤ closed front + greatest_depth
 
 -- a text of the grammar, and the file that it describes
 pub record IsText (xs : List Lexeme) (file : File) : Type 0 where

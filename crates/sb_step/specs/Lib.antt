@@ -5,16 +5,11 @@ pub mod Grammar
 pub mod Faults
 pub mod Numbers
 pub mod Indexed
-pub mod Spans
-pub mod Schema
 pub mod IndexAnswers
-pub mod Parameters
-pub mod Readers
-pub mod ParamsAnswers
-pub mod Turns
-pub mod Machines
-pub mod Hashing
-pub mod StoredInstances
-pub mod Collects
-pub mod Progress
-pub mod SchemaReading
+pub mod KindTests
+-- what the private functions of `index` promise
+pub mod Index
+-- where records stand, and which is the schema
+pub mod Records
+-- what a parameter list says, and how it is read
+pub mod Params

@@ -1,6 +1,6 @@
 -- The numbers that the instances of a text use, how often, and the greatest.
 use Rattle.std.specs.Prelude.{◌≡◌, ℕ, ◌≤◌, ◌==◌, List, [], ◌∷◌, map, count_by}
-use Rattle.sb_step.specs.declared.file.Record.{Record}
+use Rattle.sb_step.specs.declared.step_file.records.Record.{Record}
 
 -- the numbers in file order
 abbrev pub numbers_of : List (ℕ × Record) → List ℕ

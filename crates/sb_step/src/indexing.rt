@@ -3,16 +3,25 @@ ghost use Rattle.std.specs.Prelude.{◌≡◌, ◌↔◌, ℕ, [], Ok, Err};
 ghost use Rattle.sb_step.specs.IndexAnswers.{IsAnswer, IsInTime, IsIndexed, HasDoubled};
 ghost use Rattle.sb_step.specs.Faults.{IsFaultAt};
 ghost use Rattle.sb_step.specs.Indexed.{Indexed};
-ghost use Rattle.sb_step.specs.StoredInstances.{NumbersAreStored};
-ghost use Rattle.sb_step.specs.Collects.{AreCollected};
-ghost use Rattle.sb_step.specs.Machines.{state_of};
-ghost use Rattle.sb_step.specs.Progress as spec;
+ghost use Rattle.sb_step.specs.Index.StoredInstances.{NumbersAreStored};
+ghost use Rattle.sb_step.specs.Index.Collects.{AreCollected};
+ghost use Rattle.sb_step.specs.Index.Machines.{state_of};
+ghost use Rattle.sb_step.specs.Index.Progress as spec;
 
-use crate::collected::Collected;
+use crate::indexing::collected::Collected;
+
+mod collected;
+mod hashing;
+pub(crate) mod instances;
+mod lists;
+mod machine;
+mod sections;
+mod states;
+
 use crate::error::StepError;
-use crate::instances::Instances;
+use crate::indexing::instances::Instances;
+use crate::indexing::machine::Machine;
 use crate::laws::one_file_or_one_fault;
-use crate::machine::Machine;
 use crate::step_file::StepFile;
 use sb_lex::{BadToken, Lexer, Token, tokens_are_one_list};
 use std::alloc::Global;

@@ -2,7 +2,7 @@
 ghost use Rattle.std.specs.Prelude.{◌≡◌, ◌&&◌};
 ghost use Rattle.std.specs.Str.{bytes_eq};
 ghost use Rattle.sb_step.specs.Lexemes.{is_open as is_open_of, is_close as is_close_of, is_value as is_value_of};
-ghost use Rattle.sb_step.specs.Turns as spec;
+ghost use Rattle.sb_step.specs.KindTests as spec;
 
 use sb_lex::{Kind, Mark, Word};
 

@@ -1,5 +1,5 @@
 ghost use Rattle.sb_step.specs.Faults.{EachIsFileOrFault, FilesAreUnique, FaultsAreUnique, NoFileHasAFault};
-ghost use Rattle.sb_step.specs.Parameters.{EachInstanceHasParameters, ParametersAreUnique, OnlyListsSayParameters, EachListSaysOne};
+ghost use Rattle.sb_step.specs.Params.Parameters.{EachInstanceHasParameters, ParametersAreUnique, OnlyListsSayParameters, EachListSaysOne};
 
 use sb_lex::tokens_are_one_list;
 

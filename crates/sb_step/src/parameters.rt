@@ -1,16 +1,20 @@
 // The parameters of an instance.
 ghost use Rattle.std.specs.Prelude.{◌≡◌, ◌↔◌, ℕ, nat_eq, List, Ok, Err, None, IfOk};
 ghost use Rattle.std.specs.Map.{lookup};
-ghost use Rattle.sb_step.specs.declared.param.Param.{Param};
-ghost use Rattle.sb_step.specs.Parameters.{HasParameters};
-ghost use Rattle.sb_step.specs.ParamsAnswers.{IsParamsAnswer, HasMemory, AwaitsByForm, SaysByForm, AwaitsList, ListSays, Gives};
+ghost use Rattle.sb_step.specs.declared.parameters.param.Param.{Param};
+ghost use Rattle.sb_step.specs.Params.Parameters.{HasParameters};
+ghost use Rattle.sb_step.specs.Params.ParamsAnswers.{IsParamsAnswer, HasMemory, AwaitsByForm, SaysByForm, AwaitsList, ListSays, Gives};
+
+pub(crate) mod param;
+mod reading;
+mod values;
 
 use crate::error::ParamsError;
-use crate::file::Form;
 use crate::laws::one_list_of_parameters;
-use crate::param::Params;
-use crate::reading::{list, next};
+use crate::parameters::param::Params;
+use crate::parameters::reading::{list, next};
 use crate::step_file::StepFile;
+use crate::step_file::records::Form;
 use sb_lex::Lexer;
 use sqlite_items::Items;
 use std::alloc::{AllocError, Global};

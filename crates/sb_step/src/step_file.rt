@@ -1,10 +1,13 @@
 ghost use Rattle.std.specs.Prelude.{◌≡◌, length};
 ghost use Rattle.std.specs.Option.{option_copied};
-ghost use Rattle.sb_step.specs.Spans as spec;
+ghost use Rattle.sb_step.specs.Records.Spans as spec;
 
-use crate::file::{Form, Record};
-use crate::instances::Records;
-use crate::schema::{one_string, only_schema};
+pub(crate) mod records;
+mod schema;
+
+use crate::indexing::instances::Records;
+use crate::step_file::records::{Form, Record};
+use crate::step_file::schema::{one_string, only_schema};
 use std::marker::Model;
 
 /// An exchange text whose instances are found by their numbers. It borrows the text.
@@ -46,7 +49,7 @@ impl<'a> Model for StepFile<'a> {
 impl<'a> StepFile<'a> {
     ghost use Rattle.std.specs.Prelude.{◌↔◌, ℕ, List, Some, None};
     ghost use Rattle.sb_step.specs.Numbers.{numbers_of, IsGreatest};
-    ghost use Rattle.sb_step.specs.Schema.{IsSchema, HasNoSchema};
+    ghost use Rattle.sb_step.specs.Records.Schema.{IsSchema, HasNoSchema};
 
     /// The numbers of the instances in file order.
     pub fn numbers(&self) -> &[u32]
@@ -71,8 +74,8 @@ impl<'a> StepFile<'a> {
         keyword_at(self.bytes, *record)
     }
 
-    /// The schema that the header names, as it stands between its apostrophes: the one string of the
-    /// one FILE_SCHEMA.
+    /// The schema that the header names, as it stands between its apostrophes: the one string of
+    /// the one FILE_SCHEMA.
     ///
     /// - `Some(text)`: exactly where one entity of the header, and no second, is a FILE_SCHEMA, its
     ///   list has one parameter, and this is a list of one string, the text in apostrophes.

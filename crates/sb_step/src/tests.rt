@@ -1,3 +1,5 @@
+mod parameters;
+
 use crate::{Form, StepError, StepFile, index};
 use std::alloc::{AllocError, Global};
 use std::test::Fail;

@@ -19,7 +19,8 @@ pub record HasPrefix (P : List ℕ → Type 0) (bytes : List ℕ) (n : ℕ) : Ty
   pub prefix : IsPrefix P bytes rest n
 
 -- two names of one length
-pub prefix_so_long : (P : List ℕ → Type 0) (bytes rest : List ℕ) (m n : ℕ) → m ≡ n → IsPrefix P bytes
+pub prefix_so_long : (P : List ℕ → Type 0) (bytes rest : List ℕ) (m n : ℕ) → m ≡ n
+    → IsPrefix P bytes
     rest m → IsPrefix P bytes rest n
 prefix_so_long P bytes rest m n same s = subst (IsPrefix P bytes rest) same s
 

@@ -1,21 +1,16 @@
 -- A repeated string with one piece more, at its end or its front, is a repeated string.
 use Rattle.std.proofs.Common.{ℕ, List, [], ◌∷◌, ◌++◌, sym, refl, ap, ◌∙◌, append-nil}
-use Rattle.std.specs.List.{concat, AllByRecursion}
+use Rattle.std.specs.List.{concat}
 use Rattle.std.proofs.lemmas.List.Folds.{concat-append}
+use Rattle.theory_lists.proofs.Blocks.{all-append}
 use Rattle.theory_bytes.specs.Sets.{Repeated}
-
--- one string more at the end
-each_push : (P : List ℕ → Type 0) (pieces : List (List ℕ)) (more : List ℕ) → AllByRecursion P
-    pieces → P more → AllByRecursion P (pieces ++ more ∷ [])
-each_push P [] more each is = (is, tt)
-each_push P (p ∷ ps) more each is = (each.0, each_push P ps more each.1 is)
 
 -- a string with one piece more at its end
 pub repeated_push : (P : List ℕ → Type 0) (xs more : List ℕ) → Repeated P xs → P more
     → Repeated P (xs ++ more)
 repeated_push P xs more r is = record {
   pieces = r.pieces ++ more ∷ [];
-  each = each_push P r.pieces more r.each is;
+  each = all-append P r.pieces (more ∷ []) r.each (is, tt);
   joined =
       ap (λ l. l ++ more) r.joined ∙ ap (λ l. concat r.pieces ++ l) (sym (append-nil more))
       ∙ sym (concat-append r.pieces (more ∷ []));

@@ -1,6 +1,6 @@
 -- Edges along x and y: their steps, directions and normals, and which way they run.
-use Rattle.std.proofs.Common.{◌≡◌, refl, ap, ◌∙◌, arith, zero, suc, ℤ, pos, negsuc, neg_ℤ}
-use Rattle.std.proofs.Common.{◌-ℤ◌, ◌<ℤ◌, Bool, true, false, unsigned_abs, int_lt, if◌then◌else◌}
+use Rattle.std.proofs.Common.{◌≡◌, refl, ap, ◌∙◌, arith, zero, suc, ℤ, pos, negsuc, neg_ℤ, ◌-ℤ◌}
+use Rattle.std.proofs.Common.{◌<ℤ◌, Bool, true, false, unsigned_abs, int_lt, if◌then◌else◌}
 use Rattle.std.proofs.lemmas.Int.{ints}
 use Rattle.std.proofs.lemmas.Bool.{lt-ltb}
 use Rattle.std.proofs.Math.Nat.{div_self, zero-div}

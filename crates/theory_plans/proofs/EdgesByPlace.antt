@@ -3,13 +3,12 @@
 
 use Rattle.std.proofs.Common.{ℕ, zero, suc, ◌+◌, ◌-◌, ◌<◌, ◌≤◌, ◌≡◌, List, [], ◌∷◌, ◌++◌, length}
 use Rattle.std.proofs.Common.{drop, Some, slice_get, slice_index_or, nat_lt, refl, arith, ap, sym}
-use Rattle.std.proofs.Common.{◌∙◌, true, false, Bool, if◌then◌else◌}
+use Rattle.std.proofs.Common.{◌∙◌, true, false, Bool, if◌then◌else◌, add-one, get_or}
 use Rattle.std.proofs.lemmas.Bool.{lt-ltb}
 use Rattle.std.proofs.lemmas.Bool.Decides.{nat_tests}
-use Rattle.std.proofs.Common.{add-one, get_or}
 use Rattle.std.proofs.Math.Seq.{drop-cons}
 use Rattle.sb_fraction.specs.declared.point.Point.{Point}
-use Rattle.theory_plans.specs.LoopEdges.{edges_back, edges_of_loop, edges_of, place_after}
+use Rattle.theory_plans.specs.LoopEdges.{edges_back, edges_of_loop, edges_of, next_in_loop}
 use Rattle.sb_fraction.specs.Edges.{edge}
 
 -- a test of two successors is that of the numbers
@@ -35,7 +34,7 @@ next_by false a points k d = refl
 
 next_point : (a : Point) (points : List Point) (k : ℕ) (d : Point)
     → (if nat_lt k (length points) then slice_index_or points k d else a)
-    ≡ slice_index_or (a ∷ points) (place_after k (suc (length points))) d
+    ≡ slice_index_or (a ∷ points) (next_in_loop k (suc (length points))) d
 next_point a points k d =
     rw (add-one k, nat_lt-suc k (length points))
     (next_by (nat_lt k (length points)) a points k d)
@@ -44,7 +43,7 @@ next_point a points k d =
 pub edge_by_place : (points : List Point) (k : ℕ) (d : Point) → k < length points
     → slice_get (edges_of_loop points) k
     ≡ Some (edge (slice_index_or points k d)
-    (slice_index_or points (place_after k (length points)) d))
+    (slice_index_or points (next_in_loop k (length points)) d))
 edge_by_place [] k d within = absurd (omega arith)
 edge_by_place (a ∷ points) k d within =
     edge_back a points a d k (omega arith)

@@ -1,15 +1,14 @@
 -- A point is inside a rectangle by parity exactly where it lies strictly between its sides.
-use Rattle.std.proofs.Common.{◌≡◌, refl, sym, ◌∙◌, arith, ℤ, pos, ◌+ℤ◌, ◌-ℤ◌, ◌*ℤ◌, ◌<ℤ◌, ◌≤ℤ◌}
-use Rattle.std.proofs.Common.{Bool, true, false, not, ◌&&◌, ◌||◌, [], ◌∷◌, int_lt, int_le, ◌⊎◌, inl}
-use Rattle.std.proofs.Common.{inr, ⊎_elim, if◌then◌else◌}
+use Rattle.std.proofs.Common.{◌≡◌, refl, sym, ◌∙◌, arith, ℤ, pos, ◌-ℤ◌, ◌*ℤ◌, ◌<ℤ◌, ◌≤ℤ◌, Bool}
+use Rattle.std.proofs.Common.{true, false, not, ◌&&◌, ◌||◌, [], ◌∷◌, int_lt, ◌⊎◌, inl, inr, ⊎_elim}
+use Rattle.std.proofs.Common.{if◌then◌else◌}
 use Rattle.std.specs.Ordering.{int_eq}
-use Rattle.std.proofs.lemmas.Int.{ints}
+use Rattle.std.proofs.lemmas.Int.{ints, by_lt_z}
 use Rattle.std.proofs.lemmas.Bool.{and_from, true≢false, false≢true}
-use Rattle.std.proofs.lemmas.Int.{by_lt_z}
 use Rattle.theory_numbers.specs.Arrows.{cross, dot}
 use Rattle.theory_lists.specs.Parity.{differ, is_odd_number}
 use Rattle.theory_numbers.proofs.Shapes.{var, num, minus, times, equal}
-use Rattle.theory_numbers.proofs.Signs.{less_from, test_less, test_not_less, test_at_most, same_less}
+use Rattle.theory_numbers.proofs.Signs.{less_from, test_less, test_not_less, same_less}
 use Rattle.theory_numbers.proofs.Ring.{mul_comm}
 use Rattle.theory_numbers.proofs.Products.{positive_product, positive_factor, product_of_negatives}
 use Rattle.theory_numbers.proofs.Products.{scale_less, weak_negative_product}

@@ -1,5 +1,5 @@
 -- The points on edges along x and y.
-use Rattle.std.proofs.Common.{◌≡◌, sym, ap, ◌∙◌, arith, ℤ, pos, ◌+ℤ◌, ◌-ℤ◌, ◌*ℤ◌, ◌<ℤ◌, ◌≤ℤ◌, true}
+use Rattle.std.proofs.Common.{◌≡◌, sym, ◌∙◌, arith, ℤ, pos, ◌+ℤ◌, ◌-ℤ◌, ◌*ℤ◌, ◌<ℤ◌, ◌≤ℤ◌, true}
 use Rattle.std.proofs.Common.{false}
 use Rattle.std.specs.Ordering.{int_eq}
 use Rattle.std.proofs.lemmas.Int.{ints, by_lt_z}
@@ -16,8 +16,8 @@ use Rattle.sb_fraction.specs.Edges.{Edge, edge, is_on}
 use Rattle.sb_fraction.specs.Crossings.{ends_over, abscissa_at}
 use Rattle.sb_fraction.specs.Directions.{axis_x, axis_y}
 use Rattle.theory_plans.specs.Rectangles.{corner}
-use Rattle.theory_plans.proofs.OriginOnSegment.{touches, touches_level, level_touches}
-use Rattle.theory_plans.proofs.OriginOnSegment.{touches_upright, upright_touches}
+use Rattle.theory_plans.proofs.OriginOnSegment.{touches_level, level_touches, touches_upright}
+use Rattle.theory_plans.proofs.OriginOnSegment.{upright_touches}
 
 -- z lies between two numbers, whichever is the lower
 abbrev pub AreAbout : ℤ → ℤ → ℤ → Type 0

@@ -11,8 +11,7 @@ use Rattle.sb_fraction.specs.declared.point.Point.{Point}
 use Rattle.theory_numbers.proofs.Products.{positive_product, negative_product, product_of_negatives}
 use Rattle.theory_numbers.proofs.Signs.{less_from}
 use Rattle.theory_plans.specs.Loops.{is_rectangle, are_corners, are_loops, is_bent}
-use Rattle.sb_fraction.specs.Plane.{is_plan_point}
-use Rattle.sb_fraction.specs.Plane.{is_coordinate}
+use Rattle.sb_fraction.specs.Plane.{is_plan_point, is_coordinate}
 
 -- a number that is not 0 is told apart from it
 not_zero : (z : ℤ) → (z ≡ pos 0 → ⊥) → not (int_eq z (pos 0)) ≡ true
@@ -29,17 +28,17 @@ far_above k l positive none e = omega (arith, ints)
 far_below : (k l : ℤ) → l <ℤ pos 0 → k ≡ pos 0 → k -ℤ l ≡ pos 0 → ⊥
 far_below k l negative none e = omega (arith, ints)
 
--- the way first along x and then along y is bent
-bent_after_level : (p s q r : ℤ) → pos 0 <ℤ (p *ℤ s) → q ≡ pos 0
-    → not (int_eq ((p *ℤ s) -ℤ (q *ℤ r)) (pos 0)) ≡ true
-bent_after_level p s q r positive level =
-    not_zero _ (far_above _ _ positive (zero_times q r level))
+-- a way that goes along x and then, not along x, is bent
+bent_after_level : (a b c : Point) → b.y ≡ a.y → pos 0 <ℤ ((b.x -ℤ a.x) *ℤ (c.y -ℤ b.y))
+    → is_bent a b c ≡ true
+bent_after_level a b c level positive =
+    not_zero _ (far_above _ _ positive (zero_times (b.y -ℤ a.y) (c.x -ℤ b.x) (omega (arith, ints))))
 
--- the way first along y and then along x is bent
-bent_after_upright : (p s q r : ℤ) → (q *ℤ r) <ℤ pos 0 → p ≡ pos 0
-    → not (int_eq ((p *ℤ s) -ℤ (q *ℤ r)) (pos 0)) ≡ true
-bent_after_upright p s q r negative level =
-    not_zero _ (far_below _ _ negative (zero_times p s level))
+-- so is one that goes along y and then not along y
+bent_after_upright : (a b c : Point) → b.x ≡ a.x → ((b.y -ℤ a.y) *ℤ (c.x -ℤ b.x)) <ℤ pos 0
+    → is_bent a b c ≡ true
+bent_after_upright a b c upright negative =
+    not_zero _ (far_below _ _ negative (zero_times (b.x -ℤ a.x) (c.y -ℤ b.y) (omega (arith, ints))))
 
 -- the corners of a rectangle along x and y
 record IsRectangle (a b c d : Point) : Type 0 where
@@ -50,30 +49,25 @@ record IsRectangle (a b c d : Point) : Type 0 where
   dx : d.x ≡ a.x
   dy : d.y ≡ c.y
 
-bent_at_b : (a b c d : Point) → IsRectangle a b c d → is_bent a b c ≡ true
-bent_at_b a b c d r =
-    bent_after_level (b.x -ℤ a.x) (c.y -ℤ b.y) (b.y -ℤ a.y) (c.x -ℤ b.x)
-    (positive_product (b.x -ℤ a.x) (c.y -ℤ b.y) (omega (arith, ints)) (omega (arith, ints)))
-    (omega (arith, ints))
+-- it is bent at each of them
+record IsBentThrough (a b c d : Point) : Type 0 where
+  at_b : is_bent a b c ≡ true
+  at_c : is_bent b c d ≡ true
+  at_d : is_bent c d a ≡ true
+  at_a : is_bent d a b ≡ true
 
-bent_at_c : (a b c d : Point) → IsRectangle a b c d → is_bent b c d ≡ true
-bent_at_c a b c d r =
-    bent_after_upright (c.x -ℤ b.x) (d.y -ℤ c.y) (c.y -ℤ b.y) (d.x -ℤ c.x)
-    (negative_product (c.y -ℤ b.y) (d.x -ℤ c.x) (omega (arith, ints)) (omega (arith, ints)))
-    (omega (arith, ints))
-
-bent_at_d : (a b c d : Point) → IsRectangle a b c d → is_bent c d a ≡ true
-bent_at_d a b c d r =
-    bent_after_level (d.x -ℤ c.x) (a.y -ℤ d.y) (d.y -ℤ c.y) (a.x -ℤ d.x)
-    (product_of_negatives (d.x -ℤ c.x) (a.y -ℤ d.y) (omega (arith, ints)) (omega (arith, ints)))
-    (omega (arith, ints))
-
-bent_at_a : (a b c d : Point) → IsRectangle a b c d → is_bent d a b ≡ true
-bent_at_a a b c d r =
-    bent_after_upright (a.x -ℤ d.x) (b.y -ℤ a.y) (a.y -ℤ d.y) (b.x -ℤ a.x)
-    (rw *ℤ_comm (negative_product (b.x -ℤ a.x) (a.y -ℤ d.y) (omega (arith, ints))
-    (omega (arith, ints))))
-    (omega (arith, ints))
+bent_through : (a b c d : Point) → IsRectangle a b c d → IsBentThrough a b c d
+bent_through a b c d r = record {
+  at_b = bent_after_level a b c r.by
+      (positive_product (b.x -ℤ a.x) (c.y -ℤ b.y) (omega (arith, ints)) (omega (arith, ints)));
+  at_c = bent_after_upright b c d r.cx
+      (negative_product (c.y -ℤ b.y) (d.x -ℤ c.x) (omega (arith, ints)) (omega (arith, ints)));
+  at_d = bent_after_level c d a r.dy
+      (product_of_negatives (d.x -ℤ c.x) (a.y -ℤ d.y) (omega (arith, ints)) (omega (arith, ints)));
+  at_a = bent_after_upright d a b (sym r.dx)
+      (rw *ℤ_comm
+      (negative_product (b.x -ℤ a.x) (a.y -ℤ d.y) (omega (arith, ints)) (omega (arith, ints))));
+}
 
 -- what the test of the corners says
 corners_tell : (a b c d : Point) → are_corners a b c d ≡ true → IsRectangle a b c d
@@ -109,6 +103,7 @@ pub rectangle_is_loop : (loops : List (List Point)) → IsTrue (is_rectangle loo
 rectangle_is_loop ((a ∷ b ∷ c ∷ d ∷ []) ∷ []) is =
     let parts = and_parts (are_corners a b c d) (is_plan_point a && is_plan_point c) is in
     let r = corners_tell a b c d parts.0 in
+    let bent = bent_through a b c d r in
     let range = and_parts (is_plan_point a) (is_plan_point c) parts.1 in
     let at_a = and_parts (is_coordinate a.x) (is_coordinate a.y) range.0 in
     let at_c = and_parts (is_coordinate c.x) (is_coordinate c.y) range.1 in
@@ -116,5 +111,5 @@ rectangle_is_loop ((a ∷ b ∷ c ∷ d ∷ []) ∷ []) is =
     (is_bent a b c) (is_bent b c d) (is_bent c d a) (is_bent d a b)
     range.0 (in_range_at b c.x a.y (sym r.cx) r.by at_c.0 at_a.1)
     range.1 (in_range_at d a.x c.y r.dx r.dy at_a.0 at_c.1)
-    (bent_at_b a b c d r) (bent_at_c a b c d r) (bent_at_d a b c d r) (bent_at_a a b c d r)
+    bent.at_b bent.at_c bent.at_d bent.at_a
 rectangle_is_loop _ is = absurd (false≢true is)

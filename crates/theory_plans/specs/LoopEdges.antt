@@ -15,8 +15,8 @@ edges_of_loop [] = []
 edges_of_loop (a ∷ points) = edges_back a points a
 
 -- the place after k in a closed loop of so many points
-abbrev pub place_after : ℕ → ℕ → ℕ
-place_after k len = if nat_lt (k + 1) len then k + 1 else 0
+abbrev pub next_in_loop : ℕ → ℕ → ℕ
+next_in_loop k len = if nat_lt (k + 1) len then k + 1 else 0
 
 -- the edges of a plan, loop after loop
 abbrev pub edges_of : List (List Point) → List Edge

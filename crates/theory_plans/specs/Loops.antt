@@ -1,7 +1,7 @@
 -- Which lists of points are the loops of a plan.
 
-use Rattle.std.specs.Prelude.{ℤ, pos, Bool, false, not, ◌&&◌, ◌-ℤ◌, ◌*ℤ◌, List, [], ◌∷◌}
-use Rattle.std.specs.Prelude.{length, nat_le, int_lt}
+use Rattle.std.specs.Prelude.{ℤ, pos, Bool, false, not, ◌&&◌, ◌-ℤ◌, ◌*ℤ◌, List, [], ◌∷◌, length}
+use Rattle.std.specs.Prelude.{nat_le, int_lt}
 use Rattle.std.specs.Ordering.{int_eq}
 use Rattle.std.specs.List.{list_all}
 use Rattle.sb_fraction.specs.declared.point.Point.{Point}

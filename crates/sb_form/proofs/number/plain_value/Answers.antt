@@ -1,12 +1,11 @@
+-- Plain digits and the decimals of short numbers are the same.
 use Rattle.std.proofs.Common.{◌≡◌, ◌∙◌, sym, subst, true}
 use Rattle.std.specs.Char.{is_ascii_digit}
 use Rattle.std.specs.List.{list_all}
 use Rattle.sb_form.specs.Numbers.{HasPlainLength}
-use Rattle.sb_form.proofs.DecimalsAreReadBack.{decimal_is_plain, digits_decimal_all}
-use Rattle.sb_form.proofs.DecimalsAreReadBack.{decimal-plain_value, short_value}
+use Rattle.sb_form.proofs.DecimalsAreReadBack.{decimal_is_plain, digits_decimal_all, decimal-plain_value, short_value}
 use Rattle.sb_form.proofs.number.plain_value.Goals as goal
-use Rattle.sb_form.proofs.number.plain_value.Goals.{else-has_plain_length-via-then-has_plain_length+else-are_digits}
-use Rattle.sb_form.proofs.number.plain_value.Goals.{else-has_plain_length-via-else-has_plain_length}
+use Rattle.sb_form.proofs.number.plain_value.Goals.{else-has_plain_length-via-then-has_plain_length+else-are_digits, else-has_plain_length-via-else-has_plain_length}
 
 pub returns-then-are_digits-clause-found : goal.returns-then-are_digits-clause-found
 returns-then-are_digits-clause-found c =

@@ -1,3 +1,4 @@
+-- Beside 0 a number in lowest terms is 1 or 0.
 use Rattle.std.proofs.Common.{◌∙◌, ◌/◌, ap, sym}
 use Rattle.theory_numbers.specs.Divisors.{greatest_divisor}
 use Rattle.sb_report.proofs.LowestBesideZero.{lowest_beside_zero}

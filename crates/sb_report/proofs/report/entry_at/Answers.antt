@@ -1,3 +1,4 @@
+-- The boundary at each place is one of the model, and its corners can be told.
 use Rattle.std.proofs.Common.{◌≡◌, ◌∙◌, ◌≤◌, ◌+◌, ◌-◌, ℕ, List, Option, Some, Bor, slice_get, ap}
 use Rattle.std.proofs.Common.{sym, arith}
 use Rattle.std.specs.Option.{option_copied}

@@ -1,10 +1,10 @@
 use Rattle.std.proofs.Common.{◌≡◌, Ok, Err, Some, None, sym, ap, ◌∙◌, subst}
 use Rattle.sb_lex.specs.Tokens.{IsTokenAnswer, IsNext, moved}
 use Rattle.sb_step.specs.IndexAnswers.{IsAnswer}
-use Rattle.sb_step.specs.Turns.{start}
-use Rattle.sb_step.specs.Machines.{state_of}
-use Rattle.sb_step.specs.Progress.{Progress, finished}
-use Rattle.sb_step.proofs.ReadingGoesOn.{nothing_read, one_more, fault_at_bad, answer_at_end, numbers_at_end, error_answers}
+use Rattle.sb_step.specs.Index.Turns.{start}
+use Rattle.sb_step.specs.Index.Machines.{state_of}
+use Rattle.sb_step.specs.Index.Progress.{Progress, finished}
+use Rattle.sb_step.proofs.Collecting.ReadingGoesOn.{nothing_read, one_more, fault_at_bad, answer_at_end, numbers_at_end, error_answers}
 use Rattle.sb_step.proofs.indexing.read_into.Goals as goal
 
 pub tokens-init : goal.tokens-init
@@ -49,7 +49,8 @@ returns-in-Err-accept c =
     subst (λ i. IsNext i place c.in-Ok-Some.token) invariant.input_is
     (subst (λ o. IsTokenAnswer c.tokens.lexer (Ok o)) c.in-Ok-Some.field-0-is
     c.in-Ok-Some.ensures.answer) in
-    error_answers c.tokens_are_one_list.ensures.exist_from input place c.in-Ok-Some.token (state_of c.tokens.machine)
+    error_answers c.tokens_are_one_list.ensures.exist_from input place c.in-Ok-Some.token
+    (state_of c.tokens.machine)
     (state_of c.accept.new.machine) c.tokens.collected c.accept.new.collected
     c.in-Err-accept.error invariant.progress next c.in-Err-accept.ensures
 

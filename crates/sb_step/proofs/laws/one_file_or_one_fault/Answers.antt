@@ -1,4 +1,4 @@
-use Rattle.sb_step.proofs.OneFileOrOneFault.{each_is_file_or_fault, files_are_unique, faults_are_unique, no_file_has_a_fault}
+use Rattle.sb_step.proofs.Texts.OneFileOrOneFault.{each_is_file_or_fault, files_are_unique, faults_are_unique, no_file_has_a_fault}
 use Rattle.sb_step.proofs.laws.one_file_or_one_fault.Goals as goal
 
 pub returns-clause-exist : goal.returns-clause-exist

@@ -1,7 +1,7 @@
-use Rattle.sb_step.proofs.ParametersExist.{each_instance_has_parameters}
-use Rattle.sb_step.proofs.ParametersOfAnInstance.{has_once}
-use Rattle.sb_step.proofs.ParametersAreUnique.{parameters_are_unique}
-use Rattle.sb_step.proofs.SaidIsParameter.{said_list}
+use Rattle.sb_step.proofs.ParameterLists.ParametersExist.{each_instance_has_parameters}
+use Rattle.sb_step.proofs.ParameterLists.ParametersOfAnInstance.{has_once}
+use Rattle.sb_step.proofs.ParameterLists.ParametersAreUnique.{parameters_are_unique}
+use Rattle.sb_step.proofs.ParameterLists.SaidIsParameter.{said_list}
 use Rattle.sb_step.proofs.laws.one_list_of_parameters.Goals as goal
 
 pub returns-clause-exist : goal.returns-clause-exist

@@ -1,7 +1,7 @@
 use Rattle.std.proofs.Common.{sym, subst}
 use Rattle.std.specs.Prelude.{nat_eq}
-use Rattle.sb_step.specs.ParamsAnswers.{IsParamsAnswer}
-use Rattle.sb_step.proofs.ParametersOfAnInstance.{instance_awaits, params_answered}
+use Rattle.sb_step.specs.Params.ParamsAnswers.{IsParamsAnswer}
+use Rattle.sb_step.proofs.ParameterLists.ParametersOfAnInstance.{instance_awaits, params_answered}
 use Rattle.sb_step.proofs.parameters.find.Goals as goal
 
 pub by_form-requires : goal.by_form-requires

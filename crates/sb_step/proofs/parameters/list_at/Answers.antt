@@ -1,8 +1,8 @@
 use Rattle.std.proofs.Common.{sym, subst}
 use Rattle.std.proofs.lemmas.Result.{IfOk-weaker}
 use Rattle.sb_step.specs.Grammar.{ParameterList}
-use Rattle.sb_step.specs.Readers.{Awaits, AreAhead}
-use Rattle.sb_step.proofs.ParametersOfAnInstance.{behind_parenthesis, list_said}
+use Rattle.sb_step.specs.Params.Readers.{Awaits, AreAhead}
+use Rattle.sb_step.proofs.ParameterLists.ParametersOfAnInstance.{behind_parenthesis, list_said}
 use Rattle.sb_step.proofs.parameters.list_at.Goals as goal
 
 pub list-requires-clause-awaits : goal.list-requires-clause-awaits

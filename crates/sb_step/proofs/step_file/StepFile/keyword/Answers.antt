@@ -1,6 +1,6 @@
 use Rattle.std.proofs.Common.{length, sym}
 use Rattle.std.specs.Prelude.{nat_eq}
-use Rattle.sb_step.proofs.RecordsLie.{records_lie, found_lies}
+use Rattle.sb_step.proofs.Records.RecordsLie.{records_lie, found_lies}
 use Rattle.sb_step.proofs.step_file.StepFile.keyword.Goals as goal
 
 pub keyword_at-requires : goal.keyword_at-requires

@@ -1,10 +1,10 @@
 use Rattle.std.proofs.Common.{◌≡◌, ◌↔◌, Some, length, sym, subst}
 use Rattle.std.specs.List.{AllByRecursion}
 use Rattle.std.specs.Option.{option_copied}
-use Rattle.sb_step.specs.Spans.{RecordLies}
-use Rattle.sb_step.specs.Schema.{IsSchema}
-use Rattle.sb_step.proofs.RecordsLie.{entities_lie}
-use Rattle.sb_step.proofs.SchemaIsRead.{only_found, entity_reads_on, found_exactly}
+use Rattle.sb_step.specs.Records.Spans.{RecordLies}
+use Rattle.sb_step.specs.Records.Schema.{IsSchema}
+use Rattle.sb_step.proofs.Records.RecordsLie.{entities_lie}
+use Rattle.sb_step.proofs.Records.SchemaIsRead.{only_found, entity_reads_on, found_exactly}
 use Rattle.sb_step.proofs.step_file.StepFile.read_schema.Goals as goal
 
 pub only_schema-requires : goal.only_schema-requires

@@ -1,5 +1,5 @@
 use Rattle.std.specs.Option.{option_copied}
-use Rattle.sb_step.proofs.SchemaIsRead.{none_exactly}
+use Rattle.sb_step.proofs.Records.SchemaIsRead.{none_exactly}
 use Rattle.sb_step.proofs.step_file.StepFile.schema.Goals as goal
 
 pub returns-clause-none : goal.returns-clause-none

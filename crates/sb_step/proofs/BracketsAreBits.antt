@@ -1,8 +1,0 @@
--- There are as many parentheses as bits.
-use Rattle.std.proofs.Common.{◌≡◌, ℕ, zero, suc, ◌/◌, length, refl, ap}
-use Rattle.sb_step.specs.Turns.{brackets_of}
-
--- the bits tell of so many
-pub length-brackets_of : (len bits : ℕ) → length (brackets_of len bits) ≡ len
-length-brackets_of zero bits = refl
-length-brackets_of (suc len) bits = ap suc (length-brackets_of len (bits / 2))

@@ -1,0 +1,172 @@
+-- What a reading of the tokens so far says of the input.
+use Rattle.std.proofs.Common.{◌≡◌, ℕ, List, [], ◌∷◌, ◌++◌, Option, Some, None, Err, refl, sym, ap, ◌∙◌, subst, append-nil}
+use Rattle.sb_lex.specs.declared.kinds.Token.{Token}
+use Rattle.sb_lex.specs.declared.kinds.BadToken.{BadToken}
+use Rattle.sb_lex.specs.Tokens.{IsNext, IsEnd, IsBadFrom, AreTokensFrom, AreTokens, TokensFollowEachPlace}
+use Rattle.sb_step.specs.declared.error.StepError.{StepError}
+use Rattle.sb_step.specs.declared.error.StepError.TheVariants as step_error
+use Rattle.sb_step.specs.declared.indexing.states.Event.{Event}
+use Rattle.sb_step.specs.declared.indexing.collected.Collected.{Collected}
+use Rattle.sb_step.specs.Lexemes.{lexeme_at, lexemes}
+use Rattle.sb_step.specs.Faults.{IsFile, IsFaultAt}
+use Rattle.sb_step.specs.Numbers.{numbers_of, AreApart, IsGreatest}
+use Rattle.sb_step.specs.IndexAnswers.{IsAnswer}
+use Rattle.sb_step.specs.Index.Turns.{State, next_turn, start, end_of, file_of, instances_of, Ran, run}
+use Rattle.sb_step.specs.Index.StoredInstances.{IsDoubled, NumbersAreStored}
+use Rattle.sb_step.specs.Index.Collects.{AreCollected}
+use Rattle.sb_step.specs.Index.Progress.{TokensTo, Progress, Accepted, Accepts, by_doubled, finished}
+use Rattle.sb_step.proofs.Texts.TextsEnd.{ends_text, runs_begin}
+use Rattle.sb_step.proofs.Texts.OneFileOrOneFault.{goes_on, stops, no_end, lexemes-more}
+
+-- the tokens up to a place, and those from there on, are the tokens
+to_all : (input : List ℕ) (from to : ℕ) (before after : List Token) (bad : Option BadToken)
+    → TokensTo input from before to → AreTokensFrom input to after bad
+    → AreTokensFrom input from (before ++ after) bad
+to_all input from to [] after bad so_far are =
+    subst (λ k. AreTokensFrom input k after bad) (sym so_far) are
+to_all input from to (t ∷ before) after bad so_far are =
+    (so_far.0, to_all input t.end to before after bad so_far.1 are)
+
+-- one token more
+to_more : (input : List ℕ) (from to : ℕ) (before : List Token) (t : Token)
+    → TokensTo input from before to → IsNext input to t
+    → TokensTo input from (before ++ t ∷ []) t.end
+to_more input from to [] t so_far next =
+    (subst (λ k. IsNext input k t) (sym so_far) next, refl)
+to_more input from to (u ∷ before) t so_far next =
+    (so_far.0, to_more input u.end to before t so_far.1 next)
+
+-- before the first token
+pub nothing_read : (input : List ℕ) (c : Collected) → AreCollected [] c → Progress input 0 start c
+nothing_read input c empty = record {
+  before = [];
+  events = [];
+  tokens = refl;
+  reads = refl;
+  collected = empty;
+}
+
+-- a token was accepted
+pub one_more : (input : List ℕ) (place : ℕ) (t : Token) (s u : State) (c d : Collected)
+    → Progress input place s c → IsNext input place t
+    → Accepted s u (lexeme_at input t) c d → Progress input t.end u d
+one_more input place t s u c d p next a = record {
+  before = p.before ++ t ∷ [];
+  events = p.events ++ a.event ∷ [];
+  tokens = to_more input 0 place p.before t p.tokens next;
+  reads = ap (λ l. run l start) (lexemes-more input p.before t)
+      ∙ goes_on (lexemes input p.before) (record { state = s; events = p.events })
+      (lexeme_at input t) (record { state = u; event = a.event }) p.reads a.turns;
+  collected = a.collects p.events p.collected;
+}
+
+-- a token was not
+pub fault_at_token : TokensFollowEachPlace
+    → (input : List ℕ) (place : ℕ) (t : Token) (s : State) (c : Collected)
+    → Progress input place s c → IsNext input place t → next_turn s (lexeme_at input t) ≡ None
+    → IsFaultAt input t.start
+fault_at_token follow input place t s c p next none =
+    let l = follow input t.end next.token.candidate.within in
+    let ran : Ran = record { state = s; events = p.events } in
+    record {
+      before = p.before;
+      after = t ∷ l.0;
+      bad = l.1;
+      are = to_all input 0 place p.before (t ∷ l.0) l.1 p.tokens (next, l.2);
+      at = refl;
+      begins = runs_begin (lexemes input p.before) ran p.reads;
+      refused = stops (lexemes input p.before) ran (lexeme_at input t) p.reads none;
+    }
+
+-- no token begins
+pub fault_at_bad : (input : List ℕ) (place bad : ℕ) (s : State) (c : Collected)
+    → Progress input place s c → IsBadFrom input place bad → IsFaultAt input bad
+fault_at_bad input place bad s c p is = record {
+  before = p.before;
+  after = [];
+  bad = Some (record { 0 = bad });
+  are = to_all input 0 place p.before [] (Some (record { 0 = bad })) p.tokens is;
+  at = refl;
+  begins = runs_begin (lexemes input p.before) (record { state = s; events = p.events }) p.reads;
+  refused = λ goes. goes;
+}
+
+-- the end of the input
+
+-- the file of what was found, whose instances are in the map only if their numbers are apart
+stored_answers : (input : List ℕ) (c : Collected) (events : List Event) (k : ℕ) (doubled : Option ℕ)
+    → c.instances.doubled ≡ doubled → AreCollected events c → IsFile input (file_of events k)
+    → IsAnswer input (by_doubled doubled (record {
+      input = input;
+      file = record {
+        header = c.header.items;
+        instances = c.instances.records.entries;
+        data_end = k;
+      };
+    }))
+stored_answers input c events k (Some n) was are is = record {
+  file = file_of events k;
+  is = is;
+  least = subst (λ d. IsDoubled d (instances_of events)) was are.instances.doubled;
+}
+stored_answers input c events k None was are is =
+    let apart = subst (λ d. IsDoubled d (instances_of events)) was are.instances.doubled in
+    let entries = are.instances.entries was in
+    record {
+      input_is = refl;
+      file = subst (IsFile input)
+          (λ i. record {
+            header = sym are.header i;
+            instances = sym entries i;
+            data_end = k;
+          }) is;
+      apart = subst AreApart (sym entries) apart;
+    }
+
+end_answers : (input : List ℕ) (place : ℕ) (s : State) (c : Collected) (end : Option ℕ)
+    → end_of s ≡ end → Progress input place s c → IsEnd input place
+    → IsAnswer input (finished input end c)
+end_answers input place s c None none p ends = record {
+  before = p.before;
+  after = [];
+  bad = None;
+  are = to_all input 0 place p.before [] None p.tokens ends;
+  at = refl;
+  begins = runs_begin (lexemes input p.before) (record { state = s; events = p.events }) p.reads;
+  refused = no_end (lexemes input p.before) (record { state = s; events = p.events }) p.reads none;
+}
+end_answers input place s c (Some k) ended p ends =
+    stored_answers input c p.events k c.instances.doubled refl p.collected (record {
+      tokens = p.before;
+      are = subst (λ ts. AreTokens input ts None) (append-nil p.before)
+          (to_all input 0 place p.before [] None p.tokens ends);
+      text = ends_text (lexemes input p.before) (record { state = s; events = p.events }) k
+          p.reads ended;
+    })
+
+-- the numbers are those of the map, as long as none was used twice
+pub numbers_at_end : (input : List ℕ) (place : ℕ) (s : State) (c : Collected)
+    → Progress input place s c → NumbersAreStored c.instances
+numbers_at_end input place s c p =
+    let kept = p.collected.instances in
+    record {
+      numbers = λ apart. kept.numbers ∙ sym (ap numbers_of (kept.entries apart));
+      greatest =
+          λ apart. subst (IsGreatest c.instances.greatest) (sym (kept.entries apart)) kept.greatest;
+    }
+
+-- what is answered there is so
+pub answer_at_end : (input : List ℕ) (place : ℕ) (s : State) (c : Collected)
+    → Progress input place s c → IsEnd input place
+    → IsAnswer input (finished input (end_of s) c)
+answer_at_end input place s c p ends = end_answers input place s c (end_of s) refl p ends
+
+-- what is answered where a token was not accepted
+pub error_answers : TokensFollowEachPlace
+    → (input : List ℕ) (place : ℕ) (t : Token) (s u : State) (c d : Collected)
+    (error : StepError) → Progress input place s c → IsNext input place t
+    → Accepts s u (lexeme_at input t) c d (Err error) → IsAnswer input (Err error)
+error_answers follow input place t s u c d (step_error.Syntax k) p next says =
+    subst (IsFaultAt input) (sym says.0) (fault_at_token follow input place t s c p next says.1)
+error_answers follow input place t s u c d (step_error.Duplicate n) p next says = absurd says
+error_answers follow input place t s u c d step_error.NoMemory p next says = tt

@@ -1,6 +1,0 @@
-use Rattle.std.proofs.Common.{length, sym, ap, ◌∙◌}
-use Rattle.sb_step.proofs.BracketsAreBits.{length-brackets_of}
-use Rattle.sb_step.proofs.lists.Brackets.len.Goals as goal
-
-pub returns : goal.returns
-returns c = sym (length-brackets_of c.self.inside.len c.self.inside.bits) ∙ ap length c.self.view_is

@@ -1,7 +1,0 @@
-use Rattle.sb_step.proofs.DoubledApostrophes.{one_byte_more}
-use Rattle.sb_step.proofs.values.undoubled.Goals as goal
-
-pub bytes-preserved : goal.bytes-preserved
-bytes-preserved c =
-    one_byte_more c.args.text.now c.bytes.single c.bytes.at c.bytes.invariant c.bytes-test.true
-    c.push.new.self c.written_len-at.result c.in_ok-push.ensures.ok c.written_len-at.ensures.value

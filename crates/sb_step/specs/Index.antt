@@ -1,0 +1,9 @@
+-- What the private functions of `index` promise.
+pub mod SectionMoves
+pub mod ListMoves
+pub mod Turns
+pub mod Machines
+pub mod Hashing
+pub mod StoredInstances
+pub mod Collects
+pub mod Progress

@@ -1,0 +1,57 @@
+-- How far a text was read, and what its reading answers.
+use Rattle.std.specs.Prelude.{◌≡◌, ℕ, List, [], ◌∷◌, ◌++◌, length, Option, Some, None, Result, Ok, Err}
+use Rattle.sb_lex.specs.declared.kinds.Token.{Token}
+use Rattle.sb_lex.specs.Tokens.{IsNext}
+use Rattle.sb_step.specs.declared.error.StepError.{StepError}
+use Rattle.sb_step.specs.declared.error.StepError.TheVariants as step_error
+use Rattle.sb_step.specs.declared.indexing.states.Event.{Event}
+use Rattle.sb_step.specs.declared.indexing.collected.Collected.{Collected}
+use Rattle.sb_step.specs.Lexemes.{Lexeme, lexemes}
+use Rattle.sb_step.specs.Indexed.{Indexed}
+use Rattle.sb_step.specs.Index.Turns.{State, next_turn, start, run}
+use Rattle.sb_step.specs.Index.Collects.{AreCollected}
+
+-- the tokens from one place to another, the last of which ends there
+abbrev pub TokensTo : List ℕ → ℕ → List Token → ℕ → Type 0
+TokensTo input from [] to = from ≡ to
+TokensTo input from (t ∷ tokens) to = IsNext input from t × TokensTo input t.end tokens to
+
+-- the tokens up to the place were read and led to the state, and what was found was collected
+pub record Progress (input : List ℕ) (place : ℕ) (s : State) (c : Collected) : Type 0 where
+  pub before : List Token
+  pub events : List Event
+  pub tokens : TokensTo input 0 before place
+  pub reads : run (lexemes input before) start ≡ Some (record { state = s; events = events })
+  pub collected : AreCollected events c
+
+-- a lexeme was accepted
+pub record Accepted (s t : State) (x : Lexeme) (c d : Collected) : Type 0 where
+  pub event : Event
+  pub turns : next_turn s x ≡ Some (record { state = t; event = event })
+  pub collects : (events : List Event) → AreCollected events c
+      → AreCollected (events ++ event ∷ []) d
+
+-- what the answer to a lexeme says
+abbrev pub Accepts : State → State → Lexeme → Collected → Collected → Result (Unit {0}) StepError
+    → Type 0
+Accepts s t x c d (Ok done) = Accepted s t x c d
+Accepts s t x c d (Err (step_error.Syntax place)) = (place ≡ x.token.start) × (next_turn s x ≡ None)
+Accepts s t x c d (Err (step_error.Duplicate n)) = ⊥
+Accepts s t x c d (Err step_error.NoMemory) = Unit {0}
+
+-- the answer at the end of a text, by its doubled number
+abbrev pub by_doubled : Option ℕ → Indexed → Result Indexed StepError
+by_doubled (Some n) indexed = Err (step_error.Duplicate n)
+by_doubled None indexed = Ok indexed
+
+-- the answer at the end of the input
+abbrev pub finished : List ℕ → Option ℕ → Collected → Result Indexed StepError
+finished input None c = Err (step_error.Syntax (length input))
+finished input (Some k) c = by_doubled c.instances.doubled (record {
+  input = input;
+  file = record {
+    header = c.header.items;
+    instances = c.instances.records.entries;
+    data_end = k;
+  };
+})
