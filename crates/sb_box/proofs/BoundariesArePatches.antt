@@ -6,8 +6,8 @@ use Rattle.std.specs.List.{AllByRecursion, list_any}
 use Rattle.std.proofs.lemmas.Bool.{eq-eqb}
 use Rattle.sb_model.specs.declared.boundary.Boundary.{Boundary}
 use Rattle.sb_model.specs.declared.face.FaceKind.{FaceKind}
-use Rattle.sb_model.specs.Spots.{Spot}
-use Rattle.sb_model.specs.Faces.{Surface, times_w}
+use Rattle.sb_fraction.specs.Spots.{Spot, times_w}
+use Rattle.sb_model.specs.Faces.{Surface}
 use Rattle.sb_model.specs.Patches.{is_same_kind, is_in_patch}
 use Rattle.sb_model.specs.Covers.{is_top_at}
 use Rattle.theory_lists.specs.Members.{Stands, AllOfTwo}

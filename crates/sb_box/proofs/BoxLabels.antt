@@ -8,12 +8,12 @@ use Rattle.theory_numbers.proofs.Signs.{test_less, test_not_less}
 use Rattle.sb_model.specs.declared.frame.Frame.{Frame}
 use Rattle.sb_model.specs.declared.label.Label.TheVariants as label
 use Rattle.sb_model.specs.declared.products.Space.{Space}
-use Rattle.sb_model.specs.Spots.{Spot}
-use Rattle.sb_model.specs.Plan.{is_in_plan}
+use Rattle.sb_fraction.specs.Spots.{Spot}
+use Rattle.theory_plans.specs.Inside.{is_in_plan}
 use Rattle.sb_model.specs.Solids.{is_in_solid}
 use Rattle.sb_model.specs.Building.{Building, building}
 use Rattle.sb_model.specs.Labels.{label_at, open_label}
-use Rattle.theory_models.specs.Rectangles.{rectangle}
+use Rattle.theory_plans.specs.Rectangles.{rectangle}
 use Rattle.sb_box.specs.declared.extent.Extent.{Extent}
 use Rattle.sb_box.specs.BoxModel.{prism_of, IsBoxModel}
 
@@ -46,7 +46,8 @@ besides_of m s = record { unit = m.unit; reach = m.reach; global_id = s.global_i
 pub is_box_model : (n : ℕ) (e : Extent) (m : Building) (is : IsBoxModel n e m)
     → m ≡ box_model (besides_of m is.space) n e
 is_box_model n e m is =
-    ap (λ level. building m.unit level m.reach m.spaces m.elements m.openings m.fillings) is.level
+    ap (λ z. building m.unit z m.reach m.spaces m.elements m.openings m.fillings)
+    is.ground_height
     ∙ ap (λ spaces. building m.unit (pos 0) m.reach spaces m.elements m.openings m.fillings)
     (is.spaces ∙ ap (λ s. s ∷ []) (whole is.space is.number is.prism))
     ∙ ap (λ es. building m.unit (pos 0) m.reach

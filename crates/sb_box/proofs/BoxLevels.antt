@@ -5,29 +5,27 @@ use Rattle.std.specs.Ordering.{int_eq}
 use Rattle.std.proofs.lemmas.Int.{ints, by_lt_z}
 use Rattle.std.proofs.lemmas.Bool.{and_from, and_left, and_right, and_parts, false≢true}
 use Rattle.std.proofs.lemmas.Bool.Decides.{Decides-int_eq}
-use Rattle.theory_numbers.specs.Arrows.{Arrow, cross}
-use Rattle.theory_numbers.specs.Rationals.{IsRational, IsBelow, rational}
+use Rattle.theory_numbers.specs.Arrows.{Arrow}
+use Rattle.theory_numbers.specs.Rationals.{IsBelow}
 use Rattle.theory_numbers.proofs.Signs.{less_from, test_less, test_not_less, test_at_most}
 use Rattle.theory_numbers.proofs.Signs.{test_not_at_most}
 use Rattle.theory_numbers.proofs.Shapes.{var, num, minus, plus, times, negated, equal}
 use Rattle.theory_numbers.proofs.Ring.{mul_comm}
-use Rattle.theory_numbers.proofs.Reduced.{whole_is_reduced}
-use Rattle.theory_cuttings.specs.Changes.{break_at}
 use Rattle.theory_numbers.proofs.Products.{positive_product, negative_product, weak_product}
 use Rattle.theory_numbers.proofs.Products.{weak_negative_product}
 use Rattle.theory_cuttings.specs.Passages.{ray_start}
 use Rattle.sb_model.specs.declared.face.FaceKind.TheVariants as kind
 use Rattle.sb_model.specs.declared.label.Label.{Label}
 use Rattle.sb_model.specs.declared.label.Label.TheVariants as label
-use Rattle.sb_model.specs.Spots.{Spot, IsSpot, vector, along}
-use Rattle.sb_model.specs.Plan.{is_in_plan}
+use Rattle.sb_fraction.specs.Spots.{Spot, IsSpot, vector, along, times_w}
+use Rattle.theory_plans.specs.Inside.{is_in_plan}
 use Rattle.sb_model.specs.Solids.{is_between_heights}
 use Rattle.sb_model.specs.Labels.{label_at, open_label}
-use Rattle.sb_model.specs.Faces.{bottom_of, top_of, times_w, is_in_plane, is_of_face, axis_x}
-use Rattle.sb_model.specs.Faces.{axis_y, axis_z}
-use Rattle.theory_models.specs.Rectangles.{rectangle, is_between_xs, is_between_ys}
-use Rattle.theory_models.proofs.InsideRectangle.{inside_rectangle}
-use Rattle.theory_models.proofs.PassagesOfRays.{LooksOut, one_passage, two_passages}
+use Rattle.sb_model.specs.Faces.{bottom_of, top_of, is_in_plane, is_of_face}
+use Rattle.sb_fraction.specs.Directions.{axis_x, axis_y, axis_z}
+use Rattle.theory_plans.specs.Rectangles.{rectangle, is_between_xs, is_between_ys}
+use Rattle.theory_plans.proofs.InsideRectangle.{inside_rectangle}
+use Rattle.theory_models.proofs.PassagesOfRays.{LooksOut, looks_out_throughout, looks_out_up_to}
 use Rattle.sb_box.specs.declared.extent.Extent.{Extent}
 use Rattle.sb_box.specs.BoxList.{above, below}
 use Rattle.sb_box.specs.BoxModel.{prism_of}
@@ -119,27 +117,6 @@ climbs_to c z w d n at = rw at (same c w d n)
         (times (num 1) (times (var n) (var w))))
         (times (var w) (plus (times (var c) (var d)) (var n))) (omega arith)
 
-before_depth : (c : ℤ) (u : Arrow) → IsBelow u (rational c (pos 1)) → u.y <ℤ (c *ℤ u.x)
-unfolding cross
-before_depth c u before = earlier c u.x u.y before
-  where
-    earlier : (c d n : ℤ) → pos 0 <ℤ ((d *ℤ c) -ℤ (n *ℤ pos 1)) → n <ℤ (c *ℤ d)
-    earlier c d n h = let e = mul_comm c d in omega (arith, ints)
-
-after_depth : (c : ℤ) (u : Arrow) → IsBelow (rational c (pos 1)) u → (c *ℤ u.x) <ℤ u.y
-unfolding cross
-after_depth c u after = later c u.x u.y after
-  where
-    later : (c d n : ℤ) → pos 0 <ℤ ((pos 1 *ℤ n) -ℤ (c *ℤ d)) → (c *ℤ d) <ℤ n
-    later c d n h = omega (arith, ints)
-
-depth_is_later : (c : ℤ) → pos 0 <ℤ c → IsBelow ray_start (rational c (pos 1))
-unfolding cross
-depth_is_later c h = later c h
-  where
-    later : (c : ℤ) → pos 0 <ℤ c → pos 0 <ℤ ((pos 1 *ℤ c) -ℤ (pos 0 *ℤ pos 1))
-    later c h = omega (arith, ints)
-
 at_most_zero : (c d : ℤ) → c ≤ℤ pos 0 → pos 0 <ℤ d → (c *ℤ d) ≤ℤ pos 0
 at_most_zero c d low deep =
     let h = weak_negative_product d c (omega (arith, ints)) low in let e =
@@ -148,23 +125,21 @@ at_most_zero c d low deep =
 at_least_zero : (c d : ℤ) → pos 0 ≤ℤ c → pos 0 <ℤ d → pos 0 ≤ℤ (c *ℤ d)
 at_least_zero c d low deep = weak_product c d low (omega (arith, ints))
 
--- a depth behind one above 0 is above 0
-later_still : (c : ℤ) (u : Arrow) → pos 0 <ℤ c → IsRational u → IsBelow (rational c (pos 1)) u
-    → IsBelow ray_start u
-unfolding cross
-later_still c u positive rational after =
-    later c u.x u.y (positive_product c u.x positive rational) after
-  where
-    later : (c d n : ℤ) → pos 0 <ℤ (c *ℤ d) → pos 0 <ℤ ((pos 1 *ℤ n) -ℤ (c *ℤ d))
-        → pos 0 <ℤ ((pos 1 *ℤ n) -ℤ (pos 0 *ℤ d))
-    later c d n product h = omega (arith, ints)
-
 abbrev is_earth_label : Label → Bool
 is_earth_label label.Earth = true
 is_earth_label _ = false
 
 void_is_not_earth : label.Void ≡ label.Earth → ⊥
 void_is_not_earth same = false≢true (ap is_earth_label same)
+
+-- a point that is not between the heights of the box has the label of the open
+label_off_heights : (k : Besides) (n : ℕ) (e : Extent) (q : Spot)
+    → is_between_heights e.z0 e.z1 q ≡ false
+    → label_at (box_model k n e) q ≡ open_label (pos 0) q
+label_off_heights k n e q off =
+    label_outside k n e q
+    (and_right (is_in_plan (rectangle e.x0 e.x1 e.y0 e.y1 ∷ []) q)
+    (is_between_heights e.z0 e.z1 q) off)
 
 -- ---- the ray down from Bottom
 
@@ -176,13 +151,11 @@ down_label : (k : Besides) (n : ℕ) (e : Extent) (p : Spot) → IsSpot p → p.
     → (u : Arrow) → IsBelow ray_start u
     → label_at (box_model k n e) (down p u) ≡ open_label (pos 0) (down p u)
 down_label k n e p positive at u after =
-    label_outside k n e (down p u)
-    (and_right (is_in_plan (rectangle e.x0 e.x1 e.y0 e.y1 ∷ []) (down p u))
-    (is_between_heights e.z0 e.z1 (down p u))
+    label_off_heights k n e (down p u)
     (and_left (int_lt (e.z0 *ℤ (down p u).w) (down p u).z)
     (int_lt (down p u).z (e.z1 *ℤ (down p u).w))
     (test_not_less (e.z0 *ℤ (down p u).w) (down p u).z
-    (falls e.z0 p.z p.w u.x u.y at positive (deep u after)))))
+    (falls e.z0 p.z p.w u.x u.y at positive (deep u after))))
 
 sunk : (c : ℤ) (p : Spot) (u : Arrow) → IsSpot p → p.z ≡ c *ℤ p.w → (c *ℤ u.x) <ℤ u.y
     → (down p u).z <ℤ pos 0
@@ -201,30 +174,20 @@ not_sunk c p u positive at higher =
 pub bottom_looks_out : (k : Besides) (n : ℕ) (e : Extent) (p : Spot) → IsSpot p → p.z ≡ e.z0 *ℤ p.w
     → LooksOut (box_model k n e) (bottom_of (prism_of e)) p (below e.z0)
 bottom_looks_out k n e p positive at =
+    let m = box_model k n e in
+    let f = bottom_of (prism_of e) in
     by_lt_z (pos 0) e.z0
-    (λ over. record {
-      first = label.Void;
-      rest = break_at (rational e.z0 (pos 1)) label.Earth ∷ [];
-      passages = two_passages (λ u. label_at (box_model k n e) (down p u)) label.Void label.Earth
-          (rational e.z0 (pos 1))
-          (whole_is_reduced e.z0) (depth_is_later e.z0 over) void_is_not_earth
-          (λ u rational after before. down_label k n e p positive at u after
-          ∙ above_is_void (down p u) (not_sunk e.z0 p u positive at (before_depth e.z0 u before)))
-          (λ u rational after. down_label k n e p positive at u
-          (later_still e.z0 u over rational after)
-          ∙ below_is_earth (down p u) (sunk e.z0 p u positive at (after_depth e.z0 u after)));
-      open_end = rw (test_not_at_most e.z0 (pos 0) over) refl;
-    })
-    (λ under. record {
-      first = label.Earth;
-      rest = [];
-      passages = one_passage (λ u. label_at (box_model k n e) (down p u)) label.Earth
-          (λ u rational after. down_label k n e p positive at u after
-          ∙ below_is_earth (down p u) (sunk e.z0 p u positive at
-          (let h = at_most_zero e.z0 u.x under rational in let d =
-          deep u after in omega (arith, ints))));
-      open_end = rw (test_at_most e.z0 (pos 0) under) refl;
-    })
+    (λ over. looks_out_up_to m f p label.Void label.Earth e.z0 (below e.z0)
+    (rw (test_not_at_most e.z0 (pos 0) over) refl) over void_is_not_earth
+    (λ u rational after before. down_label k n e p positive at u after
+    ∙ above_is_void (down p u) (not_sunk e.z0 p u positive at before))
+    (λ u rational after past. down_label k n e p positive at u after
+    ∙ below_is_earth (down p u) (sunk e.z0 p u positive at past)))
+    (λ under. looks_out_throughout m f p label.Earth (below e.z0)
+    (rw (test_at_most e.z0 (pos 0) under) refl)
+    (λ u rational after. down_label k n e p positive at u after
+    ∙ below_is_earth (down p u) (sunk e.z0 p u positive at
+    (let h = at_most_zero e.z0 u.x under rational in let d = deep u after in omega (arith, ints)))))
 
 -- ---- Top, and the ray up from it
 
@@ -254,12 +217,10 @@ up_label : (k : Besides) (n : ℕ) (e : Extent) (p : Spot) → IsSpot p → p.z 
     → (u : Arrow) → IsBelow ray_start u
     → label_at (box_model k n e) (up p u) ≡ open_label (pos 0) (up p u)
 up_label k n e p positive at u after =
-    label_outside k n e (up p u)
-    (and_right (is_in_plan (rectangle e.x0 e.x1 e.y0 e.y1 ∷ []) (up p u))
-    (is_between_heights e.z0 e.z1 (up p u))
+    label_off_heights k n e (up p u)
     (and_right (int_lt (e.z0 *ℤ (up p u).w) (up p u).z) (int_lt (up p u).z (e.z1 *ℤ (up p u).w))
     (test_not_less (up p u).z (e.z1 *ℤ (up p u).w)
-    (rises e.z1 p.z p.w u.x u.y at positive (deep u after)))))
+    (rises e.z1 p.z p.w u.x u.y at positive (deep u after))))
 
 not_raised : (c : ℤ) (p : Spot) (u : Arrow) → IsSpot p → p.z ≡ c *ℤ p.w
     → ((c *ℤ u.x) +ℤ u.y) <ℤ pos 0 → (up p u).z <ℤ pos 0
@@ -280,33 +241,21 @@ neg_mul c d = equal (times (negated (var c)) (var d)) (minus (num 0) (times (var
 pub top_looks_out : (k : Besides) (n : ℕ) (e : Extent) (p : Spot) → IsSpot p → p.z ≡ e.z1 *ℤ p.w
     → LooksOut (box_model k n e) (top_of (prism_of e)) p (above e.z1)
 top_looks_out k n e p positive at =
+    let m = box_model k n e in
+    let f = top_of (prism_of e) in
     by_lt_z e.z1 (pos 0)
-    (λ under.
-    let depth = neg_ℤ e.z1 in
-    let later : pos 0 <ℤ depth = omega (arith, ints) in
-    record {
-      first = label.Earth;
-      rest = break_at (rational depth (pos 1)) label.Void ∷ [];
-      passages = two_passages (λ u. label_at (box_model k n e) (up p u)) label.Earth label.Void
-          (rational depth (pos 1))
-          (whole_is_reduced depth) (depth_is_later depth later)
-          (λ same. void_is_not_earth (sym same))
-          (λ u rational after before. up_label k n e p positive at u after
-          ∙ below_is_earth (up p u) (not_raised e.z1 p u positive at
-          (let h = before_depth depth u before in let g = neg_mul e.z1 u.x in omega (arith, ints))))
-          (λ u rational after. up_label k n e p positive at u
-          (later_still depth u later rational after)
-          ∙ above_is_void (up p u) (raised e.z1 p u positive at
-          (let h = after_depth depth u after in let g = neg_mul e.z1 u.x in omega (arith, ints))));
-      open_end = rw (test_not_at_most (pos 0) e.z1 under) refl;
-    })
-    (λ over. record {
-      first = label.Void;
-      rest = [];
-      passages = one_passage (λ u. label_at (box_model k n e) (up p u)) label.Void
-          (λ u rational after. up_label k n e p positive at u after
-          ∙ above_is_void (up p u) (raised e.z1 p u positive at
-          (let h = at_least_zero e.z1 u.x over rational in let d =
-          deep u after in omega (arith, ints))));
-      open_end = rw (test_at_most (pos 0) e.z1 over) refl;
-    })
+    (λ under. looks_out_up_to m f p label.Earth label.Void (neg_ℤ e.z1) (above e.z1)
+    (rw (test_not_at_most (pos 0) e.z1 under) refl) (omega (arith, ints))
+    (λ same. void_is_not_earth (sym same))
+    (λ u rational after before. up_label k n e p positive at u after
+    ∙ below_is_earth (up p u) (not_raised e.z1 p u positive at
+    (let g = neg_mul e.z1 u.x in omega (arith, ints))))
+    (λ u rational after past. up_label k n e p positive at u after
+    ∙ above_is_void (up p u) (raised e.z1 p u positive at
+    (let g = neg_mul e.z1 u.x in omega (arith, ints)))))
+    (λ over. looks_out_throughout m f p label.Void (above e.z1)
+    (rw (test_at_most (pos 0) e.z1 over) refl)
+    (λ u rational after. up_label k n e p positive at u after
+    ∙ above_is_void (up p u) (raised e.z1 p u positive at
+    (let h = at_least_zero e.z1 u.x over rational in let d =
+    deep u after in omega (arith, ints)))))

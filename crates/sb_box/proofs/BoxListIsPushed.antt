@@ -73,40 +73,43 @@ patches_at x0 x1 y0 y1 z0 z1 =
 same_numbers : (x0 x1 y0 y1 z0 z1 : ℤ) (e : Extent)
     → x0 ≡ e.x0 → x1 ≡ e.x1 → y0 ≡ e.y0 → y1 ≡ e.y1 → z0 ≡ e.z0 → z1 ≡ e.z1
     → patches_at x0 x1 y0 y1 z0 z1 ≡ box_patches e
-same_numbers x0 x1 y0 y1 z0 z1 e ex0 ex1 ey0 ey1 ez0 ez1 =
-    ap (λ n. patches_at n x1 y0 y1 z0 z1) ex0 ∙ ap (λ n. patches_at e.x0 n y0 y1 z0 z1) ex1
-    ∙ ap (λ n. patches_at e.x0 e.x1 n y1 z0 z1) ey0
-    ∙ ap (λ n. patches_at e.x0 e.x1 e.y0 n z0 z1) ey1
-    ∙ ap (λ n. patches_at e.x0 e.x1 e.y0 e.y1 n z1) ez0
-    ∙ ap (λ n. patches_at e.x0 e.x1 e.y0 e.y1 e.z0 n) ez1
+same_numbers x0 x1 y0 y1 z0 z1 e left right front back foot head =
+    ap (λ n. patches_at n x1 y0 y1 z0 z1) left ∙ ap (λ n. patches_at e.x0 n y0 y1 z0 z1) right
+    ∙ ap (λ n. patches_at e.x0 e.x1 n y1 z0 z1) front
+    ∙ ap (λ n. patches_at e.x0 e.x1 e.y0 n z0 z1) back
+    ∙ ap (λ n. patches_at e.x0 e.x1 e.y0 e.y1 n z1) foot
+    ∙ ap (λ n. patches_at e.x0 e.x1 e.y0 e.y1 e.z0 n) head
 
 -- Bottom, Top and the four sides, pushed in this order, are the list of the box
 pub box_pushed : (space : ℕ) (e : Extent) (x0 x1 y0 y1 z0 z1 : ℤ)
     → x0 ≡ e.x0 → x1 ≡ e.x1 → y0 ≡ e.y0 → y1 ≡ e.y1 → z0 ≡ e.z0 → z1 ≡ e.z1
-    → (l0 l1 l2 l3 l4 l5 l6 : List Boundary) (bottom top : Boundary) (under over : End)
-    → l0 ≡ [] → l1 ≡ l0 ++ bottom ∷ [] → l2 ≡ l1 ++ top ∷ []
+    → (empty one two three four five list : List Boundary) (bottom top : Boundary)
+    (under over : End)
+    → empty ≡ [] → one ≡ empty ++ bottom ∷ [] → two ≡ one ++ top ∷ []
     → IsBoxBoundary space (box_patch kind.Bottom x0 x1 y0 y1 under) bottom → under ≡ below z0
     → IsBoxBoundary space (box_patch kind.Top x0 x1 y0 y1 over) top → over ≡ above z1
-    → Extends space (kind.Side 0) x0 x1 z0 z1 l2 l3 → Extends space (kind.Side 1) y0 y1 z0 z1 l3 l4
-    → Extends space (kind.Side 2) x0 x1 z0 z1 l4 l5 → Extends space (kind.Side 3) y0 y1 z0 z1 l5 l6
-    → IsBoxList space e l6
-box_pushed space e x0 x1 y0 y1 z0 z1 ex0 ex1 ey0 ey1 ez0 ez1 l0 l1 l2 l3 l4 l5 l6 bottom top under
-    over
-    none first second bottom_is under_is top_is over_is side0 side1 side2 side3 =
+    → Extends space (kind.Side 0) x0 x1 z0 z1 two three
+    → Extends space (kind.Side 1) y0 y1 z0 z1 three four
+    → Extends space (kind.Side 2) x0 x1 z0 z1 four five
+    → Extends space (kind.Side 3) y0 y1 z0 z1 five list
+    → IsBoxList space e list
+box_pushed space e x0 x1 y0 y1 z0 z1 left right front back foot head empty one two three four five
+    list bottom top under over
+    none bottom_pushed top_pushed bottom_is under_is top_is over_is first second third fourth =
     let low = box_patch kind.Bottom x0 x1 y0 y1 (below z0) in
     let high = box_patch kind.Top x0 x1 y0 y1 (above z1) in
-    let start : AreBoxBoundaries space [] l0 = rw none tt in
-    let one : AreBoxBoundaries space (low ∷ []) l1 =
-    pushed space [] l0 l1 low bottom start (rw under_is at bottom_is) first in
-    let two : AreBoxBoundaries space (low ∷ high ∷ []) l2 =
-    pushed space (low ∷ []) l1 l2 high top one (rw over_is at top_is) second in
-    let faces = low ∷ high ∷ [] in
+    let start : AreBoxBoundaries space [] empty = rw none tt in
+    let with_bottom : AreBoxBoundaries space (low ∷ []) one =
+    pushed space [] empty one low bottom start (rw under_is at bottom_is) bottom_pushed in
+    let with_top : AreBoxBoundaries space (low ∷ high ∷ []) two =
+    pushed space (low ∷ []) one two high top with_bottom (rw over_is at top_is) top_pushed in
+    let levels = low ∷ high ∷ [] in
     let a = side_patches (kind.Side 0) x0 x1 z0 z1 in
     let b = side_patches (kind.Side 1) y0 y1 z0 z1 in
     let c = side_patches (kind.Side 2) x0 x1 z0 z1 in
     let d = side_patches (kind.Side 3) y0 y1 z0 z1 in
-    let all = side3 (((faces ++ a) ++ b) ++ c)
-    (side2 ((faces ++ a) ++ b) (side1 (faces ++ a) (side0 faces two))) in
-    subst (λ (ps : List BoxPatch). AreBoxBoundaries space ps l6)
-    (joined faces a b c d ∙ same_numbers x0 x1 y0 y1 z0 z1 e ex0 ex1 ey0 ey1 ez0 ez1)
+    let all = fourth (((levels ++ a) ++ b) ++ c)
+    (third ((levels ++ a) ++ b) (second (levels ++ a) (first levels with_top))) in
+    subst (λ (ps : List BoxPatch). AreBoxBoundaries space ps list)
+    (joined levels a b c d ∙ same_numbers x0 x1 y0 y1 z0 z1 e left right front back foot head)
     all

@@ -7,7 +7,7 @@ use Rattle.std.proofs.lemmas.Int.{ints}
 use Rattle.theory_numbers.specs.Rationals.{IsSame}
 use Rattle.theory_numbers.proofs.Arrows.{cross-self}
 use Rattle.theory_numbers.proofs.Signs.{less_from}
-use Rattle.sb_fraction.specs.Ratio.{Ratio}
+use Rattle.theory_numbers.specs.Fractions.{Ratio, whole}
 use Rattle.theory_plane.specs.Sides.{LineSide, level, clearance_at}
 use Rattle.theory_plane.proofs.Clearance.{clearance-self}
 use Rattle.sb_model.specs.declared.boundary.Boundary.{Boundary}
@@ -17,13 +17,12 @@ use Rattle.sb_model.specs.declared.face.FaceKind.TheVariants as kind
 use Rattle.sb_model.specs.declared.products.Space.{Space}
 use Rattle.sb_model.specs.declared.walk.End.{End}
 use Rattle.sb_model.specs.declared.walk.Walk.{Walk}
-use Rattle.sb_model.specs.Spots.{Spot, IsSpot}
+use Rattle.sb_fraction.specs.Spots.{Spot, IsSpot, times_w}
 use Rattle.sb_model.specs.Building.{Building}
 use Rattle.sb_model.specs.Sides.{arrow_of, line_of}
-use Rattle.sb_model.specs.Corners.{whole}
-use Rattle.sb_model.specs.Faces.{Surface, surface_of, space_numbered, has_face, is_of_face, times_w}
+use Rattle.sb_model.specs.Faces.{Surface, surface_of, space_numbered, has_face, is_of_face}
 use Rattle.sb_model.specs.PlainPoints.{is_plain}
-use Rattle.sb_model.specs.Patches.{is_same_kind, is_in_patch, is_child_of, is_number}
+use Rattle.sb_model.specs.Patches.{is_same_kind, is_in_patch, is_child_of, is_id}
 use Rattle.theory_lists.specs.Members.{Stands}
 use Rattle.sb_model.specs.Places.{boundary_at}
 use Rattle.sb_model.specs.Covers.{Covers, CoversFace, is_top_at}
@@ -45,9 +44,8 @@ use Rattle.sb_box.proofs.BoxPatchesArePatches.{x_is_interval, y_is_interval, z_i
 use Rattle.sb_box.proofs.BoxPatchesArePatches.{interval_less}
 use Rattle.sb_box.proofs.BoxLabels.{Besides, besides_of, box_space, box_model, is_box_model}
 use Rattle.sb_box.proofs.BoxSides.{IsRising, first_side, second_side, third_side, fourth_side}
-use Rattle.sb_box.proofs.PatchesOfBoxFaces.{all_by_kind, first_parts, second_parts, third_parts}
-use Rattle.sb_box.proofs.PatchesOfBoxFaces.{fourth_parts, first_once, second_once, third_once}
-use Rattle.sb_box.proofs.PatchesOfBoxFaces.{fourth_once, Precedes, each_two, IsOpen, all_open}
+use Rattle.sb_box.proofs.PatchesOfBoxFaces.{all_by_kind, side_parts, side_once, Precedes, each_two}
+use Rattle.sb_box.proofs.PatchesOfBoxFaces.{IsOpen, all_open}
 use Rattle.sb_box.proofs.FacesOfBoxes.{FaceFacts, lies_in, bottom_facts, top_facts, side_facts}
 use Rattle.sb_box.proofs.BoundariesArePatches.{all_lift, one_lift, two_lift, HasPatch, has_patch}
 use Rattle.sb_box.proofs.BoundariesArePatches.{in_patch_is, top_is}
@@ -72,19 +70,23 @@ face_facts s n e rising kind.Top f is =
 face_facts s n e rising (kind.Side zero) f is =
     let side = first_side s n e rising in
     subst (FaceFacts s n e (kind.Side 0)) (sym side.surface ∙ same_Some _ f is)
-    (side_facts s n e 0 _ _ e.x0 e.x1 side refl (first_parts e rising.z) (first_once e))
+    (side_facts s n e 0 _ _ e.x0 e.x1 side refl
+    (side_parts e 0 rising.z) (side_once e 0 (omega arith)))
 face_facts s n e rising (kind.Side (suc zero)) f is =
     let side = second_side s n e rising in
     subst (FaceFacts s n e (kind.Side 1)) (sym side.surface ∙ same_Some _ f is)
-    (side_facts s n e 1 _ _ e.y0 e.y1 side refl (second_parts e rising.z) (second_once e))
+    (side_facts s n e 1 _ _ e.y0 e.y1 side refl
+    (side_parts e 1 rising.z) (side_once e 1 (omega arith)))
 face_facts s n e rising (kind.Side (suc (suc zero))) f is =
     let side = third_side s n e rising in
     subst (FaceFacts s n e (kind.Side 2)) (sym side.surface ∙ same_Some _ f is)
-    (side_facts s n e 2 _ _ e.x0 e.x1 side refl (third_parts e rising.z) (third_once e))
+    (side_facts s n e 2 _ _ e.x0 e.x1 side refl
+    (side_parts e 2 rising.z) (side_once e 2 (omega arith)))
 face_facts s n e rising (kind.Side (suc (suc (suc zero)))) f is =
     let side = fourth_side s n e rising in
     subst (FaceFacts s n e (kind.Side 3)) (sym side.surface ∙ same_Some _ f is)
-    (side_facts s n e 3 _ _ e.y0 e.y1 side refl (fourth_parts e rising.z) (fourth_once e))
+    (side_facts s n e 3 _ _ e.y0 e.y1 side refl
+    (side_parts e 3 rising.z) (side_once e 3 (omega arith)))
 face_facts s n e rising (kind.Side (suc (suc (suc (suc zero))))) f is =
     absurd (none-some f is)
 face_facts s n e rising (kind.Side (suc (suc (suc (suc (suc k)))))) f is =
@@ -212,7 +214,7 @@ no_children n e list are f id p =
     none_where (is_child_at f id p) list
     (all_lift n (λ q. Unit {0}) (λ b. is_child_at f id p b ≡ false)
     (λ q b is one. and_left (is_child_of id b) (is_in_patch f b.patch p)
-    (ap (is_number id) is.parent))
+    (ap (is_id id) is.parent))
     (box_patches e) list are (all_by_kind (λ k. Unit {0}) e tt tt tt tt tt tt))
 
 box_opens : (s : Besides) (n : ℕ) (e : Extent) (list : List Boundary) → IsBoxList n e list

@@ -1,56 +1,48 @@
 -- A patch between whole abscissae and level lines or heights is a patch.
 use Rattle.std.proofs.Common.{◌≡◌, ◌≤◌, ◌<ℤ◌, ◌+ℤ◌, ◌-ℤ◌, ◌*ℤ◌, ℕ, ℤ, pos, true, false, refl, arith}
-use Rattle.std.proofs.Common.{IsTrue, ap, ◌*◌, ◌^◌}
+use Rattle.std.proofs.Common.{IsTrue, ap}
 use Rattle.std.specs.Ordering.{int_eq}
 use Rattle.std.specs.Prelude.{unsigned_abs, int_lt, int_le, nat_le}
 use Rattle.std.proofs.lemmas.Int.{ints, to_z-of_z}
 use Rattle.std.proofs.lemmas.Bool.{and_from, and_parts, and_left, not_from_false, leb-true, le-leb}
-use Rattle.std.proofs.lemmas.Bool.{eq-eqb}
-use Rattle.std.proofs.Math.Nat.{mod-one}
-use Rattle.sb_fraction.specs.Divisors.{greatest_divisor, divisor_within, are_coprime}
-use Rattle.sb_fraction.specs.Plane.{is_direction}
-use Rattle.sb_fraction.specs.Ratio.{Ratio}
-use Rattle.sb_model.specs.Corners.{whole}
+use Rattle.theory_numbers.specs.Divisors.{greatest_divisor, divisor_within}
+use Rattle.sb_fraction.specs.Bounds.{greatest_num}
+use Rattle.sb_fraction.specs.Plane.{is_direction, is_coordinate, greatest_coordinate}
+use Rattle.theory_numbers.specs.Fractions.{Ratio, whole}
 use Rattle.theory_numbers.specs.Arrows.{cross, dot}
 use Rattle.theory_numbers.specs.Rationals.{is_below}
 use Rattle.theory_plane.specs.Sides.{level, clearance, clearance_at}
 use Rattle.theory_plane.specs.Regions.{is_region}
 use Rattle.sb_model.specs.Sides.{is_abscissa_size, is_side_of, is_patch, line_of, arrow_of}
-use Rattle.sb_model.specs.Sides.{region_between}
+use Rattle.sb_model.specs.Sides.{region_between, greatest_offset, greatest_abscissa_num}
 use Rattle.sb_model.specs.declared.face.FaceKind.{FaceKind}
 use Rattle.sb_model.specs.declared.face.FaceKind.TheVariants as kind
 use Rattle.sb_model.specs.declared.face.Side.{Side}
 use Rattle.sb_model.specs.declared.face.Side.TheVariants.{OnLine, Height}
-use Rattle.sb_model.proofs.StraightCorners.{reduced-one}
+use Rattle.theory_numbers.proofs.GreatestDivisor.{coprime-one}
+use Rattle.theory_numbers.proofs.LowestTerms.{reduced-one}
 use Rattle.theory_numbers.proofs.Signs.{test_less, less_from}
 use Rattle.sb_box.specs.declared.extent.Extent.{Extent}
 use Rattle.sb_box.specs.BoxList.{is_cut, IsLevelFace}
-use Rattle.sb_box.specs.Extents.{is_interval, farthest}
+use Rattle.sb_box.specs.Extents.{is_interval}
 
 -- the direction of level lines
 pub east_is_direction : IsTrue (is_direction (pos 1) (pos 0))
 unfolding greatest_divisor divisor_within
 east_is_direction = refl
 
-divisor_of_one : (n : ℕ) → greatest_divisor n 1 ≡ 1
-unfolding greatest_divisor divisor_within
-divisor_of_one n = ap (divisor_within 1 1) (mod-one n)
-
--- every number is coprime with 1
-pub coprime_with_one : (n : ℕ) → are_coprime n 1 ≡ true
-coprime_with_one n = eq-eqb _ _ (divisor_of_one n)
-
 at_most_trans : (n a b : ℕ) → nat_le n a ≡ true → a ≤ b → nat_le n b ≡ true
 at_most_trans n a b left right = le-leb n b (omega (arith, leb-true n a left))
 
 -- a coordinate in range is an abscissa
-pub whole_is_abscissa : (x : ℤ) → nat_le (unsigned_abs x) farthest ≡ true
+pub whole_is_abscissa : (x : ℤ) → is_coordinate x ≡ true
     → is_abscissa_size (whole x) ≡ true
 whole_is_abscissa x near =
     and_from _ _
-    (and_from _ _ (and_from _ _ refl (coprime_with_one (unsigned_abs x)))
-    (and_from _ _ (at_most_trans _ farthest (10 ^ 32) near (omega arith)) refl))
-    (and_from _ _ (at_most_trans _ farthest (2 * 10 ^ 24) near (omega arith)) refl)
+    (and_from _ _ (and_from _ _ refl (coprime-one (unsigned_abs x)))
+    (and_from _ _ (at_most_trans _ greatest_coordinate greatest_num near (omega arith)) refl))
+    (and_from _ _ (at_most_trans _ greatest_coordinate greatest_abscissa_num near (omega arith))
+    refl)
 
 -- the order of whole numbers is that of their fractions
 pub whole_is_less : (x y : ℤ) → int_lt x y ≡ true
@@ -98,12 +90,12 @@ interval_less low high h = (and_parts _ _ (and_parts _ _ h).0).0
 
 -- its lower end is in range
 pub interval_low : (low high : ℤ) → IsTrue (is_interval low high)
-    → nat_le (unsigned_abs low) farthest ≡ true
+    → is_coordinate low ≡ true
 interval_low low high h = (and_parts _ _ (and_parts _ _ h).0).1
 
 -- its upper end is in range
 pub interval_high : (low high : ℤ) → IsTrue (is_interval low high)
-    → nat_le (unsigned_abs high) farthest ≡ true
+    → is_coordinate high ≡ true
 interval_high low high h = (and_parts _ _ h).1
 
 -- between two sides of this kind that are a lower and a higher level line stands a patch
@@ -160,9 +152,9 @@ upper_part_is_interval low high h cut =
     and_from _ _ (and_from _ _ (and_parts _ _ cut).1 refl) (interval_high low high h)
 
 -- the line (1, 0) at an offset in range is a side of a level face
-pub level_is_side : (v : ℤ) → IsTrue (nat_le (unsigned_abs v) farthest)
-    → nat_le (unsigned_abs v) (10 ^ 12) ≡ true
-level_is_side v near = at_most_trans _ farthest (10 ^ 12) near (omega arith)
+pub level_is_side : (v : ℤ) → IsTrue (is_coordinate v)
+    → nat_le (unsigned_abs v) greatest_offset ≡ true
+level_is_side v near = at_most_trans _ greatest_coordinate greatest_offset near (omega arith)
 
 -- a side of Bottom is one of Top
 pub side_of_level_face : (face : FaceKind) (side : Side) → IsLevelFace face

@@ -1,6 +1,6 @@
 -- The sides of a box: which points lie on them, and that their rays run outside.
 use Rattle.std.proofs.Common.{◌≡◌, refl, ◌∙◌, arith, ℕ, ℤ, pos, negsuc, ◌+ℤ◌, ◌-ℤ◌, ◌*ℤ◌, ◌<ℤ◌}
-use Rattle.std.proofs.Common.{◌≤ℤ◌, true, false, ◌||◌, [], ◌∷◌, int_lt}
+use Rattle.std.proofs.Common.{◌≤ℤ◌, Bool, true, false, ◌||◌, [], ◌∷◌, int_lt}
 use Rattle.std.specs.List.{list_any}
 use Rattle.std.proofs.lemmas.Int.{ints, by_lt_z}
 use Rattle.std.proofs.lemmas.Bool.{and_left, and_right, or_parts}
@@ -12,16 +12,21 @@ use Rattle.theory_numbers.proofs.Shapes.{var, num, minus, plus, times, negated, 
 use Rattle.theory_numbers.proofs.Products.{positive_product, scale_less}
 use Rattle.theory_numbers.proofs.Ring.{mul_comm}
 use Rattle.theory_cuttings.specs.Passages.{ray_start}
-use Rattle.sb_model.specs.Spots.{Spot, IsSpot, Vector, vector, along, reading}
-use Rattle.sb_model.specs.Plan.{Edge, edge, is_on, is_in_plan}
-use Rattle.sb_model.specs.PlanEdges.{is_abscissa, plan_edges, ends_over, cross_over}
-use Rattle.sb_model.specs.Faces.{Surface, side_over, times_w, is_in_plane, axis_x, axis_y, axis_z}
-use Rattle.theory_models.specs.Rectangles.{corner, rectangle, is_between_xs, is_between_ys}
-use Rattle.theory_models.proofs.InsideRectangle.{inside_rectangle}
-use Rattle.theory_models.proofs.EdgesAlongAxes.{IsHeaded, headed_east, headed_west, headed_north}
-use Rattle.theory_models.proofs.EdgesAlongAxes.{headed_south, AreAbout, about_rising, about_turned}
-use Rattle.theory_models.proofs.EdgesAlongAxes.{about_between, on_level, level_on, on_upright, upright_on}
-use Rattle.theory_models.proofs.EdgesAlongAxes.{no_end_along_x, no_end_along_y}
+use Rattle.sb_fraction.specs.Spots.{Spot, IsSpot, Vector, vector, along, reading, times_w}
+use Rattle.theory_plans.specs.Inside.{is_in_plan}
+use Rattle.sb_fraction.specs.Edges.{Edge, edge, is_on}
+use Rattle.sb_model.specs.PlanEdges.{is_abscissa, plan_edges}
+use Rattle.sb_fraction.specs.Crossings.{ends_over, cross_over}
+use Rattle.sb_model.specs.Faces.{Surface, side_over, is_in_plane}
+use Rattle.sb_fraction.specs.Directions.{axis_x, axis_y, axis_z}
+use Rattle.theory_plans.specs.Rectangles.{corner, rectangle, is_between_xs, is_between_ys}
+use Rattle.theory_plans.proofs.InsideRectangle.{inside_rectangle}
+use Rattle.theory_plans.proofs.DirectionsAlongAxes.{IsHeaded, headed_east, headed_west}
+use Rattle.theory_plans.proofs.DirectionsAlongAxes.{headed_north, headed_south}
+use Rattle.theory_plans.proofs.OnEdgesAlongAxes.{AreAbout, about_rising, about_turned}
+use Rattle.theory_plans.proofs.OnEdgesAlongAxes.{about_between, on_edge_along_x, edge_along_x_on}
+use Rattle.theory_plans.proofs.OnEdgesAlongAxes.{on_edge_along_y, edge_along_y_on, no_end_along_x}
+use Rattle.theory_plans.proofs.OnEdgesAlongAxes.{no_end_along_y}
 use Rattle.sb_box.specs.declared.extent.Extent.{Extent}
 use Rattle.sb_box.proofs.BoxLabels.{Besides, box_model}
 
@@ -61,8 +66,9 @@ surface_with e d n = record {
   position = (e.a.x *ℤ n.x) +ℤ (e.a.y *ℤ n.y);
 }
 
-surface_is : (e : Edge) (d n : Vector) → IsHeaded e d n → side_over e ≡ surface_with e d n
-surface_is e d n h = rw (h.direction_is, h.normal_is) refl
+surface_is : (e : Edge) (b : Bool) (d n : Vector) → IsHeaded e b d n
+    → side_over e ≡ surface_with e d n
+surface_is e b d n h = rw (h.direction_is, h.normal_is) refl
 
 -- ---- readings
 
@@ -289,20 +295,21 @@ pub first_side : (k : Besides) (n : ℕ) (e : Extent) → IsRising e
     (surface_with (edge (corner e.x0 e.y0) (corner e.x1 e.y0)) axis_x
     (vector (pos 0) (negsuc 0) (pos 0))) e.x0 e.x1
 first_side k n e rising = record {
-  surface = surface_is _ _ _ (headed_east e.x0 e.x1 e.y0 rising.x);
+  surface = surface_is _ _ _ _ (headed_east e.x0 e.x1 e.y0 rising.x);
   up_is = refl;
   within = λ p positive on none.
       within_xs k n e rising p positive
-      (on_level e.x0 e.x1 e.y0 p positive (not_equal e.x0 e.x1 rising.x) on).1 none;
+      (on_edge_along_x e.x0 e.x1 e.y0 p positive (not_equal e.x0 e.x1 rising.x) on).1 none;
   on_edge = λ p plane left right.
-      level_on e.x0 e.x1 e.y0 p (in_south p.x p.y p.z p.w e.x0 e.y0 ((Decides-int_eq _ _).0 plane))
+      edge_along_x_on e.x0 e.x1 e.y0 p
+      (in_south p.x p.y p.z p.w e.x0 e.y0 ((Decides-int_eq _ _).0 plane))
       (about_between (e.x0 *ℤ p.w) (e.x1 *ℤ p.w) p.x (rw (reads_x p) at left)
       (rw (reads_x p) at right));
   outside = λ p positive on u rational after.
       low_y e rising (along p (vector (pos 0) (negsuc 0) (pos 0)) u)
       (ray_ahead p.w u.x positive rational)
       (falls e.y0 p.y p.w u.x u.y
-      (on_level e.x0 e.x1 e.y0 p positive (not_equal e.x0 e.x1 rising.x) on).0 positive
+      (on_edge_along_x e.x0 e.x1 e.y0 p positive (not_equal e.x0 e.x1 rising.x) on).0 positive
       (deep u after));
   ahead = λ p positive u rational. ray_ahead p.w u.x positive rational;
   same_height = λ p u. level_ray p.z u.x u.y p.w;
@@ -314,20 +321,21 @@ pub second_side : (k : Besides) (n : ℕ) (e : Extent) → IsRising e
     (surface_with (edge (corner e.x1 e.y0) (corner e.x1 e.y1)) axis_y
     (vector (pos 1) (pos 0) (pos 0))) e.y0 e.y1
 second_side k n e rising = record {
-  surface = surface_is _ _ _ (headed_north e.x1 e.y0 e.y1 rising.y);
+  surface = surface_is _ _ _ _ (headed_north e.x1 e.y0 e.y1 rising.y);
   up_is = refl;
   within = λ p positive on none.
       within_ys k n e rising p positive
-      (on_upright e.x1 e.y0 e.y1 p positive (not_equal e.y0 e.y1 rising.y) on).1 none;
+      (on_edge_along_y e.x1 e.y0 e.y1 p positive (not_equal e.y0 e.y1 rising.y) on).1 none;
   on_edge = λ p plane left right.
-      upright_on e.x1 e.y0 e.y1 p (in_east p.x p.y p.z p.w e.x1 e.y0 ((Decides-int_eq _ _).0 plane))
+      edge_along_y_on e.x1 e.y0 e.y1 p
+      (in_east p.x p.y p.z p.w e.x1 e.y0 ((Decides-int_eq _ _).0 plane))
       (about_between (e.y0 *ℤ p.w) (e.y1 *ℤ p.w) p.y (rw (reads_y p) at left)
       (rw (reads_y p) at right));
   outside = λ p positive on u rational after.
       high_x e rising (along p (vector (pos 1) (pos 0) (pos 0)) u)
       (ray_ahead p.w u.x positive rational)
       (rises e.x1 p.x p.w u.x u.y
-      (on_upright e.x1 e.y0 e.y1 p positive (not_equal e.y0 e.y1 rising.y) on).0 positive
+      (on_edge_along_y e.x1 e.y0 e.y1 p positive (not_equal e.y0 e.y1 rising.y) on).0 positive
       (deep u after));
   ahead = λ p positive u rational. ray_ahead p.w u.x positive rational;
   same_height = λ p u. level_ray p.z u.x u.y p.w;
@@ -339,14 +347,15 @@ pub third_side : (k : Besides) (n : ℕ) (e : Extent) → IsRising e
     (surface_with (edge (corner e.x1 e.y1) (corner e.x0 e.y1)) axis_x
     (vector (pos 0) (pos 1) (pos 0))) e.x0 e.x1
 third_side k n e rising = record {
-  surface = surface_is _ _ _ (headed_west e.x1 e.x0 e.y1 rising.x);
+  surface = surface_is _ _ _ _ (headed_west e.x1 e.x0 e.y1 rising.x);
   up_is = refl;
   within = λ p positive on none.
       within_xs k n e rising p positive
       (about_turned (e.x1 *ℤ p.w) (e.x0 *ℤ p.w) p.x
-      (on_level e.x1 e.x0 e.y1 p positive (not_equal_back e.x0 e.x1 rising.x) on).1) none;
+      (on_edge_along_x e.x1 e.x0 e.y1 p positive (not_equal_back e.x0 e.x1 rising.x) on).1) none;
   on_edge = λ p plane left right.
-      level_on e.x1 e.x0 e.y1 p (in_north p.x p.y p.z p.w e.x1 e.y1 ((Decides-int_eq _ _).0 plane))
+      edge_along_x_on e.x1 e.x0 e.y1 p
+      (in_north p.x p.y p.z p.w e.x1 e.y1 ((Decides-int_eq _ _).0 plane))
       (about_turned (e.x0 *ℤ p.w) (e.x1 *ℤ p.w) p.x
       (about_between (e.x0 *ℤ p.w) (e.x1 *ℤ p.w) p.x (rw (reads_x p) at left)
       (rw (reads_x p) at right)));
@@ -354,7 +363,7 @@ third_side k n e rising = record {
       high_y e rising (along p (vector (pos 0) (pos 1) (pos 0)) u)
       (ray_ahead p.w u.x positive rational)
       (rises e.y1 p.y p.w u.x u.y
-      (on_level e.x1 e.x0 e.y1 p positive (not_equal_back e.x0 e.x1 rising.x) on).0 positive
+      (on_edge_along_x e.x1 e.x0 e.y1 p positive (not_equal_back e.x0 e.x1 rising.x) on).0 positive
       (deep u after));
   ahead = λ p positive u rational. ray_ahead p.w u.x positive rational;
   same_height = λ p u. level_ray p.z u.x u.y p.w;
@@ -366,14 +375,15 @@ pub fourth_side : (k : Besides) (n : ℕ) (e : Extent) → IsRising e
     (surface_with (edge (corner e.x0 e.y1) (corner e.x0 e.y0)) axis_y
     (vector (negsuc 0) (pos 0) (pos 0))) e.y0 e.y1
 fourth_side k n e rising = record {
-  surface = surface_is _ _ _ (headed_south e.x0 e.y1 e.y0 rising.y);
+  surface = surface_is _ _ _ _ (headed_south e.x0 e.y1 e.y0 rising.y);
   up_is = refl;
   within = λ p positive on none.
       within_ys k n e rising p positive
       (about_turned (e.y1 *ℤ p.w) (e.y0 *ℤ p.w) p.y
-      (on_upright e.x0 e.y1 e.y0 p positive (not_equal_back e.y0 e.y1 rising.y) on).1) none;
+      (on_edge_along_y e.x0 e.y1 e.y0 p positive (not_equal_back e.y0 e.y1 rising.y) on).1) none;
   on_edge = λ p plane left right.
-      upright_on e.x0 e.y1 e.y0 p (in_west p.x p.y p.z p.w e.x0 e.y1 ((Decides-int_eq _ _).0 plane))
+      edge_along_y_on e.x0 e.y1 e.y0 p
+      (in_west p.x p.y p.z p.w e.x0 e.y1 ((Decides-int_eq _ _).0 plane))
       (about_turned (e.y0 *ℤ p.w) (e.y1 *ℤ p.w) p.y
       (about_between (e.y0 *ℤ p.w) (e.y1 *ℤ p.w) p.y (rw (reads_y p) at left)
       (rw (reads_y p) at right)));
@@ -381,7 +391,7 @@ fourth_side k n e rising = record {
       low_x e rising (along p (vector (negsuc 0) (pos 0) (pos 0)) u)
       (ray_ahead p.w u.x positive rational)
       (falls e.x0 p.x p.w u.x u.y
-      (on_upright e.x0 e.y1 e.y0 p positive (not_equal_back e.y0 e.y1 rising.y) on).0 positive
+      (on_edge_along_y e.x0 e.y1 e.y0 p positive (not_equal_back e.y0 e.y1 rising.y) on).0 positive
       (deep u after));
   ahead = λ p positive u rational. ray_ahead p.w u.x positive rational;
   same_height = λ p u. level_ray p.z u.x u.y p.w;

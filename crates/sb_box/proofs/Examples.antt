@@ -63,5 +63,5 @@ there_are_models s n e = record {
   elements = refl;
   openings = refl;
   fillings = refl;
-  level = refl;
+  ground_height = refl;
 }

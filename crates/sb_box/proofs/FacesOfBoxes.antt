@@ -1,7 +1,7 @@
 -- What holds of each face of a box: a plain point lies in one patch of it and looks out at the
 -- patch's end, and the points of a patch are points of the face.
 use Rattle.std.proofs.Common.{◌≡◌, refl, sym, ap, ◌∙◌, arith, ℕ, ℤ, pos, ◌*ℤ◌, ◌<ℤ◌, ◌≤ℤ◌, Bool}
-use Rattle.std.proofs.Common.{true, false, not, ◌&&◌, [], int_lt, subst, ⊎_elim, Option, Some}
+use Rattle.std.proofs.Common.{true, false, not, ◌&&◌, int_lt, subst, ⊎_elim, Option, Some}
 use Rattle.std.specs.List.{AllByRecursion}
 use Rattle.std.proofs.lemmas.Int.{ints}
 use Rattle.std.proofs.lemmas.Bool.{and_from, and_parts, true≢false, false≢true}
@@ -17,20 +17,21 @@ use Rattle.sb_model.specs.declared.face.FaceKind.TheVariants as kind
 use Rattle.sb_model.specs.declared.label.Label.TheVariants as label
 use Rattle.sb_model.specs.declared.walk.End.{End}
 use Rattle.sb_model.specs.declared.walk.End.TheVariants as end
-use Rattle.sb_model.specs.Spots.{Spot, Vector, IsSpot, along, reading}
-use Rattle.sb_model.specs.Plan.{Edge, is_on}
+use Rattle.sb_fraction.specs.Spots.{Spot, Vector, IsSpot, along, reading, times_w}
+use Rattle.sb_fraction.specs.Edges.{Edge, is_on}
 use Rattle.sb_model.specs.Solids.{is_between_heights}
 use Rattle.sb_model.specs.PlanEdges.{is_abscissa}
 use Rattle.sb_model.specs.PlainPoints.{is_plain, is_off_cuts, is_off_side_cuts, is_at_height}
 use Rattle.sb_model.specs.PlainPoints.{is_at_ground}
 use Rattle.sb_model.specs.Labels.{label_at, open_label}
-use Rattle.sb_model.specs.Faces.{Surface, side_over, direction_of, times_w, is_in_plane, is_of_face}
-use Rattle.sb_model.specs.Faces.{is_of_side, edge_numbered, bottom_of, top_of, axis_z}
+use Rattle.sb_model.specs.Faces.{Surface, side_over, is_in_plane, is_of_face, is_of_side}
+use Rattle.sb_model.specs.Faces.{edge_numbered, bottom_of, top_of}
+use Rattle.sb_fraction.specs.Directions.{direction_of, axis_z}
 use Rattle.sb_model.specs.Patches.{is_same_kind}
 use Rattle.theory_lists.specs.OneOf.{ExactlyOne}
 use Rattle.theory_models.proofs.PatchesBetweenLevels.{is_in_window}
 use Rattle.theory_lists.proofs.Members.{all_follow}
-use Rattle.theory_models.proofs.PassagesOfRays.{LooksOut, one_passage}
+use Rattle.theory_models.proofs.PassagesOfRays.{LooksOut, looks_out_throughout}
 use Rattle.sb_box.specs.declared.extent.Extent.{Extent}
 use Rattle.sb_box.specs.BoxList.{BoxPatch, box_patches, box_patch, above, below}
 use Rattle.sb_box.specs.BoxModel.{prism_of}
@@ -47,8 +48,8 @@ use Rattle.sb_box.proofs.PatchesOfBoxFaces.{bottom_alone, top_alone}
 abbrev pub lies_in : FaceKind → Surface → Spot → BoxPatch → Bool
 lies_in k f p = patch_test k (times_w p f.across) (times_w p f.up) p.w
 
--- what is shown of each face: a plain point lies in one patch, a point of the plane in a patch is of
--- the face, and a plain point of a patch looks out at its end
+-- what is shown of each face: a plain point lies in one patch, a point of the plane in a patch is
+-- of the face, and a plain point of a patch looks out at its end
 pub record FaceFacts (s : Besides) (n : ℕ) (e : Extent) (k : FaceKind) (f : Surface) : Type 0 where
   pub once : (p : Spot) → IsSpot p → is_plain (box_model s n e) (prism_of e) k p ≡ true
       → ExactlyOne (lies_in k f p) (box_patches e)
@@ -226,30 +227,22 @@ side_label s n e side f low high is p positive on u rational after =
 side_in_earth : (s : Besides) (n : ℕ) (e : Extent) (side : Edge) (f : Surface) (low high : ℤ)
     → IsBoxSide s n e side f low high → (p : Spot) → IsSpot p → is_on p side ≡ true → p.z <ℤ pos 0
     → LooksOut (box_model s n e) f p end.Earth
-side_in_earth s n e side f low high is p positive on under = record {
-  first = label.Earth;
-  rest = [];
-  passages = one_passage (λ u. label_at (box_model s n e) (along p f.normal u)) label.Earth
-      (λ u rational after. side_label s n e side f low high is p positive on u rational after
-      ∙ below_is_earth (along p f.normal u)
-      (rw (is.same_height p u)
-      (let h = negative_product u.x p.z rational under in let g =
-      mul_comm u.x p.z in omega (arith, ints))));
-  open_end = refl;
-}
+side_in_earth s n e side f low high is p positive on under =
+    looks_out_throughout (box_model s n e) f p label.Earth end.Earth refl
+    (λ u rational after. side_label s n e side f low high is p positive on u rational after
+    ∙ below_is_earth (along p f.normal u)
+    (rw (is.same_height p u)
+    (let h = negative_product u.x p.z rational under in let g =
+    mul_comm u.x p.z in omega (arith, ints))))
 
 side_in_air : (s : Besides) (n : ℕ) (e : Extent) (side : Edge) (f : Surface) (low high : ℤ)
     → IsBoxSide s n e side f low high → (p : Spot) → IsSpot p → is_on p side ≡ true → pos 0 ≤ℤ p.z
     → LooksOut (box_model s n e) f p end.Outside
-side_in_air s n e side f low high is p positive on over = record {
-  first = label.Void;
-  rest = [];
-  passages = one_passage (λ u. label_at (box_model s n e) (along p f.normal u)) label.Void
-      (λ u rational after. side_label s n e side f low high is p positive on u rational after
-      ∙ above_is_void (along p f.normal u)
-      (rw (is.same_height p u) (weak_product p.z u.x over (omega (arith, ints)))));
-  open_end = refl;
-}
+side_in_air s n e side f low high is p positive on over =
+    looks_out_throughout (box_model s n e) f p label.Void end.Outside refl
+    (λ u rational after. side_label s n e side f low high is p positive on u rational after
+    ∙ above_is_void (along p f.normal u)
+    (rw (is.same_height p u) (weak_product p.z u.x over (omega (arith, ints)))))
 
 part_looks_out : (s : Besides) (n : ℕ) (e : Extent) (side : Edge) (f : Surface) (low high : ℤ)
     → IsBoxSide s n e side f low high → (p : Spot) → IsSpot p → is_on p side ≡ true

@@ -2,11 +2,11 @@
 -- them.
 use Rattle.std.proofs.Common.{◌≡◌, refl, sym, ap, ◌∙◌, arith, ℕ, ℤ, pos, ◌*ℤ◌, ◌<ℤ◌, ◌≤ℤ◌, Bool}
 use Rattle.std.proofs.Common.{true, false, ◌&&◌, List, [], ◌∷◌, ◌++◌, int_lt, int_le, ◌⊎◌, inl, inr}
-use Rattle.std.proofs.Common.{⊎_elim, ◌<◌, ◌+◌, if◌then◌else◌}
+use Rattle.std.proofs.Common.{⊎_elim, zero, suc, ◌<◌, ◌≤◌, ◌+◌, ◌==◌, subst, if◌then◌else◌}
 use Rattle.std.specs.List.{AllByRecursion, list_any}
 use Rattle.std.proofs.lemmas.Int.{ints, by_lt_z}
 use Rattle.std.proofs.lemmas.Bool.{and_from, and_parts, and_left, and_right, or_from, false≢true}
-use Rattle.std.proofs.lemmas.Bool.{eqb-true}
+use Rattle.std.proofs.lemmas.Bool.{eqb-true, eq-eqb, ne_eqb, cases_lt}
 use Rattle.theory_numbers.proofs.Signs.{test_less, test_not_less, test_at_most, test_not_at_most}
 use Rattle.theory_numbers.proofs.Signs.{less_from}
 use Rattle.sb_model.specs.declared.face.FaceKind.{FaceKind}
@@ -19,9 +19,8 @@ use Rattle.theory_lists.specs.Members.{AllOfTwo}
 use Rattle.theory_lists.specs.OneOf.{ExactlyOne}
 use Rattle.theory_models.proofs.PatchesBetweenLevels.{is_in_window}
 use Rattle.theory_lists.proofs.Blocks.{none-append, none_where, first_alone, one_behind}
-use Rattle.theory_lists.proofs.Blocks.{one_in_first, one_in_second, all-append}
+use Rattle.theory_lists.proofs.Blocks.{one_in_first, one_in_second, all-append, two-append}
 use Rattle.theory_lists.proofs.Members.{all_follow}
-use Rattle.theory_lists.proofs.Blocks.{two-append}
 use Rattle.sb_box.specs.declared.extent.Extent.{Extent}
 use Rattle.sb_box.specs.BoxList.{BoxPatch, box_patch, box_patches, side_patches, is_cut, below}
 use Rattle.sb_box.specs.BoxList.{above}
@@ -122,39 +121,31 @@ meets_whole face low high z0 z1 not_cut =
     ))
     (λ over. inr (rw (test_at_most (pos 0) z0 over) refl, over))
 
+part_between : (face : FaceKind) (low high z0 z1 lower upper : ℤ) (met : End) → z0 ≤ℤ lower
+    → upper ≤ℤ z1 → MeetsBySide (box_patch face low high lower upper met)
+    → IsPart face low high z0 z1 (box_patch face low high lower upper met)
+part_between face low high z0 z1 lower upper met from to meets = record {
+  kind_is = refl;
+  low_is = refl;
+  high_is = refl;
+  from_bottom = from;
+  to_top = to;
+  meets = meets;
+}
+
 -- the patches of a side are its parts
 pub side_is_parts : (face : FaceKind) (low high z0 z1 : ℤ) → z0 <ℤ z1
     → AllByRecursion (IsPart face low high z0 z1) (side_patches face low high z0 z1)
 side_is_parts face low high z0 z1 rising =
     all_of_side (IsPart face low high z0 z1) face low high z0 z1
     (λ cut. let signs = cut_tells z0 z1 cut in (
-      record {
-        kind_is = refl;
-        low_is = refl;
-        high_is = refl;
-        from_bottom = omega (arith, ints);
-        to_top = omega (arith, ints);
-        meets = inl (refl, omega (arith, ints));
-      },
-      record {
-        kind_is = refl;
-        low_is = refl;
-        high_is = refl;
-        from_bottom = omega (arith, ints);
-        to_top = omega (arith, ints);
-        meets = inr (refl, omega (arith, ints));
-      },
+      part_between face low high z0 z1 z0 (pos 0) end.Earth (omega (arith, ints))
+          (omega (arith, ints)) (inl (refl, omega (arith, ints))),
+      part_between face low high z0 z1 (pos 0) z1 end.Outside (omega (arith, ints))
+          (omega (arith, ints)) (inr (refl, omega (arith, ints))),
     ))
-    (λ not_cut. record {
-      kind_is = refl;
-      low_is = refl;
-      high_is = refl;
-      from_bottom =
-          omega (arith, ints);
-      to_top = omega (arith, ints);
-      meets =
-          meets_whole face low high z0 z1 not_cut;
-    })
+    (λ not_cut. part_between face low high z0 z1 z0 z1 (above z0) (omega (arith, ints))
+    (omega (arith, ints)) (meets_whole face low high z0 z1 not_cut))
 
 -- ---- each inner point of a side off the ground lies in one part
 
@@ -196,7 +187,37 @@ none_of_side k face low high z0 z1 u v w other =
     (all_of_side (λ p. patch_test k u v w p ≡ false) face low high z0 z1
     (λ cut. (and_left _ _ other, and_left _ _ other)) (λ not_cut. and_left _ _ other))
 
--- ---- the whole list by blocks
+-- ---- the sides one behind the other
+
+-- from where side i lies along its edge: in x where it runs along x, else in y
+abbrev pub from_of : Extent → ℕ → ℤ
+from_of e zero = e.x0
+from_of e (suc zero) = e.y0
+from_of e (suc (suc zero)) = e.x0
+from_of e (suc (suc (suc i))) = e.y0
+
+-- and to where
+abbrev pub to_of : Extent → ℕ → ℤ
+to_of e zero = e.x1
+to_of e (suc zero) = e.y1
+to_of e (suc (suc zero)) = e.x1
+to_of e (suc (suc (suc i))) = e.y1
+
+-- the patches of side i
+abbrev side : Extent → ℕ → List BoxPatch
+side e i = side_patches (kind.Side i) (from_of e i) (to_of e i) e.z0 e.z1
+
+-- those of side i and of so many more behind it
+abbrev sides : Extent → ℕ → ℕ → List BoxPatch
+sides e i zero = side e i
+sides e i (suc more) = side e i ++ sides e (suc i) more
+
+all_of_sides : (P : BoxPatch → Type 0) (e : Extent) (i more : ℕ) → i + more < 4
+    → ((j : ℕ) → j < 4 → AllByRecursion P (side e j)) → AllByRecursion P (sides e i more)
+all_of_sides P e i zero room each = each i (omega arith)
+all_of_sides P e i (suc more) room each =
+    all-append P (side e i) (sides e (suc i) more) (each i (omega arith))
+    (all_of_sides P e (suc i) more (omega arith) each)
 
 abbrev bottom : Extent → BoxPatch
 bottom e = box_patch kind.Bottom e.x0 e.x1 e.y0 e.y1 (below e.z0)
@@ -204,48 +225,28 @@ bottom e = box_patch kind.Bottom e.x0 e.x1 e.y0 e.y1 (below e.z0)
 abbrev top : Extent → BoxPatch
 top e = box_patch kind.Top e.x0 e.x1 e.y0 e.y1 (above e.z1)
 
-abbrev side_0 : Extent → List BoxPatch
-side_0 e = side_patches (kind.Side 0) e.x0 e.x1 e.z0 e.z1
-
-abbrev side_1 : Extent → List BoxPatch
-side_1 e = side_patches (kind.Side 1) e.y0 e.y1 e.z0 e.z1
-
-abbrev side_2 : Extent → List BoxPatch
-side_2 e = side_patches (kind.Side 2) e.x0 e.x1 e.z0 e.z1
-
-abbrev side_3 : Extent → List BoxPatch
-side_3 e = side_patches (kind.Side 3) e.y0 e.y1 e.z0 e.z1
-
--- what holds of each block holds of the list
+-- what holds of Bottom, Top and each side holds of the list
 pub all_of_box : (P : BoxPatch → Type 0) (e : Extent) → P (bottom e) → P (top e)
-    → AllByRecursion P (side_0 e)
-    → AllByRecursion P (side_1 e) → AllByRecursion P (side_2 e) → AllByRecursion P (side_3 e)
-    → AllByRecursion P (box_patches e)
-all_of_box P e b t s0 s1 s2 s3 = (
-  b,
-  (
-    t,
-    all-append P (side_0 e) (side_1 e ++ (side_2 e ++ side_3 e)) s0
-        (all-append P (side_1 e) (side_2 e ++ side_3 e) s1
-        (all-append P (side_2 e) (side_3 e) s2 s3)),
-  ),
-)
+    → ((j : ℕ) → j < 4 → AllByRecursion P (side e j)) → AllByRecursion P (box_patches e)
+all_of_box P e of_bottom of_top each =
+    (of_bottom, (of_top, all_of_sides P e 0 3 (omega arith) each))
 
 -- a fact of every kind of face
 pub all_by_kind : (Q : FaceKind → Type 0) (e : Extent) → Q kind.Bottom → Q kind.Top
     → Q (kind.Side 0)
     → Q (kind.Side 1) → Q (kind.Side 2) → Q (kind.Side 3)
     → AllByRecursion (λ p. Q p.kind) (box_patches e)
-all_by_kind Q e b t s0 s1 s2 s3 =
-    all_of_box (λ p. Q p.kind) e b t
-    (all_of_side (λ p. Q p.kind) (kind.Side 0) e.x0 e.x1 e.z0 e.z1 (λ cut. (s0, s0))
-    (λ not_cut. s0))
-    (all_of_side (λ p. Q p.kind) (kind.Side 1) e.y0 e.y1 e.z0 e.z1 (λ cut. (s1, s1))
-    (λ not_cut. s1))
-    (all_of_side (λ p. Q p.kind) (kind.Side 2) e.x0 e.x1 e.z0 e.z1 (λ cut. (s2, s2))
-    (λ not_cut. s2))
-    (all_of_side (λ p. Q p.kind) (kind.Side 3) e.y0 e.y1 e.z0 e.z1 (λ cut. (s3, s3))
-    (λ not_cut. s3))
+all_by_kind Q e of_bottom of_top first second third fourth =
+    all_of_box (λ p. Q p.kind) e of_bottom of_top
+    (λ j within. all_of_side (λ p. Q p.kind) (kind.Side j) (from_of e j) (to_of e j) e.z0 e.z1
+    (λ cut. (of_side j within, of_side j within)) (λ not_cut. of_side j within))
+  where
+    of_side : (j : ℕ) → j < 4 → Q (kind.Side j)
+    of_side zero within = first
+    of_side (suc zero) within = second
+    of_side (suc (suc zero)) within = third
+    of_side (suc (suc (suc zero))) within = fourth
+    of_side (suc (suc (suc (suc j)))) within = absurd (omega arith)
 
 -- a fact of the patches of this face
 abbrev pub OnFace : FaceKind → (BoxPatch → Type 0) → BoxPatch → Type 0
@@ -262,95 +263,63 @@ other_side k face Q low high z0 z1 other =
     all_of_side (OnFace k Q) face low high z0 z1
     (λ cut. (other_kind k Q _ other, other_kind k Q _ other)) (λ not_cut. other_kind k Q _ other)
 
-own_side : (k : FaceKind) (low high z0 z1 : ℤ) → z0 <ℤ z1
-    → AllByRecursion (OnFace k (IsPart k low high z0 z1)) (side_patches k low high z0 z1)
-own_side k low high z0 z1 rising =
-    all_follow {P = IsPart k low high z0 z1} {Q = OnFace k (IsPart k low high z0 z1)} (λ p part same. part)
-    (side_patches k low high z0 z1) (side_is_parts k low high z0 z1 rising)
+-- so with a side, be it this face or another
+own_or_other : (k face : FaceKind) (Q : BoxPatch → Type 0) (low high z0 z1 : ℤ) (b : Bool)
+    → is_same_kind face k ≡ b
+    → (is_same_kind face k ≡ true → AllByRecursion Q (side_patches face low high z0 z1))
+    → AllByRecursion (OnFace k Q) (side_patches face low high z0 z1)
+own_or_other k face Q low high z0 z1 true same own =
+    all_follow {P = Q} {Q = OnFace k Q} (λ p part it. part) (side_patches face low high z0 z1)
+    (own same)
+own_or_other k face Q low high z0 z1 false other own = other_side k face Q low high z0 z1 other
 
 -- the one patch of Bottom
 pub bottom_alone : (e : Extent)
     → AllByRecursion (OnFace kind.Bottom (λ p. p ≡ bottom e)) (box_patches e)
 bottom_alone e =
-    let k = kind.Bottom in
     let Q : BoxPatch → Type 0 = λ p. p ≡ bottom e in
-    all_of_box (OnFace k Q) e (λ same. refl) (other_kind k Q (top e) refl)
-    (other_side k (kind.Side 0) Q e.x0 e.x1 e.z0 e.z1 refl)
-    (other_side k (kind.Side 1) Q e.y0 e.y1 e.z0 e.z1 refl)
-    (other_side k (kind.Side 2) Q e.x0 e.x1 e.z0 e.z1 refl)
-    (other_side k (kind.Side 3) Q e.y0 e.y1 e.z0 e.z1 refl)
+    all_of_box (OnFace kind.Bottom Q) e (λ same. refl) (other_kind kind.Bottom Q (top e) refl)
+    (λ j within. other_side kind.Bottom (kind.Side j) Q (from_of e j) (to_of e j) e.z0 e.z1 refl)
 
 -- the one patch of Top
 pub top_alone : (e : Extent) → AllByRecursion (OnFace kind.Top (λ p. p ≡ top e)) (box_patches e)
 top_alone e =
-    let k = kind.Top in
     let Q : BoxPatch → Type 0 = λ p. p ≡ top e in
-    all_of_box (OnFace k Q) e (other_kind k Q (bottom e) refl) (λ same. refl)
-    (other_side k (kind.Side 0) Q e.x0 e.x1 e.z0 e.z1 refl)
-    (other_side k (kind.Side 1) Q e.y0 e.y1 e.z0 e.z1 refl)
-    (other_side k (kind.Side 2) Q e.x0 e.x1 e.z0 e.z1 refl)
-    (other_side k (kind.Side 3) Q e.y0 e.y1 e.z0 e.z1 refl)
+    all_of_box (OnFace kind.Top Q) e (other_kind kind.Top Q (bottom e) refl) (λ same. refl)
+    (λ j within. other_side kind.Top (kind.Side j) Q (from_of e j) (to_of e j) e.z0 e.z1 refl)
 
 -- all patches of this side are its parts
 abbrev pub HasParts : Extent → FaceKind → ℤ → ℤ → Type 0
 HasParts e k low high = AllByRecursion (OnFace k (IsPart k low high e.z0 e.z1)) (box_patches e)
 
--- along x at the least y
-pub first_parts : (e : Extent) → e.z0 <ℤ e.z1 → HasParts e (kind.Side 0) e.x0 e.x1
-first_parts e rising =
-    let k = kind.Side 0 in
-    let Q = IsPart k e.x0 e.x1 e.z0 e.z1 in
-    all_of_box (OnFace k Q) e (other_kind k Q (bottom e) refl) (other_kind k Q (top e) refl)
-    (own_side k e.x0 e.x1 e.z0 e.z1 rising) (other_side k (kind.Side 1) Q e.y0 e.y1 e.z0 e.z1 refl)
-    (other_side k (kind.Side 2) Q e.x0 e.x1 e.z0 e.z1 refl)
-    (other_side k (kind.Side 3) Q e.y0 e.y1 e.z0 e.z1 refl)
+-- a part of a side
+abbrev IsPartOf : Extent → ℕ → BoxPatch → Type 0
+IsPartOf e i = IsPart (kind.Side i) (from_of e i) (to_of e i) e.z0 e.z1
 
--- along y at the greatest x
-pub second_parts : (e : Extent) → e.z0 <ℤ e.z1 → HasParts e (kind.Side 1) e.y0 e.y1
-second_parts e rising =
-    let k = kind.Side 1 in
-    let Q = IsPart k e.y0 e.y1 e.z0 e.z1 in
-    all_of_box (OnFace k Q) e (other_kind k Q (bottom e) refl) (other_kind k Q (top e) refl)
-    (other_side k (kind.Side 0) Q e.x0 e.x1 e.z0 e.z1 refl) (own_side k e.y0 e.y1 e.z0 e.z1 rising)
-    (other_side k (kind.Side 2) Q e.x0 e.x1 e.z0 e.z1 refl)
-    (other_side k (kind.Side 3) Q e.y0 e.y1 e.z0 e.z1 refl)
-
--- along x at the greatest y
-pub third_parts : (e : Extent) → e.z0 <ℤ e.z1 → HasParts e (kind.Side 2) e.x0 e.x1
-third_parts e rising =
-    let k = kind.Side 2 in
-    let Q = IsPart k e.x0 e.x1 e.z0 e.z1 in
-    all_of_box (OnFace k Q) e (other_kind k Q (bottom e) refl) (other_kind k Q (top e) refl)
-    (other_side k (kind.Side 0) Q e.x0 e.x1 e.z0 e.z1 refl)
-    (other_side k (kind.Side 1) Q e.y0 e.y1 e.z0 e.z1 refl)
-    (own_side k e.x0 e.x1 e.z0 e.z1 rising) (other_side k (kind.Side 3) Q e.y0 e.y1 e.z0 e.z1 refl)
-
--- along y at the least x
-pub fourth_parts : (e : Extent) → e.z0 <ℤ e.z1 → HasParts e (kind.Side 3) e.y0 e.y1
-fourth_parts e rising =
-    let k = kind.Side 3 in
-    let Q = IsPart k e.y0 e.y1 e.z0 e.z1 in
-    all_of_box (OnFace k Q) e (other_kind k Q (bottom e) refl) (other_kind k Q (top e) refl)
-    (other_side k (kind.Side 0) Q e.x0 e.x1 e.z0 e.z1 refl)
-    (other_side k (kind.Side 1) Q e.y0 e.y1 e.z0 e.z1 refl)
-    (other_side k (kind.Side 2) Q e.x0 e.x1 e.z0 e.z1 refl) (own_side k e.y0 e.y1 e.z0 e.z1 rising)
+-- they are so of each side
+pub side_parts : (e : Extent) (i : ℕ) → e.z0 <ℤ e.z1
+    → HasParts e (kind.Side i) (from_of e i) (to_of e i)
+side_parts e i rising =
+    let k = kind.Side i in
+    all_of_box (OnFace k (IsPartOf e i)) e (other_kind k (IsPartOf e i) (bottom e) refl)
+    (other_kind k (IsPartOf e i) (top e) refl)
+    (λ j within. own_or_other k (kind.Side j) (IsPartOf e i) (from_of e j) (to_of e j) e.z0 e.z1
+    (j == i) refl
+    (λ same. subst (λ n. AllByRecursion (IsPartOf e n) (side e j)) (eqb-true j i same)
+    (side_is_parts (kind.Side j) (from_of e j) (to_of e j) e.z0 e.z1 rising)))
 
 -- ---- exactly one
 
--- no patch of a side stands on another face
-no_side : (e : Extent) (k : FaceKind) (u v w : ℤ) → is_same_kind (kind.Side 0) k ≡ false
-    → is_same_kind (kind.Side 1) k ≡ false
-    → is_same_kind (kind.Side 2) k ≡ false → is_same_kind (kind.Side 3) k ≡ false
-    → list_any (patch_test k u v w) (side_0 e ++ (side_1 e ++ (side_2 e ++ side_3 e))) ≡ false
-no_side e k u v w n0 n1 n2 n3 =
-    let test = patch_test k u v w in
-    none-append test (side_0 e) (side_1 e ++ (side_2 e ++ side_3 e))
-    (none_of_side k (kind.Side 0) e.x0 e.x1 e.z0 e.z1 u v w n0)
-    (none-append test (side_1 e) (side_2 e ++ side_3 e)
-    (none_of_side k (kind.Side 1) e.y0 e.y1 e.z0 e.z1 u v w n1)
-    (none-append test (side_2 e) (side_3 e)
-    (none_of_side k (kind.Side 2) e.x0 e.x1 e.z0 e.z1 u v w n2)
-    (none_of_side k (kind.Side 3) e.y0 e.y1 e.z0 e.z1 u v w n3)))
+-- no patch of these sides stands on another face
+none_of_sides : (e : Extent) (k : FaceKind) (i more : ℕ) (u v w : ℤ)
+    → ((j : ℕ) → i ≤ j → is_same_kind (kind.Side j) k ≡ false)
+    → list_any (patch_test k u v w) (sides e i more) ≡ false
+none_of_sides e k i zero u v w other =
+    none_of_side k (kind.Side i) (from_of e i) (to_of e i) e.z0 e.z1 u v w (other i (omega arith))
+none_of_sides e k i (suc more) u v w other =
+    none-append (patch_test k u v w) (side e i) (sides e (suc i) more)
+    (none_of_side k (kind.Side i) (from_of e i) (to_of e i) e.z0 e.z1 u v w (other i (omega arith)))
+    (none_of_sides e k (suc i) more u v w (λ j later. other j (omega arith)))
 
 -- the point lies over the box in plan
 pub record IsOver (e : Extent) (u v w : ℤ) : Type 0 where
@@ -363,22 +332,18 @@ pub record IsOver (e : Extent) (u v w : ℤ) : Type 0 where
 pub bottom_once : (e : Extent) (u v w : ℤ) → IsOver e u v w
     → ExactlyOne (patch_test kind.Bottom u v w) (box_patches e)
 bottom_once e u v w over =
-    let k = kind.Bottom in
-    first_alone (patch_test k u v w) (bottom e)
-    (top e ∷ (side_0 e ++ (side_1 e ++ (side_2 e ++ side_3 e))))
+    first_alone (patch_test kind.Bottom u v w) (bottom e) (top e ∷ sides e 0 3)
     (window_in e.x0 e.x1 e.y0 e.y1 u v w over.left over.right over.low over.high)
-    (no_side e k u v w refl refl refl refl)
+    (none_of_sides e kind.Bottom 0 3 u v w (λ j later. refl))
 
 -- and in one of Top
 pub top_once : (e : Extent) (u v w : ℤ) → IsOver e u v w
     → ExactlyOne (patch_test kind.Top u v w) (box_patches e)
 top_once e u v w over =
-    let k = kind.Top in
-    one_behind (patch_test k u v w) (bottom e)
-    (top e ∷ (side_0 e ++ (side_1 e ++ (side_2 e ++ side_3 e)))) refl
-    (first_alone (patch_test k u v w) (top e) (side_0 e ++ (side_1 e ++ (side_2 e ++ side_3 e)))
+    one_behind (patch_test kind.Top u v w) (bottom e) (top e ∷ sides e 0 3) refl
+    (first_alone (patch_test kind.Top u v w) (top e) (sides e 0 3)
     (window_in e.x0 e.x1 e.y0 e.y1 u v w over.left over.right over.low over.high)
-    (no_side e k u v w refl refl refl refl))
+    (none_of_sides e kind.Top 0 3 u v w (λ j later. refl)))
 
 -- the point lies on a side between its ends and heights, and not at the ground
 pub record IsBesides (low high z0 z1 u v w : ℤ) : Type 0 where
@@ -388,75 +353,58 @@ pub record IsBesides (low high z0 z1 u v w : ℤ) : Type 0 where
   pub upper : v <ℤ (z1 *ℤ w)
   pub off : v ≡ pos 0 → ⊥
 
-behind_levels : (e : Extent) (k : ℕ) (u v w : ℤ)
-    → ExactlyOne (patch_test (kind.Side k) u v w) (side_0 e ++ (side_1 e ++ (side_2 e ++ side_3 e)))
-    → ExactlyOne (patch_test (kind.Side k) u v w) (box_patches e)
-behind_levels e k u v w one =
-    let rest = side_0 e ++ (side_1 e ++ (side_2 e ++ side_3 e)) in
-    one_behind (patch_test (kind.Side k) u v w) (bottom e) (top e ∷ rest) refl
-    (one_behind (patch_test (kind.Side k) u v w) (top e) rest refl one)
-
 -- each point of this side that is not at the ground lies in exactly one of its patches
 abbrev pub HasOne : Extent → FaceKind → ℤ → ℤ → Type 0
 HasOne e k low high =
     (u v w : ℤ) → IsBesides low high e.z0 e.z1 u v w
     → ExactlyOne (patch_test k u v w) (box_patches e)
 
--- along x at the least y
-pub first_once : (e : Extent) → HasOne e (kind.Side 0) e.x0 e.x1
-first_once e u v w at =
-    let k = kind.Side 0 in
-    let test = patch_test k u v w in
-    behind_levels e 0 u v w
-    (one_in_first test (side_0 e) (side_1 e ++ (side_2 e ++ side_3 e))
-    (one_of_side k e.x0 e.x1 e.z0 e.z1 u v w refl at.left at.right at.lower at.upper at.off)
-    (none-append test (side_1 e) (side_2 e ++ side_3 e)
-    (none_of_side k (kind.Side 1) e.y0 e.y1 e.z0 e.z1 u v w refl)
-    (none-append test (side_2 e) (side_3 e)
-    (none_of_side k (kind.Side 2) e.x0 e.x1 e.z0 e.z1 u v w refl)
-    (none_of_side k (kind.Side 3) e.y0 e.y1 e.z0 e.z1 u v w refl))))
+one_of_own : (e : Extent) (i : ℕ) (u v w : ℤ)
+    → IsBesides (from_of e i) (to_of e i) e.z0 e.z1 u v w
+    → ExactlyOne (patch_test (kind.Side i) u v w) (side e i)
+one_of_own e i u v w at =
+    one_of_side (kind.Side i) (from_of e i) (to_of e i) e.z0 e.z1 u v w (eq-eqb i i refl)
+    at.left at.right at.lower at.upper at.off
 
--- along y at the greatest x
-pub second_once : (e : Extent) → HasOne e (kind.Side 1) e.y0 e.y1
-second_once e u v w at =
-    let k = kind.Side 1 in
-    let test = patch_test k u v w in
-    behind_levels e 1 u v w
-    (one_in_second test (side_0 e) (side_1 e ++ (side_2 e ++ side_3 e))
-    (none_of_side k (kind.Side 0) e.x0 e.x1 e.z0 e.z1 u v w refl)
-    (one_in_first test (side_1 e) (side_2 e ++ side_3 e)
-    (one_of_side k e.y0 e.y1 e.z0 e.z1 u v w refl at.left at.right at.lower at.upper at.off)
-    (none-append test (side_2 e) (side_3 e)
-    (none_of_side k (kind.Side 2) e.x0 e.x1 e.z0 e.z1 u v w refl)
-    (none_of_side k (kind.Side 3) e.y0 e.y1 e.z0 e.z1 u v w refl))))
+-- of these sides it lies on one alone
+one_of_sides : (e : Extent) (i j more : ℕ) (u v w : ℤ) → j ≤ i → i ≤ j + more
+    → IsBesides (from_of e i) (to_of e i) e.z0 e.z1 u v w
+    → ExactlyOne (patch_test (kind.Side i) u v w) (sides e j more)
+one_of_sides e i j zero u v w after before at =
+    subst (λ n. ExactlyOne (patch_test (kind.Side i) u v w) (side e n)) (same i j after before)
+    (one_of_own e i u v w at)
+  where
+    same : (m n : ℕ) → n ≤ m → m ≤ n + 0 → m ≡ n
+    same m n low high = omega arith
+one_of_sides e i j (suc more) u v w after before at =
+    let test = patch_test (kind.Side i) u v w in
+    ⊎_elim
+    (λ later. one_in_second test (side e j) (sides e (suc j) more)
+    (none_of_side (kind.Side i) (kind.Side j) (from_of e j) (to_of e j) e.z0 e.z1 u v w
+    (ne_eqb j i (λ same. earlier j i later same)))
+    (one_of_sides e i (suc j) more u v w (omega arith) (omega arith) at))
+    (λ not_later. one_in_first test (side e j) (sides e (suc j) more)
+    (subst (λ n. ExactlyOne test (side e n)) (here i j after not_later) (one_of_own e i u v w at))
+    (none_of_sides e (kind.Side i) (suc j) more u v w
+    (λ n behind. ne_eqb n i (λ same. past n i j behind not_later same))))
+    (cases_lt j i)
+  where
+    earlier : (m n : ℕ) → m < n → m ≡ n → ⊥
+    earlier m n less same = omega arith
 
--- along x at the greatest y
-pub third_once : (e : Extent) → HasOne e (kind.Side 2) e.x0 e.x1
-third_once e u v w at =
-    let k = kind.Side 2 in
-    let test = patch_test k u v w in
-    behind_levels e 2 u v w
-    (one_in_second test (side_0 e) (side_1 e ++ (side_2 e ++ side_3 e))
-    (none_of_side k (kind.Side 0) e.x0 e.x1 e.z0 e.z1 u v w refl)
-    (one_in_second test (side_1 e) (side_2 e ++ side_3 e)
-    (none_of_side k (kind.Side 1) e.y0 e.y1 e.z0 e.z1 u v w refl)
-    (one_in_first test (side_2 e) (side_3 e)
-    (one_of_side k e.x0 e.x1 e.z0 e.z1 u v w refl at.left at.right at.lower at.upper at.off)
-    (none_of_side k (kind.Side 3) e.y0 e.y1 e.z0 e.z1 u v w refl))))
+    here : (m n : ℕ) → n ≤ m → m ≤ n → m ≡ n
+    here m n low high = omega arith
 
--- along y at the least x
-pub fourth_once : (e : Extent) → HasOne e (kind.Side 3) e.y0 e.y1
-fourth_once e u v w at =
-    let k = kind.Side 3 in
-    let test = patch_test k u v w in
-    behind_levels e 3 u v w
-    (one_in_second test (side_0 e) (side_1 e ++ (side_2 e ++ side_3 e))
-    (none_of_side k (kind.Side 0) e.x0 e.x1 e.z0 e.z1 u v w refl)
-    (one_in_second test (side_1 e) (side_2 e ++ side_3 e)
-    (none_of_side k (kind.Side 1) e.y0 e.y1 e.z0 e.z1 u v w refl)
-    (one_in_second test (side_2 e) (side_3 e)
-    (none_of_side k (kind.Side 2) e.x0 e.x1 e.z0 e.z1 u v w refl)
-    (one_of_side k e.y0 e.y1 e.z0 e.z1 u v w refl at.left at.right at.lower at.upper at.off))))
+    past : (m n l : ℕ) → suc l ≤ m → n ≤ l → m ≡ n → ⊥
+    past m n l behind low same = omega arith
+
+-- so with each side
+pub side_once : (e : Extent) (i : ℕ) → i ≤ 3 → HasOne e (kind.Side i) (from_of e i) (to_of e i)
+side_once e i within u v w at =
+    let test = patch_test (kind.Side i) u v w in
+    one_behind test (bottom e) (top e ∷ sides e 0 3) refl
+    (one_behind test (top e) (sides e 0 3) refl
+    (one_of_sides e i 0 3 u v w (omega arith) (omega arith) at))
 
 -- ---- each two: on different faces, or one above the other with another end
 
@@ -517,44 +465,35 @@ rank_of_side n k low high z0 z1 less =
     all_of_side (λ q. n < rank_of q.kind) (kind.Side k) low high z0 z1 (λ cut. (less, less))
     (λ not_cut. less)
 
+rank_of_sides : (e : Extent) (n i more : ℕ) → n < 2 + i
+    → AllByRecursion (λ q. n < rank_of q.kind) (sides e i more)
+rank_of_sides e n i zero less = rank_of_side n i (from_of e i) (to_of e i) e.z0 e.z1 less
+rank_of_sides e n i (suc more) less =
+    all-append (λ q. n < rank_of q.kind) (side e i) (sides e (suc i) more)
+    (rank_of_side n i (from_of e i) (to_of e i) e.z0 e.z1 less)
+    (rank_of_sides e n (suc i) more (omega arith))
+
+two_of_sides : (e : Extent) (i more : ℕ) → AllOfTwo Precedes (sides e i more)
+two_of_sides e i zero = two_of_side (kind.Side i) (from_of e i) (to_of e i) e.z0 e.z1
+two_of_sides e i (suc more) =
+    two-append Precedes (side e i) (sides e (suc i) more)
+    (two_of_side (kind.Side i) (from_of e i) (to_of e i) e.z0 e.z1) (two_of_sides e (suc i) more)
+    (before_all (kind.Side i) (from_of e i) (to_of e i) e.z0 e.z1 (sides e (suc i) more)
+    (rank_of_sides e (2 + i) (suc i) more (omega arith)))
+
 -- of each two patches of a box the earlier precedes the later
 pub each_two : (e : Extent) → AllOfTwo Precedes (box_patches e)
-each_two e =
-    let r3 : (n : ℕ) → n < 5 → AllByRecursion (λ q. n < rank_of q.kind) (side_3 e) =
-    λ n less. rank_of_side n 3 e.y0 e.y1 e.z0 e.z1 less in
-    let r2 : (n : ℕ) → n < 4 → AllByRecursion (λ q. n < rank_of q.kind) (side_2 e ++ side_3 e) =
-    λ n less. all-append (λ q. n < rank_of q.kind) (side_2 e) (side_3 e)
-    (rank_of_side n 2 e.x0 e.x1 e.z0 e.z1 less) (r3 n (omega arith)) in
-    let r1 : (n : ℕ) → n < 3 → AllByRecursion (λ q. n < rank_of q.kind)
-    (side_1 e ++ (side_2 e ++ side_3 e)) =
-    λ n less. all-append (λ q. n < rank_of q.kind) (side_1 e) (side_2 e ++ side_3 e)
-    (rank_of_side n 1 e.y0 e.y1 e.z0 e.z1 less) (r2 n (omega arith)) in
-    let r0 : (n : ℕ) → n < 2 → AllByRecursion (λ q. n < rank_of q.kind)
-    (side_0 e ++ (side_1 e ++ (side_2 e ++ side_3 e))) =
-    λ n less. all-append (λ q. n < rank_of q.kind) (side_0 e) (side_1 e ++ (side_2 e ++ side_3 e))
-    (rank_of_side n 0 e.x0 e.x1 e.z0 e.z1 less) (r1 n (omega arith)) in
-    let sides = two-append Precedes (side_0 e) (side_1 e ++ (side_2 e ++ side_3 e))
-    (two_of_side (kind.Side 0) e.x0 e.x1 e.z0 e.z1)
-    (two-append Precedes (side_1 e) (side_2 e ++ side_3 e)
-    (two_of_side (kind.Side 1) e.y0 e.y1 e.z0 e.z1)
-    (two-append Precedes (side_2 e) (side_3 e) (two_of_side (kind.Side 2) e.x0 e.x1 e.z0 e.z1)
-    (two_of_side (kind.Side 3) e.y0 e.y1 e.z0 e.z1)
-    (before_all (kind.Side 2) e.x0 e.x1 e.z0 e.z1 (side_3 e) (r3 4 (omega arith))))
-    (before_all (kind.Side 1) e.y0 e.y1 e.z0 e.z1 (side_2 e ++ side_3 e) (r2 3 (omega arith))))
-    (before_all (kind.Side 0) e.x0 e.x1 e.z0 e.z1 (side_1 e ++ (side_2 e ++ side_3 e))
-    (r1 2 (omega arith))) in
-    let rest = side_0 e ++ (side_1 e ++ (side_2 e ++ side_3 e)) in (
-      (
-        inl (omega arith),
-        all_follow {P = λ q. 0 < rank_of q.kind} {Q = Precedes (bottom e)}
-            (λ q h. inl h) rest (r0 0 (omega arith)),
-      ),
-      (
-        all_follow {P = λ q. 1 < rank_of q.kind} {Q = Precedes (top e)} (λ q h. inl h) rest
-            (r0 1 (omega arith)),
-        sides,
-      ),
-    )
+each_two e = (
+  (inl (omega arith), ahead_of_sides 0 (bottom e) (omega arith) (λ q h. inl h)),
+  (ahead_of_sides 1 (top e) (omega arith) (λ q h. inl h), two_of_sides e 0 3),
+)
+  where
+    ahead_of_sides : (n : ℕ) (p : BoxPatch) → n < 2
+        → ((q : BoxPatch) → n < rank_of q.kind → Precedes p q)
+        → AllByRecursion (Precedes p) (sides e 0 3)
+    ahead_of_sides n p less to =
+        all_follow {P = λ q. n < rank_of q.kind} {Q = Precedes p} to (sides e 0 3)
+        (rank_of_sides e n 0 3 less)
 
 -- ---- each patch looks out at the earth or the open air
 
@@ -572,8 +511,7 @@ all_open e =
     all_of_box (λ p. IsOpen p.end) e
     (open_choice (int_le e.z0 (pos 0)) end.Earth end.Outside (inl refl) (inr refl))
     (open_choice (int_le (pos 0) e.z1) end.Outside end.Earth (inr refl) (inl refl))
-    (side_open (kind.Side 0) e.x0 e.x1) (side_open (kind.Side 1) e.y0 e.y1)
-    (side_open (kind.Side 2) e.x0 e.x1) (side_open (kind.Side 3) e.y0 e.y1)
+    (λ j within. side_open (kind.Side j) (from_of e j) (to_of e j))
   where
     side_open : (face : FaceKind) (low high : ℤ)
         → AllByRecursion (λ p. IsOpen p.end) (side_patches face low high e.z0 e.z1)

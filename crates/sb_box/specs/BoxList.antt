@@ -1,7 +1,7 @@
 -- Which boundaries a box has. The ground is at height 0.
 use Rattle.std.specs.Prelude.{◌≡◌, ℕ, ℤ, pos, Bool, ◌&&◌, List, [], ◌∷◌, ◌++◌, None, int_lt, int_le}
 use Rattle.std.specs.Prelude.{if◌then◌else◌}
-use Rattle.sb_model.specs.Corners.{whole}
+use Rattle.theory_numbers.specs.Fractions.{whole}
 use Rattle.theory_plane.specs.Sides.{level}
 use Rattle.sb_model.specs.Sides.{line_of}
 use Rattle.sb_model.specs.declared.boundary.Boundary.{Boundary}

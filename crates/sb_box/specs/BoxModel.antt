@@ -3,7 +3,7 @@ use Rattle.std.specs.Prelude.{◌≡◌, ℕ, pos, [], ◌∷◌}
 use Rattle.sb_model.specs.declared.products.Space.{Space}
 use Rattle.sb_model.specs.Solids.{Upright, upright}
 use Rattle.sb_model.specs.Building.{Building}
-use Rattle.theory_models.specs.Rectangles.{rectangle}
+use Rattle.theory_plans.specs.Rectangles.{rectangle}
 use Rattle.sb_box.specs.declared.extent.Extent.{Extent}
 
 -- the prism of a box: one loop, counterclockwise from its least corner, between two heights
@@ -20,4 +20,4 @@ pub record IsBoxModel (n : ℕ) (e : Extent) (m : Building) : Type 0 where
   pub elements : m.elements ≡ []
   pub openings : m.openings ≡ []
   pub fillings : m.fillings ≡ []
-  pub level : m.level ≡ pos 0
+  pub ground_height : m.ground_height ≡ pos 0

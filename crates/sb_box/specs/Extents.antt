@@ -1,14 +1,10 @@
 -- Boxes with sides along the axes.
-use Rattle.std.specs.Prelude.{ℕ, ℤ, Bool, ◌&&◌, int_lt, nat_le, unsigned_abs}
-
--- the greatest size of a coordinate, in mm
-abbrev pub farthest : ℕ
-farthest = 500000
+use Rattle.std.specs.Prelude.{ℤ, Bool, ◌&&◌, int_lt}
+use Rattle.sb_fraction.specs.Plane.{is_coordinate}
 
 -- from a lower to a greater coordinate, both in range
 abbrev pub is_interval : ℤ → ℤ → Bool
-is_interval low high =
-    int_lt low high && nat_le (unsigned_abs low) farthest && nat_le (unsigned_abs high) farthest
+is_interval low high = int_lt low high && is_coordinate low && is_coordinate high
 
 -- three intervals, along x, y and z
 abbrev pub is_extent : ℤ → ℤ → ℤ → ℤ → ℤ → ℤ → Bool

@@ -1,13 +1,12 @@
 // The list of the boundaries of a box.
 ghost use Rattle.std.specs.Prelude.{◌≡◌, ◌++◌, ◌∷◌, [], List, pos, IsTrue, IfOk, OnOk, OnErr, None};
-ghost use Rattle.std.specs.Prelude.{nat_le, unsigned_abs};
 ghost use Rattle.sb_box.specs.BoxList.{BoxPatch, IsBoxList, IsBoxBoundary, AreBoxBoundaries};
 ghost use Rattle.sb_box.specs.BoxList.{IsLevelFace};
 ghost use Rattle.sb_box.specs.BoxList.{box_patch, side_patches, is_cut, below, above};
 ghost use Rattle.sb_box.specs.BoxModel.{IsBoxModel};
-ghost use Rattle.sb_box.specs.Extents.{farthest};
+ghost use Rattle.sb_fraction.specs.Plane.{is_coordinate};
 ghost use Rattle.sb_model.specs.Building.{Building};
-ghost use Rattle.sb_model.specs.Corners.{whole};
+ghost use Rattle.theory_numbers.specs.Fractions.{whole};
 ghost use Rattle.sb_model.specs.Order.{IsInOrder};
 ghost use Rattle.sb_model.specs.Sound.{IsSound};
 ghost use Rattle.theory_plane.specs.Sides.{level};
@@ -178,7 +177,7 @@ fn whole(x: i32) -> Fraction
 
 /// The line in plan on which v is this.
 fn level_line(v: i32) -> Side
-    requires { IsTrue (nat_le (unsigned_abs v) farthest) }
+    requires { IsTrue (is_coordinate v) }
     ensures same { line_of result ≡ level v }
     ensures fits { IsTrue (is_side_of FaceKind.Bottom result) }
 {

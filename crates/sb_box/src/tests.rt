@@ -1,7 +1,5 @@
 use crate::{Extent, box_boundaries};
 use sb_model::{Boundary, End, FaceKind, Side};
-use std::alloc::Global;
-use std::process::Abort;
 use std::test::Fail;
 
 /// Where a side of a patch lies: the offset of its line, or its height.
@@ -22,48 +20,17 @@ fn span(b: &Boundary) -> [i128; 4] {
     ]
 }
 
-/// Which face, from where to where in u and in v, and the end.
-type Row = (FaceKind, [i128; 4], End);
-
-/// That the list of this box has these rows.
-fn expect_list(rt: &impl Abort, alloc: Global, extent: &Extent, rows: &[Row]) -> Result<(), Fail> {
-    let list = box_boundaries(alloc, 20, extent)?;
-    assert_eq!(rt; list.len(), rows.len(), "one boundary a row");
-    for (i, (kind, numbers, end)) in rows.iter().enumerate() {
-        let id = i as u64 + 1;
-        let Some(b) = list.get(id) else {
-            panic!(rt; "boundary {id} is there");
-        };
-        assert!(rt; b.patch.face.kind == *kind, "face of boundary {id}");
-        assert_eq!(rt; span(b), *numbers, "patch of boundary {id}");
-        assert!(rt; b.walk.end == *end, "end of boundary {id}");
-    }
-    Ok(())
-}
-
 #[test]
-fn the_box_on_the_ground_has_six_boundaries(rt: HostRuntime) -> Result<(), Fail> {
-    let rows = [
-        (FaceKind::Bottom, [0, 4000, 0, 3000], End::Earth),
-        (FaceKind::Top, [0, 4000, 0, 3000], End::Outside),
-        (FaceKind::Side(0), [0, 4000, 0, 2500], End::Outside),
-        (FaceKind::Side(1), [0, 3000, 0, 2500], End::Outside),
-        (FaceKind::Side(2), [0, 4000, 0, 2500], End::Outside),
-        (FaceKind::Side(3), [0, 3000, 0, 2500], End::Outside),
-    ];
+fn the_box_in_the_ground_has_ten(rt: HostRuntime) -> Result<(), Fail> {
     let extent = Extent {
         x0: 0,
         x1: 4000,
         y0: 0,
         y1: 3000,
-        z0: 0,
-        z1: 2500,
+        z0: -1000,
+        z1: 1500,
     };
-    expect_list(&rt, rt.alloc(), &extent, rows.as_slice())
-}
-
-#[test]
-fn the_box_in_the_ground_has_ten(rt: HostRuntime) -> Result<(), Fail> {
+    let list = box_boundaries(rt.alloc(), 20, &extent)?;
     let rows = [
         (FaceKind::Bottom, [0, 4000, 0, 3000], End::Earth),
         (FaceKind::Top, [0, 4000, 0, 3000], End::Outside),
@@ -76,13 +43,15 @@ fn the_box_in_the_ground_has_ten(rt: HostRuntime) -> Result<(), Fail> {
         (FaceKind::Side(3), [0, 3000, -1000, 0], End::Earth),
         (FaceKind::Side(3), [0, 3000, 0, 1500], End::Outside),
     ];
-    let extent = Extent {
-        x0: 0,
-        x1: 4000,
-        y0: 0,
-        y1: 3000,
-        z0: -1000,
-        z1: 1500,
-    };
-    expect_list(&rt, rt.alloc(), &extent, rows.as_slice())
+    assert_eq!(rt; list.len(), rows.len(), "one boundary a row");
+    for (i, (kind, numbers, end)) in rows.iter().enumerate() {
+        let id = i as u64 + 1;
+        let Some(b) = list.get(id) else {
+            panic!(rt; "boundary {id} is there");
+        };
+        assert!(rt; b.patch.face.kind == *kind, "face of boundary {id}");
+        assert_eq!(rt; span(b), *numbers, "patch of boundary {id}");
+        assert!(rt; b.walk.end == *end, "end of boundary {id}");
+    }
+    Ok(())
 }

@@ -2,8 +2,9 @@
 use Rattle.std.proofs.Common.{◌≡◌, ◌≢◌, ◌++◌, ◌∙◌, ℤ, List, ℕ, Option, Some, None, IfNone, sym}
 use Rattle.std.proofs.lemmas.List.{append_cancel_left}
 use Rattle.sb_form.specs.Numbers.{IsShort, number_text}
-use Rattle.sb_form.specs.FirstForm.{IsFormOf, before_place, before_sizes, before_height, behind_height, comma}
-use Rattle.sb_form.specs.Steps.{AreThree}
+use Rattle.sb_form.specs.FirstForm.{IsFormOf, before_place, before_sizes, before_height}
+use Rattle.sb_form.specs.FirstForm.{behind_height, comma}
+use Rattle.sb_form.specs.ThreeNumbers.{AreThree}
 use Rattle.sb_form.specs.declared.matcher.FirstForm.{FirstForm}
 use Rattle.sb_form.proofs.NumbersEndAtTheirPoint.{number_next}
 

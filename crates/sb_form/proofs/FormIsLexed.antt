@@ -11,10 +11,13 @@ use Rattle.sb_form.proofs.NumbersAreReals.{EndsReal, real_of, number_is_first}
 
 -- the pieces of a fixed part, as many as it has tokens
 
+-- the pieces that were found
 abbrev pub pieces_in : Option Lexed → List Piece
 pieces_in None = []
 pieces_in (Some l) = l.pieces
 
+-- the fixed parts of the text as pieces: before the place, a comma, before the sizes, before the
+-- height, and behind it
 abbrev pub place_pieces : List Piece
 place_pieces = pieces_in (lexed 71 before_place)
 

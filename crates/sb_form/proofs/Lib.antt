@@ -1,3 +1,4 @@
+-- Lemmas, each file a claim.
 mod DecimalsAreReadBack
 mod NumbersEndAtTheirPoint
 mod FormHasOneReading

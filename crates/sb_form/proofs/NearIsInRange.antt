@@ -12,6 +12,7 @@ pub about_is_interval : (m s : ℤ) → int_lt (pos 0) s ≡ true → is_near_ab
     → is_interval (m -ℤ half s) (m +ℤ half s) ≡ true
 about_is_interval m s shape near grid = grind (arith, ints)
 
+-- from a height up by another
 pub up_is_interval : (z h : ℤ) → int_lt (pos 0) h ≡ true → is_near_up z h ≡ true
     → is_interval z (z +ℤ h) ≡ true
 up_is_interval z h shape near = grind (arith, ints)
@@ -24,5 +25,6 @@ second_is_true false b both = absurd (cc both)
 pub height_is_positive : (f : FirstForm) → has_shape f ≡ true → int_lt (pos 0) f.height ≡ true
 height_is_positive f shape = second_is_true _ _ (second_is_true _ _ shape)
 
+-- the heights of a form that is in range are so
 pub heights_are_near : (f : FirstForm) → is_near f ≡ true → is_near_up f.z f.height ≡ true
 heights_are_near f near = second_is_true _ _ (second_is_true _ _ near)

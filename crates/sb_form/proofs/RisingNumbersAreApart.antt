@@ -27,6 +27,7 @@ none_above n from (i ∷ later) low rises =
     (λ other. omega (arith, uses-cons n i later, others, ap {B = ℕ} (λ b. cond b 1 0) other))
     (cases_Bool (i.0 == n))
 
+-- instances whose numbers rise are apart
 pub rising_are_apart : (from : ℕ) (instances : List (ℕ × Record))
     → rises_from from instances ≡ true → AreApart instances
 rising_are_apart from [] rises n = omega arith

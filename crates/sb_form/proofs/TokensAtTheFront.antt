@@ -34,6 +34,7 @@ abbrev pub Lead : List Piece → List ℕ → List ℕ → Type 0
 Lead [] bytes rest = bytes ≡ rest
 Lead (p ∷ ps) bytes rest = IsFirst p bytes × Lead ps (drop p.size (drop p.gap bytes)) rest
 
+-- what leads the bytes and what leads the rest behind it lead the bytes together
 pub lead_append : (ps qs : List Piece) (bytes mid rest : List ℕ) → Lead ps bytes mid
     → Lead qs mid rest → Lead (ps ++ qs) bytes rest
 lead_append [] qs bytes mid rest first second = subst (λ b. Lead qs b rest) (sym first) second
@@ -60,10 +61,12 @@ pub record Lexed : Type 0 where
   pub pieces : List Piece
   pub rest : List ℕ
 
+-- a piece before those that were found
 abbrev pub and_lexed : Piece → Option Lexed → Option Lexed
 and_lexed p None = None
 and_lexed p (Some l) = Some (record { pieces = p ∷ l.pieces; rest = l.rest })
 
+-- what is found behind a piece, where there is one
 abbrev pub lexed_on : (List ℕ → Option Lexed) → List ℕ → Option Piece → Option Lexed
 lexed_on next bytes None = None
 lexed_on next bytes (Some p) = and_lexed p (next (drop p.size (drop p.gap bytes)))
@@ -90,6 +93,7 @@ white_is_blank (b ∷ bs) = by (is_white b) refl (white_is_blank bs)
         subst (λ w. Blank (take (cond w (1 + prefix_len is_white bs) 0) (b ∷ bs))) (sym is)
         (repeated_nothing BlankPiece)
 
+-- the piece is the first of the bytes, where there is one
 abbrev pub IsFirstIf : Option Piece → List ℕ → Type 0
 IsFirstIf None bytes = Unit {0}
 IsFirstIf (Some p) bytes = IsFirst p bytes
@@ -125,6 +129,7 @@ lexed_on_leads next leads bytes l (Some p) first is =
     let behind = drop p.size (drop p.gap bytes) in
     and_lexed_leads p bytes l (next behind) first (leads behind) is
 
+-- the tokens that are computed lead the bytes
 pub lexed_leads : (n : ℕ) (bytes : List ℕ) (l : Lexed) → lexed n bytes ≡ Some l
     → Lead l.pieces bytes l.rest
 lexed_leads zero bytes l is = subst (λ k. Lead k.pieces bytes k.rest) (same_Some _ l is) refl
@@ -133,6 +138,7 @@ lexed_leads (suc n) bytes l is =
 
 -- the pieces at a place of an input
 
+-- the piece as a token from this byte on
 abbrev pub token_at : ℕ → Piece → Token
 token_at from p = token_of p.of_kind (from + p.gap) p.size
 
@@ -191,6 +197,7 @@ pub record ReadsPieces (input : List ℕ) (from : ℕ) (ps : List Piece) : Type 
   pub tokens : AreTokensFrom input from (tokens_at from ps) None
   pub texts : lexemes input (tokens_at from ps) ≡ lexemes_at from ps
 
+-- what leads the input is read from its first byte on
 pub lead_reads : (ps : List Piece) (input bytes rest : List ℕ) (from : ℕ)
     → EndsWith input from bytes → Lead ps bytes rest → prefix_len is_white rest ≡ length rest
     → ReadsPieces input from ps

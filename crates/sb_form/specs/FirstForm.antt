@@ -31,6 +31,7 @@ behind_height =
     ++ codes "#20=IFCSPACE('0000000000000000000020',$,$,$,$,#12,#17,$,$,$,$);\n"
     ++ codes "ENDSEC;\nEND-ISO-10303-21;\n"
 
+-- between two coordinates
 abbrev pub comma : List ℕ
 comma = codes ","
 

@@ -1,14 +1,17 @@
 -- What an input of the first form means: a box, or the first of three defects.
-use Rattle.std.specs.Prelude.{◌≡◌, ◌+ℤ◌, ◌-ℤ◌, ◌*ℤ◌, ◌/◌, ◌%◌, ◌==◌, ℕ, ℤ, pos, Bool, ◌&&◌, List, [], ◌∷◌, codes, int_lt, nat_le, unsigned_abs, Option, Some, None, if◌then◌else◌}
+use Rattle.std.specs.Prelude.{◌≡◌, ◌+ℤ◌, ◌-ℤ◌, ◌*◌, ◌*ℤ◌, ◌/◌, ◌%◌, ◌==◌, ℕ, ℤ, pos, Bool, ◌&&◌, List}
+use Rattle.std.specs.Prelude.{[], ◌∷◌, codes, int_lt, nat_le, unsigned_abs, Option, Some, None}
+use Rattle.std.specs.Prelude.{if◌then◌else◌}
 use Rattle.sb_fraction.specs.declared.point.Point.{Point}
 use Rattle.sb_fraction.specs.declared.unit.Unit.TheVariants.{Millimetre}
 use Rattle.sb_model.specs.Building.{Building, building}
+use Rattle.sb_fraction.specs.Plane.{greatest_coordinate}
 use Rattle.sb_model.specs.Solids.{upright}
-use Rattle.sb_model.specs.Spots.{vector}
+use Rattle.sb_fraction.specs.Spots.{vector}
 use Rattle.sb_model.specs.Turns.{Quarter}
 use Rattle.sb_model.specs.declared.frame.Frame.{Frame}
 use Rattle.sb_model.specs.declared.products.Space.{Space}
-use Rattle.theory_models.specs.Rectangles.{rectangle}
+use Rattle.theory_plans.specs.Rectangles.{rectangle}
 use Rattle.sb_box.specs.declared.extent.Extent.{Extent}
 use Rattle.sb_form.specs.declared.matcher.FirstForm.{FirstForm}
 use Rattle.sb_form.specs.declared.meaning.Defect.{Defect}
@@ -18,14 +21,15 @@ use Rattle.sb_form.specs.declared.meaning.Defect.TheVariants.{Shape, Range, OffG
 abbrev pub has_shape : FirstForm → Bool
 has_shape f = int_lt (pos 0) f.size_x && (int_lt (pos 0) f.size_y && int_lt (pos 0) f.height)
 
+-- a coordinate doubled
 abbrev pub twice : ℤ → ℤ
 twice z = z +ℤ z
 
--- twice a coordinate is at most twice 500,000 in size
+-- a coordinate, given as twice itself, is in range
 abbrev pub is_near_doubled : ℤ → Bool
-is_near_doubled twice = nat_le (unsigned_abs twice) 1000000
+is_near_doubled twice = nat_le (unsigned_abs twice) (2 * greatest_coordinate)
 
--- from x - X/2 to x + X/2, no coordinate is more than 500,000 in size; X may be odd
+-- from x - X/2 to x + X/2, each coordinate is in range; X may be odd
 abbrev pub is_near_about : ℤ → ℤ → Bool
 is_near_about middle size =
     is_near_doubled (twice middle -ℤ size) && is_near_doubled (twice middle +ℤ size)
@@ -34,10 +38,11 @@ is_near_about middle size =
 abbrev pub is_near_up : ℤ → ℤ → Bool
 is_near_up z height = is_near_doubled (twice z) && is_near_doubled (twice (z +ℤ height))
 
--- no coordinate of the box is more than 500,000 in size
+-- each coordinate of the box is in range
 abbrev pub is_near : FirstForm → Bool
 is_near f = is_near_about f.x f.size_x && (is_near_about f.y f.size_y && is_near_up f.z f.height)
 
+-- an even number
 abbrev pub is_even : ℤ → Bool
 is_even z = unsigned_abs z % 2 == 0
 
@@ -83,10 +88,12 @@ nanometres millimetres = millimetres *ℤ pos 1000000
 abbrev pub space_number : ℕ
 space_number = 20
 
+-- the frame of the space: not turned, with its origin at the form's place
 abbrev pub frame_of : FirstForm → Frame
 frame_of f =
     record { turn = unturned; shift = nanometres f.x ∷ nanometres f.y ∷ nanometres f.z ∷ [] }
 
+-- the one space
 abbrev pub space_of : FirstForm → Space
 space_of f = record {
   number = space_number;
@@ -95,6 +102,10 @@ space_of f = record {
   frame = frame_of f;
 }
 
--- the model: the one space #20 in millimetres, the ground at height 0, the reach of 1,000 mm
+-- the reach of walks, in millimetres
+abbrev pub reach_of_walks : ℕ
+reach_of_walks = 1000
+
+-- the model: the one space in millimetres, and the ground at height 0
 abbrev pub model_of : FirstForm → Building
-model_of f = building Millimetre (pos 0) 1000 (space_of f ∷ []) [] [] []
+model_of f = building Millimetre (pos 0) reach_of_walks (space_of f ∷ []) [] [] []

@@ -2,7 +2,7 @@
 ghost use Rattle.std.specs.Prelude.{◌≡◌, ◌≤◌, ◌<◌, ◌*ℤ◌, [], ◌∷◌, pos, IfOk, unsigned_abs};
 ghost use Rattle.sb_form.specs.FirstForm.{AreShort};
 ghost use Rattle.sb_form.specs.Meaning.{IsExtentOf, model_of, space_of, frame_of, nanometres, unturned};
-ghost use Rattle.theory_models.specs.Rectangles.{rectangle};
+ghost use Rattle.theory_plans.specs.Rectangles.{rectangle};
 ghost use Rattle.sb_model.specs.Turns.{Quarter};
 
 use crate::matcher::FirstForm;
@@ -14,10 +14,10 @@ use sb_model::{
 };
 use std::alloc::{AllocError, Global};
 
-/// The number of the form's one space.
+/// The number of the form's one space. The contract of [`model`] fixes it.
 pub const SPACE: u32 = 20;
 
-/// The reach of walks, in millimetres (mm).
+/// The reach of walks, in millimetres (mm). The contract of [`model`] fixes it.
 const REACH: u32 = 1_000;
 
 /// The model that a form with this box means: its one space, and nothing else, over a ground at

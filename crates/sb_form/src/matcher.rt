@@ -2,7 +2,7 @@
 ghost use Rattle.std.specs.Prelude.{◌≡◌, ◌≢◌, ◌<◌, ◌≤◌, ◌++◌, ◌∷◌, List, ℕ, ℤ, IfSome, IfNone};
 ghost use Rattle.sb_form.specs.Numbers.{IsShort, number_text};
 ghost use Rattle.sb_form.specs.FirstForm.{before_place, before_sizes, before_height, behind_height, comma, IsFormOf};
-ghost use Rattle.sb_form.specs.Steps.{AreThree};
+ghost use Rattle.sb_form.specs.ThreeNumbers.{AreThree};
 ghost use Rattle.sb_form.specs.declared.matcher.FirstForm.{FirstForm};
 
 use crate::number::{behind, number};

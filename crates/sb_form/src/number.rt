@@ -3,7 +3,7 @@
 ghost use Rattle.std.specs.Prelude.{◌≡◌, ◌≢◌, ◌<◌, ◌≤◌, ◌++◌, ◌∷◌, List, ℕ, ℤ, IfSome, IfNone, decimal, length, true, false, ◌==◌};
 ghost use Rattle.std.specs.List.{list_all, position};
 ghost use Rattle.std.specs.Char.{is_ascii_digit};
-ghost use Rattle.sb_form.specs.Numbers.{IsShort, number_text, HasPlainLength};
+ghost use Rattle.sb_form.specs.Numbers.{IsShort, number_text, point, HasPlainLength};
 ghost use Rattle.std.specs.Str.Parse.{digits_value};
 
 const POINT: u8 = b'.';
@@ -38,8 +38,8 @@ pub(crate) fn behind<'a>(opening: &[u8], bytes: &'a [u8]) -> Option<&'a [u8]>
 
 /// The number of at most six digits at the front of the bytes, and what stands behind its point.
 fn size(bytes: &[u8]) -> Option<(u32, &[u8])>
-    ensures found { IfSome result (λ p. (p.0 < 1000000) × (bytes.now ≡ decimal p.0 ++ 46 ∷ p.1.now)) }
-    ensures none { IfNone result ((n : ℕ) (rest : List ℕ) → n < 1000000 → bytes.now ≢ decimal n ++ 46 ∷ rest) }
+    ensures found { IfSome result (λ p. (p.0 < 1000000) × (bytes.now ≡ decimal p.0 ++ point ∷ p.1.now)) }
+    ensures none { IfNone result ((n : ℕ) (rest : List ℕ) → n < 1000000 → bytes.now ≢ decimal n ++ point ∷ rest) }
 {
     let point = point_place(bytes)?;
     let value = plain_value(&bytes[..point])?;
@@ -48,7 +48,7 @@ fn size(bytes: &[u8]) -> Option<(u32, &[u8])>
 
 /// Where the first point stands.
 fn point_place(bytes: &[u8]) -> Option<usize>
-    ensures { result ≡ position (λ b. b == 46) bytes.now }
+    ensures { result ≡ position (λ b. b == point) bytes.now }
 {
     bytes.iter().position(|b| *b == POINT)
 }

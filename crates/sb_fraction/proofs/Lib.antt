@@ -1,2 +1,4 @@
-pub mod GreatestDivisor
-pub mod LowestTerms
+-- The laws that the calls cite.
+mod ReducedInBounds
+-- and what the ranges are
+mod Examples

@@ -1,12 +1,25 @@
--- What holds of every segment, homogeneous point and direction, as tests that compute.
+-- What holds of plan points, segments and directions, as tests that compute.
 
 use Rattle.std.specs.Prelude.{ℕ, ℤ, pos, Bool, not, ◌&&◌, ◌||◌, int_lt, nat_le, unsigned_abs}
 use Rattle.std.specs.Ordering.{int_eq}
-use Rattle.sb_fraction.specs.Divisors.{are_coprime}
+use Rattle.theory_numbers.specs.Divisors.{are_coprime}
+use Rattle.sb_fraction.specs.declared.point.Point.{Point}
+
+-- the greatest size of a world coordinate, in millimetres
+abbrev pub greatest_coordinate : ℕ
+greatest_coordinate = 500000
+
+-- a coordinate or a height within 500,000 mm
+abbrev pub is_coordinate : ℤ → Bool
+is_coordinate z = nat_le (unsigned_abs z) greatest_coordinate
+
+-- both coordinates are within 500,000 mm
+abbrev pub is_plan_point : Point → Bool
+is_plan_point p = is_coordinate p.x && is_coordinate p.y
 
 -- the plan points (ax, ay) and (bx, by) differ
-abbrev pub are_apart : ℤ → ℤ → ℤ → ℤ → Bool
-are_apart ax ay bx by = not (int_eq ax bx && int_eq ay by)
+abbrev pub are_two_points : ℤ → ℤ → ℤ → ℤ → Bool
+are_two_points ax ay bx by = not (int_eq ax bx && int_eq ay by)
 
 -- the greatest size of a number of a direction
 abbrev pub longest_step : ℕ

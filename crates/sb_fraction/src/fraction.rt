@@ -3,9 +3,10 @@
 ghost use Rattle.std.specs.Prelude.{◌≡◌, ◌≤◌, ◌<◌, ◌<ℤ◌, ◌^◌, ◌*ℤ◌, pos, neg_ℤ, unsigned_abs};
 ghost use Rattle.std.specs.Prelude.{IsTrue};
 ghost use Rattle.std.specs.Prelude.{if◌then◌else◌};
-ghost use Rattle.sb_fraction.specs.Divisors.{greatest_divisor};
-ghost use Rattle.sb_fraction.specs.Ratio.{reduced, divided as quotient, is_fraction, greatest_num};
-ghost use Rattle.sb_fraction.specs.Ratio.{greatest_den};
+ghost use Rattle.theory_numbers.specs.Divisors.{greatest_divisor};
+ghost use Rattle.sb_fraction.specs.Bounds.{is_fraction, greatest_num};
+ghost use Rattle.theory_numbers.specs.Fractions.{reduced, divided as quotient};
+ghost use Rattle.sb_fraction.specs.Bounds.{greatest_den};
 
 use std::marker::Model;
 
@@ -21,7 +22,8 @@ pub struct Fraction {
 
 impl Model for Fraction {
     ghost use Rattle.std.specs.Prelude.{IsTrue};
-    ghost use Rattle.sb_fraction.specs.Ratio.{Ratio, is_fraction};
+    ghost use Rattle.sb_fraction.specs.Bounds.{is_fraction};
+    ghost use Rattle.theory_numbers.specs.Fractions.{Ratio};
 
     ghost Value = { Ratio };
 
@@ -34,7 +36,7 @@ impl Model for Fraction {
 
 impl Fraction {
     /// The number `num/den` in lowest terms.
-    #[tactic(auto, using(crate::proofs::LowestTerms::lowest), unfolding(crate::specs::Ratio::reduced))]
+    #[tactic(auto, using(crate::proofs::ReducedInBounds::lowest), unfolding(theory_numbers::specs::Fractions::reduced))]
     pub fn new(num: i128, den: i128) -> Fraction
         requires positive { pos 0 <ℤ den }
         requires num_size { unsigned_abs num ≤ greatest_num }

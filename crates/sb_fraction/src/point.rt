@@ -1,7 +1,7 @@
 //! Plan points, and segments between them.
 
 ghost use Rattle.std.specs.Prelude.{IsTrue, int_lt, pos};
-ghost use Rattle.sb_fraction.specs.Plane.{are_apart};
+ghost use Rattle.sb_fraction.specs.Plane.{are_two_points};
 
 /// A plan point, in whole millimetres (mm).
 #[derive(Clone, Copy, PartialEq)]
@@ -15,7 +15,7 @@ pub struct Point {
 pub struct Segment {
     pub a: Point,
     pub b: Point,
-    ghost apart: { IsTrue (are_apart a.x a.y b.x b.y) },
+    ghost apart: { IsTrue (are_two_points a.x a.y b.x b.y) },
 }
 
 /// The plan point `(x/w, y/w)` in millimetres (mm), where `w` is positive.

@@ -2,28 +2,20 @@
 //! call, and ends with the status of the answer.
 #![tactic(auto)]
 
-use sb_run::{run, status};
+use sb_run::{Answer, run, status};
 use sb_shelf::HostShelf;
 use std::alloc::Global;
 use std::env::args;
 use std::io;
 use std::process::ExitCode;
 
-/// The status where there is no memory for the words.
-const NO_MEMORY: u8 = 11;
-
-/// The status where a word is not UTF-8.
-const USAGE: u8 = 2;
-
 fn main(rt: HostRuntime) -> ExitCode {
     let alloc = rt.alloc();
-    match words(&rt, alloc) {
-        Ok(words) => {
-            let mut shelf = HostShelf::new(rt);
-            ExitCode::from(status(&run(alloc, words.as_slice(), &mut shelf)))
-        }
-        Err(error) => ExitCode::from(status_without_words(&error)),
-    }
+    let answer = match words(&rt, alloc) {
+        Ok(words) => run(alloc, words.as_slice(), &mut HostShelf::new(rt)),
+        Err(error) => answer_without_words(&error),
+    };
+    ExitCode::from(status(&answer))
 }
 
 /// The words behind the program's name.
@@ -35,9 +27,10 @@ fn words(rt: &HostRuntime, alloc: Global) -> io::Result<Vec<String>> {
     Ok(words)
 }
 
-fn status_without_words(error: &io::Error) -> u8 {
+/// There was no memory for the words, or one of them is not UTF-8.
+fn answer_without_words(error: &io::Error) -> Answer {
     match error.kind() {
-        io::ErrorKind::OutOfMemory => NO_MEMORY,
-        _ => USAGE,
+        io::ErrorKind::OutOfMemory => Answer::NoMemory,
+        _ => Answer::Usage,
     }
 }

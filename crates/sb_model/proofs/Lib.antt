@@ -1,9 +1,6 @@
-pub mod RectangleIsLoop
-pub mod Passing
-pub mod OneSpaceIsNumbered
-pub mod EdgesByPlace
-pub mod StraightCorners
-pub mod ExamplePoints
-pub mod ExampleModels
-pub mod ExampleLabels
-pub mod ExampleLists
+-- The laws that the calls cite.
+mod Passing
+mod OneSpaceIsNumbered
+mod StraightCorners
+-- and what the ranges are
+mod ExampleRanges

@@ -27,19 +27,19 @@ right_none : (x : Option ℕ) → or_else x None ≡ x
 right_none None = refl
 right_none (Some n) = refl
 
-first_bad_of_lists : (u : unit.Unit) (level : ℤ) (reach : ℕ) (spaces : List Space)
+first_bad_of_lists : (u : unit.Unit) (ground_height : ℤ) (reach : ℕ) (spaces : List Space)
     (elements : List Element) (openings : List Opening) (fillings : List Filling)
-    → IsTrue (is_one_space (building u level reach spaces elements openings fillings))
-    → first_bad (building u level reach spaces elements openings fillings)
+    → IsTrue (is_one_space (building u ground_height reach spaces elements openings fillings))
+    → first_bad (building u ground_height reach spaces elements openings fillings)
     ≡ (if list_any (λ s. s.number == 0) spaces then Some 0 else None)
-first_bad_of_lists u level reach (s ∷ []) [] [] [] one = right_none _ ∙ bad_alone s.number
-first_bad_of_lists u level reach _ _ _ _ one = absurd (false≢true one)
+first_bad_of_lists u ground_height reach (s ∷ []) [] [] [] one = right_none _ ∙ bad_alone s.number
+first_bad_of_lists u ground_height reach _ _ _ _ one = absurd (false≢true one)
 
 -- the first bad number of one space alone
 pub first_bad_of_one : (m : Building) → IsTrue (is_one_space m)
     → first_bad m ≡ (if list_any (λ s. s.number == 0) m.spaces then Some 0 else None)
 first_bad_of_one m one =
-    first_bad_of_lists m.unit m.level m.reach m.spaces m.elements m.openings m.fillings one
+    first_bad_of_lists m.unit m.ground_height m.reach m.spaces m.elements m.openings m.fillings one
 
 -- one space of number 0 alone: the first bad number is 0
 pub zero_is_bad : (m : Building) → IsTrue (is_one_space m)

@@ -2,4 +2,5 @@
 
 use Rattle.std.proofs.lemmas.Int.{to_z-of_z}
 
+-- for the sums and products of signed numbers
 pub ruleset passing = (to_z-of_z)

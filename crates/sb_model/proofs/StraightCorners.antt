@@ -1,57 +1,39 @@
 -- On a level side and over an edge along x or y, the corners have whole numbers and the abscissa.
 
-use Rattle.std.proofs.Common.{ℤ, pos, negsuc, zero, suc, ◌≡◌, ◌<ℤ◌, ◌+ℤ◌, ◌-ℤ◌, ◌*ℤ◌, Bool, true}
-use Rattle.std.proofs.Common.{false, not, ◌&&◌, IsTrue, Some, unsigned_abs, int_lt, refl, arith, ap}
-use Rattle.std.proofs.Common.{sym, ◌∙◌, if◌then◌else◌}
+use Rattle.std.proofs.Common.{ℤ, pos, ◌≡◌, ◌<ℤ◌, ◌+ℤ◌, ◌-ℤ◌, ◌*ℤ◌, Bool, true, false, not, ◌&&◌}
+use Rattle.std.proofs.Common.{IsTrue, Some, int_lt, refl, arith, ap, sym, ◌∙◌}
 use Rattle.std.specs.Ordering.{int_eq}
-use Rattle.std.proofs.lemmas.Int.{ints, to_z-of_z}
-use Rattle.std.proofs.lemmas.Bool.{and_parts, lt-ltb, false≢true, false_from_ne_true}
+use Rattle.std.proofs.lemmas.Int.{to_z-of_z}
+use Rattle.std.proofs.lemmas.Bool.{and_parts, false≢true, false_from_ne_true}
 use Rattle.std.proofs.lemmas.Bool.Decides.{Decides-int_eq}
-use Rattle.std.proofs.Math.Nat.{div_self, zero-div}
-use Rattle.sb_fraction.specs.Ratio.{Ratio, reduced, divided, is_fraction, is_lowest, is_within}
-use Rattle.sb_fraction.specs.Plane.{is_forward}
-use Rattle.sb_fraction.specs.Divisors.{greatest_divisor, are_coprime}
-use Rattle.sb_fraction.proofs.GreatestDivisor.{greatest_divisor-zero, zero-greatest_divisor}
-use Rattle.sb_fraction.proofs.LowestTerms.{reduced-lowest, reduced-multiple}
-use Rattle.sb_fraction.specs.declared.point.Point.{Point}
+use Rattle.theory_numbers.specs.Fractions.{Ratio, reduced, is_lowest, whole}
+use Rattle.theory_lists.specs.Parity.{differ}
+use Rattle.theory_numbers.proofs.LowestTerms.{lowest_is_reduced, reduced-lowest, reduced-multiple}
+use Rattle.theory_numbers.proofs.LowestTerms.{reduced-one}
+use Rattle.theory_numbers.proofs.Shapes.{var, num, plus, minus, times, equal}
+use Rattle.theory_numbers.proofs.Ring.{one-mul}
 use Rattle.theory_plane.specs.Sides.{LineSide}
 use Rattle.theory_plane.specs.Regions.{is_region}
-use Rattle.theory_lists.specs.Parity.{differ}
-use Rattle.theory_numbers.proofs.Signs.{less_from, same_less}
-use Rattle.theory_numbers.proofs.Shapes.{var, num, plus, minus, times, equal}
-use Rattle.theory_numbers.proofs.Ring.{mul-one, one-mul}
+use Rattle.sb_fraction.specs.declared.point.Point.{Point}
+use Rattle.sb_fraction.specs.Bounds.{is_fraction, is_in_bounds}
+use Rattle.sb_fraction.specs.Edges.{Edge, edge}
+use Rattle.sb_fraction.specs.Directions.{runs_along, direction_of, offset_of, axis_x, axis_y}
+use Rattle.theory_plans.proofs.DirectionsAlongAxes.{headed_along_x, headed_along_y}
 use Rattle.sb_model.specs.declared.corner.Corner.{Corner}
 use Rattle.sb_model.specs.declared.face.Side.{Side}
-use Rattle.sb_model.specs.Spots.{Vector, vector, opposite}
-use Rattle.sb_model.specs.Plan.{Edge, edge}
-use Rattle.sb_model.specs.Sides.{line_of, is_abscissa_size, is_side_of, region_between}
 use Rattle.sb_model.specs.declared.patch.Patch.{Patch}
-use Rattle.sb_model.specs.Faces.{step, runs_along, direction_of, offset_of}
-use Rattle.sb_model.specs.Corners.{level_corner, side_corner, whole, is_level_side}
-use Rattle.sb_model.specs.Corners.{is_straight_edge}
+use Rattle.sb_model.specs.Sides.{line_of, is_abscissa_size, is_side_of, region_between}
+use Rattle.sb_model.specs.Corners.{level_corner, side_corner, is_level_side, is_straight_edge}
 
 abbrev corner : Ratio → Ratio → Ratio → Corner
 corner x y z = record { x = x; y = y; z = z }
 
+is_in_lowest_terms : (u : Ratio) → IsTrue (is_fraction u) → IsTrue (is_lowest u)
+is_in_lowest_terms u fraction = (and_parts (is_lowest u) (is_in_bounds u) fraction).0
+
 -- the denominator of a fraction in lowest terms is positive
 den_is_positive : (u : Ratio) → IsTrue (is_fraction u) → pos 0 <ℤ u.den
-den_is_positive u lowest =
-    let sizes = and_parts (is_lowest u) (is_within u) lowest in
-    less_from _ _ (and_parts (int_lt (pos 0) u.den)
-    (are_coprime (unsigned_abs u.num) (unsigned_abs u.den)) sizes.0).0
-
--- a number divided by its size is its sign
-divided_by_size : (z : ℤ) → (z ≡ pos 0 → ⊥)
-    → divided z (unsigned_abs z) ≡ (if int_lt (pos 0) z then pos 1 else negsuc 0)
-divided_by_size (pos zero) other = absurd (other refl)
-divided_by_size (pos (suc n)) other =
-    rw (div_self {n = suc n} (omega arith), lt-ltb 0 (suc n) (omega arith)) refl
-divided_by_size (negsuc n) other = rw (div_self {n = suc n} (omega arith)) refl
-
--- the fraction z/1
-pub reduced-one : (z : ℤ) → reduced z (pos 1) ≡ whole z
-reduced-one z = ap (λ n. reduced n (pos 1)) (sym (mul-one z))
-    ∙ reduced-multiple z (pos 1) (omega (arith, ints))
+den_is_positive u fraction = (lowest_is_reduced u (is_in_lowest_terms u fraction)).positive
 
 -- a fraction whose numerator is a multiple of its denominator, and one in lowest terms
 reduced_to_whole : (num scale : ℤ) (o d : ℤ) → pos 0 <ℤ d → num ≡ o *ℤ d → scale ≡ d
@@ -60,7 +42,8 @@ reduced_to_whole num scale o d positive en es = rw (en, es) (reduced-multiple o 
 
 reduced_to : (num scale : ℤ) (u : Ratio) → IsTrue (is_fraction u) → num ≡ u.num → scale ≡ u.den
     → reduced num scale ≡ u
-reduced_to num scale u lowest en es = rw (en, es) (reduced-lowest u lowest)
+reduced_to num scale u lowest en es =
+    rw (en, es) (reduced-lowest u (is_in_lowest_terms u lowest))
 
 -- the value of a line of direction (1, 0)
 level_value : (u : Ratio) (l : LineSide) → pos 0 <ℤ u.den → l.dx ≡ pos 1 → l.dy ≡ pos 0
@@ -86,106 +69,15 @@ level_corner_is z u side lowest along_x =
     ap (λ y. corner u y (whole z)) (sym (level_value u (line_of side)
     (den_is_positive u lowest) dx dy))
 
-same_from : (a b : ℤ) → b -ℤ a ≡ pos 0 → a ≡ b
-same_from a b none = omega (arith, ints)
-
-no_difference : (a b : ℤ) → a ≡ b → b -ℤ a ≡ pos 0
-no_difference a b same = omega (arith, ints)
-
-less_is_difference : (a b : ℤ) → int_lt (pos 0) (b -ℤ a) ≡ int_lt a b
-less_is_difference a b =
-    same_less (pos 0) (b -ℤ a) a b (λ less. omega (arith, ints)) (λ less. omega (arith, ints))
-
-same_vector : {x y x' y' : ℤ} → x ≡ x' → y ≡ y' → vector x y (pos 0) ≡ vector x' y' (pos 0)
-same_vector {x} {y} {x'} {y'} ex ey = ap (λ t. vector t y (pos 0)) ex
-    ∙ ap (λ t. vector x' t (pos 0)) ey
-
 same_corner : {x y x' y' : Ratio} (z : Ratio) → x ≡ x' → y ≡ y' → corner x y z ≡ corner x' y' z
 same_corner {x} {y} {x'} {y'} z ex ey = ap (λ t. corner t y z) ex ∙ ap (λ t. corner x' t z) ey
 
-abbrev sign : ℤ → ℤ
-sign z = if int_lt (pos 0) z then pos 1 else negsuc 0
-
--- the step along x and the step along y
-step_along_x : (x y : ℤ) → (x ≡ pos 0 → ⊥) → y ≡ pos 0
-    → (divided x (greatest_divisor (unsigned_abs x) (unsigned_abs y)) ≡ sign x)
-    × (divided y (greatest_divisor (unsigned_abs x) (unsigned_abs y)) ≡ pos 0)
-step_along_x x y other none =
-    rw (none, greatest_divisor-zero (unsigned_abs x))
-    (divided_by_size x other, ap pos (zero-div (unsigned_abs x)))
-
-step_along_y : (x y : ℤ) → x ≡ pos 0 → (y ≡ pos 0 → ⊥)
-    → (divided x (greatest_divisor (unsigned_abs x) (unsigned_abs y)) ≡ pos 0)
-    × (divided y (greatest_divisor (unsigned_abs x) (unsigned_abs y)) ≡ sign y)
-step_along_y x y none other =
-    rw (none, zero-greatest_divisor (unsigned_abs y))
-    (ap pos (zero-div (unsigned_abs y)), divided_by_size y other)
-
-level_step : (e : Edge) → e.a.y ≡ e.b.y → (e.a.x ≡ e.b.x → ⊥)
-    → step e ≡ vector (sign (e.b.x -ℤ e.a.x)) (pos 0) (pos 0)
-unfolding step
-level_step e level other =
-    let parts = step_along_x (e.b.x -ℤ e.a.x) (e.b.y -ℤ e.a.y)
-    (λ none. other (same_from _ _ none)) (no_difference _ _ level) in
-    same_vector parts.0 parts.1
-
-upright_step : (e : Edge) → e.a.x ≡ e.b.x → (e.a.y ≡ e.b.y → ⊥)
-    → step e ≡ vector (pos 0) (sign (e.b.y -ℤ e.a.y)) (pos 0)
-unfolding step
-upright_step e upright other =
-    let parts = step_along_y (e.b.x -ℤ e.a.x) (e.b.y -ℤ e.a.y)
-    (no_difference _ _ upright) (λ none. other (same_from _ _ none)) in
-    same_vector parts.0 parts.1
-
--- what an edge with this step is
-headed : (e : Edge) (v : Vector) → step e ≡ v
-    → (runs_along e ≡ is_forward v.x v.y)
-    × (direction_of e ≡ (if is_forward v.x v.y then v else opposite v))
-unfolding runs_along direction_of
-headed e v is = rw is (refl, refl)
-
-signed_along_x : (b : Bool)
-    → (is_forward (if b then pos 1 else negsuc 0) (pos 0) ≡ b)
-    × ((if is_forward (if b then pos 1 else negsuc 0) (pos 0)
-    then vector (if b then pos 1 else negsuc 0) (pos 0) (pos 0)
-    else opposite (vector (if b then pos 1 else negsuc 0) (pos 0) (pos 0)))
-    ≡ vector (pos 1) (pos 0) (pos 0))
-signed_along_x true = (refl, refl)
-signed_along_x false = (refl, refl)
-
-signed_along_y : (b : Bool)
-    → (is_forward (pos 0) (if b then pos 1 else negsuc 0) ≡ b)
-    × ((if is_forward (pos 0) (if b then pos 1 else negsuc 0)
-    then vector (pos 0) (if b then pos 1 else negsuc 0) (pos 0)
-    else opposite (vector (pos 0) (if b then pos 1 else negsuc 0) (pos 0)))
-    ≡ vector (pos 0) (pos 1) (pos 0))
-signed_along_y true = (refl, refl)
-signed_along_y false = (refl, refl)
-
--- the direction of an edge along x is (1, 0)
-level_direction : (e : Edge) → e.a.y ≡ e.b.y → (e.a.x ≡ e.b.x → ⊥)
-    → (runs_along e ≡ int_lt e.a.x e.b.x) × (direction_of e ≡ vector (pos 1) (pos 0) (pos 0))
-level_direction e level other =
-    let heading = headed e (vector (sign (e.b.x -ℤ e.a.x)) (pos 0) (pos 0))
-    (level_step e level other) in
-    let signs = signed_along_x (int_lt (pos 0) (e.b.x -ℤ e.a.x)) in
-    (heading.0 ∙ signs.0 ∙ less_is_difference e.a.x e.b.x, heading.1 ∙ signs.1)
-
--- the direction of an edge along y is (0, 1)
-upright_direction : (e : Edge) → e.a.x ≡ e.b.x → (e.a.y ≡ e.b.y → ⊥)
-    → (runs_along e ≡ int_lt e.a.y e.b.y) × (direction_of e ≡ vector (pos 0) (pos 1) (pos 0))
-upright_direction e upright other =
-    let heading = headed e (vector (pos 0) (sign (e.b.y -ℤ e.a.y)) (pos 0))
-    (upright_step e upright other) in
-    let signs = signed_along_y (int_lt (pos 0) (e.b.y -ℤ e.a.y)) in
-    (heading.0 ∙ signs.0 ∙ less_is_difference e.a.y e.b.y, heading.1 ∙ signs.1)
-
 -- the point of a side along x
-level_side_corner : (e : Edge) (u : Ratio) (z : ℤ) → IsTrue (is_fraction u)
-    → direction_of e ≡ vector (pos 1) (pos 0) (pos 0)
+corner_along_x : (e : Edge) (u : Ratio) (z : ℤ) → IsTrue (is_fraction u)
+    → direction_of e ≡ axis_x
     → corner u (whole e.a.y) (whole z) ≡ side_corner e u z
 unfolding side_corner offset_of
-level_side_corner e u z lowest d =
+corner_along_x e u z lowest d =
     rw d (same_corner (whole z)
     (sym (reduced_to _ _ u lowest
     (along u.num (((e.a.y *ℤ pos 1) -ℤ (e.a.x *ℤ pos 0)) *ℤ u.den)) (one-mul u.den)))
@@ -204,11 +96,11 @@ level_side_corner e u z lowest d =
         (times (var y) (var d)) (omega arith)
 
 -- the point of a side along y
-upright_side_corner : (e : Edge) (u : Ratio) (z : ℤ) → IsTrue (is_fraction u)
-    → direction_of e ≡ vector (pos 0) (pos 1) (pos 0)
+corner_along_y : (e : Edge) (u : Ratio) (z : ℤ) → IsTrue (is_fraction u)
+    → direction_of e ≡ axis_y
     → corner (whole e.a.x) u (whole z) ≡ side_corner e u z
 unfolding side_corner offset_of
-upright_side_corner e u z lowest d =
+corner_along_y e u z lowest d =
     rw d (same_corner (whole z)
     (sym (reduced_to_whole _ _ e.a.x u.den (den_is_positive u lowest)
     (across u.num e.a.y e.a.x u.den) (one-mul u.den)))
@@ -235,9 +127,11 @@ ends_are_fractions p =
     let both = and_parts (is_abscissa_size p.low) (is_abscissa_size p.high) sizes.0 in
     ((and_parts (is_fraction p.low) _ both.0).0, (and_parts (is_fraction p.high) _ both.1).0)
 
+-- the low end
 pub low_is_fraction : (p : Patch) → is_fraction p.low ≡ true
 low_is_fraction p = (ends_are_fractions p).0
 
+-- and the high end
 pub high_is_fraction : (p : Patch) → is_fraction p.high ≡ true
 high_is_fraction p = (ends_are_fractions p).1
 
@@ -247,59 +141,64 @@ differ_by true false straight = refl
 differ_by false true straight = refl
 differ_by false false straight = straight
 
--- what the test of an edge says where it is level, and where it is not
-level_tells : (e : Edge) → IsTrue (is_straight_edge (Some e)) → e.a.y ≡ e.b.y → e.a.x ≡ e.b.x → ⊥
-level_tells e straight level same =
+-- what the test of an edge says where its ends have one y, and where they do not
+other_x : (e : Edge) → IsTrue (is_straight_edge (Some e)) → e.a.y ≡ e.b.y → e.a.x ≡ e.b.x → ⊥
+other_x e straight level same =
     false≢true
     (sym (differ_by (int_eq e.a.x e.b.x) (int_eq e.a.y e.b.y) straight
     ∙ ap not ((Decides-int_eq e.a.y e.b.y).1 level))
     ∙ (Decides-int_eq e.a.x e.b.x).1 same)
 
-upright_tells : (e : Edge) → IsTrue (is_straight_edge (Some e)) → (e.a.y ≡ e.b.y → ⊥) → e.a.x
+same_x : (e : Edge) → IsTrue (is_straight_edge (Some e)) → (e.a.y ≡ e.b.y → ⊥) → e.a.x
     ≡ e.b.x
-upright_tells e straight other =
+same_x e straight other =
     (Decides-int_eq e.a.x e.b.x).0
     (differ_by (int_eq e.a.x e.b.x) (int_eq e.a.y e.b.y) straight
     ∙ ap not (false_from_ne_true (int_eq e.a.y e.b.y)
     (λ level. other ((Decides-int_eq e.a.y e.b.y).0 level))))
 
-is_level : (e : Edge) → int_eq e.a.y e.b.y ≡ true → e.a.y ≡ e.b.y
-is_level e = (Decides-int_eq e.a.y e.b.y).0
+same_y : (e : Edge) → int_eq e.a.y e.b.y ≡ true → e.a.y ≡ e.b.y
+same_y e = (Decides-int_eq e.a.y e.b.y).0
 
-is_not_level : (e : Edge) → int_eq e.a.y e.b.y ≡ false → e.a.y ≡ e.b.y → ⊥
-is_not_level e other level = false≢true (sym other ∙ (Decides-int_eq e.a.y e.b.y).1 level)
+other_y : (e : Edge) → int_eq e.a.y e.b.y ≡ false → e.a.y ≡ e.b.y → ⊥
+other_y e other level = false≢true (sym other ∙ (Decides-int_eq e.a.y e.b.y).1 level)
 
--- the point of the side over an edge along x, and over one along y
+-- the point of the side over an edge along x
 pub point_along_x : (a b : Point) (u : Ratio) (z : ℤ) → IsTrue (is_fraction u)
     → IsTrue (is_straight_edge (Some (edge a b))) → int_eq a.y b.y ≡ true
     → corner u (whole a.y) (whole z) ≡ side_corner (edge a b) u z
 point_along_x a b u z lowest straight test =
-    let level = is_level (edge a b) test in
-    level_side_corner (edge a b) u z lowest
-    (level_direction (edge a b) level (level_tells (edge a b) straight level)).1
+    let level = same_y (edge a b) test in
+    corner_along_x (edge a b) u z lowest
+    (headed_along_x (edge a b) level (other_x (edge a b) straight level)).direction_is
 
+-- and over one along y
 pub point_along_y : (a b : Point) (u : Ratio) (z : ℤ) → IsTrue (is_fraction u)
     → IsTrue (is_straight_edge (Some (edge a b))) → int_eq a.y b.y ≡ false
     → corner (whole a.x) u (whole z) ≡ side_corner (edge a b) u z
 point_along_y a b u z lowest straight test =
-    let other = is_not_level (edge a b) test in
-    upright_side_corner (edge a b) u z lowest
-    (upright_direction (edge a b) (upright_tells (edge a b) straight other) other).1
+    let other = other_y (edge a b) test in
+    corner_along_y (edge a b) u z lowest
+    (headed_along_y (edge a b) (same_x (edge a b) straight other) other).direction_is
 
--- which way an edge along x runs, and one along y
+-- which way an edge along x runs
 pub runs_along_x : (a b : Point) → IsTrue (is_straight_edge (Some (edge a b))) → int_eq a.y b.y
     ≡ true
     → int_lt a.x b.x ≡ runs_along (edge a b)
 runs_along_x a b straight test =
-    let level = is_level (edge a b) test in
-    sym (level_direction (edge a b) level (level_tells (edge a b) straight level)).0
+    let level = same_y (edge a b) test in
+    sym (headed_along_x (edge a b) level (other_x (edge a b) straight level)).runs_is
 
+-- and one along y
 pub runs_along_y : (a b : Point) → IsTrue (is_straight_edge (Some (edge a b))) → int_eq a.y b.y
     ≡ false
     → int_lt a.y b.y ≡ runs_along (edge a b)
 runs_along_y a b straight test =
-    let other = is_not_level (edge a b) test in
-    sym (upright_direction (edge a b) (upright_tells (edge a b) straight other) other).0
+    let other = other_y (edge a b) test in
+    sym (headed_along_y (edge a b) (same_x (edge a b) straight other) other).runs_is
 
 -- for the bodies that make whole numbers and points of level faces
 pub ruleset corner_rules = (to_z-of_z, reduced-one, level_corner_is)
+
+-- for the bodies that pass on the ends of a patch
+pub ruleset end_rules = (low_is_fraction, high_is_fraction)

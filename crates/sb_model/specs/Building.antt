@@ -1,11 +1,11 @@
 -- What contracts see of a model, and what holds of every model.
 
 use Rattle.std.specs.Prelude.{ℕ, ℤ, Bool, true, false, not, ◌&&◌, ◌||◌, ◌==◌, ◌^◌, List, [], ◌∷◌}
-use Rattle.std.specs.Prelude.{length, nat_le, nat_lt, nat_eq}
-use Rattle.std.specs.Prelude.{unsigned_abs, pos, if◌then◌else◌, Option, Some, None, is_none}
+use Rattle.std.specs.Prelude.{length, nat_le, nat_lt, nat_eq, unsigned_abs, pos, if◌then◌else◌}
+use Rattle.std.specs.Prelude.{Option, Some, None, is_none}
 use Rattle.std.specs.Ordering.{int_eq}
 use Rattle.std.specs.List.{list_all, list_any, find}
-use Rattle.sb_fraction.specs.Divisors.{are_coprime}
+use Rattle.theory_numbers.specs.Divisors.{are_coprime}
 use Rattle.sb_fraction.specs.declared.unit.Unit as unit
 use Rattle.sb_model.specs.declared.layers.Axis.{Axis}
 use Rattle.sb_model.specs.declared.layers.Layer.{Layer}
@@ -15,12 +15,12 @@ use Rattle.sb_model.specs.declared.products.Space.{Space}
 use Rattle.sb_model.specs.declared.products.Element.{Element}
 use Rattle.sb_model.specs.declared.products.Opening.{Opening}
 use Rattle.sb_model.specs.declared.products.Filling.{Filling}
-use Rattle.sb_model.specs.Loops.{is_coordinate}
+use Rattle.sb_fraction.specs.Plane.{is_coordinate, longest_step}
 
 -- a model: the products of a building, the height of its ground and the reach of its walks
 pub record Building : Type 0 where
   pub unit : unit.Unit
-  pub level : ℤ
+  pub ground_height : ℤ
   pub reach : ℕ
   pub spaces : List Space
   pub elements : List Element
@@ -29,9 +29,9 @@ pub record Building : Type 0 where
 
 abbrev pub building : unit.Unit → ℤ → ℕ → List Space → List Element → List Opening → List Filling
     → Building
-building unit level reach spaces elements openings fillings = record {
+building unit ground_height reach spaces elements openings fillings = record {
   unit = unit;
-  level = level;
+  ground_height = ground_height;
   reach = reach;
   spaces = spaces;
   elements = elements;
@@ -39,25 +39,41 @@ building unit level reach spaces elements openings fillings = record {
   fillings = fillings;
 }
 
+-- the greatest reach of walks, in millimetres
+abbrev pub greatest_reach : ℕ
+greatest_reach = 5000
+
+-- the greatest size of a coordinate of a frame's shift, in nanometres
+abbrev pub greatest_shift : ℕ
+greatest_shift = 10 ^ 12
+
+-- the greatest nominal thickness of a layer, in micrometres
+abbrev pub greatest_thickness : ℕ
+greatest_thickness = 10000000
+
+-- how many layers an element has at most
+abbrev pub most_layers : ℕ
+most_layers = 64
+
 -- the ground's height is within 500,000 mm
-abbrev pub is_level : ℤ → Bool
-is_level z = is_coordinate z
+abbrev pub is_ground_height : ℤ → Bool
+is_ground_height z = is_coordinate z
 
 -- the reach is from 1 to 5,000 mm
 abbrev pub is_reach : ℕ → Bool
-is_reach reach = nat_le 1 reach && nat_le reach 5000
+is_reach reach = nat_le 1 reach && nat_le reach greatest_reach
 
 -- each coordinate of a frame's shift is at most 10^12 nm in size
 abbrev pub is_shift : List ℤ → Bool
-is_shift shift = list_all (λ z. nat_le (unsigned_abs z) (10 ^ 12)) shift
+is_shift shift = list_all (λ z. nat_le (unsigned_abs z) greatest_shift) shift
 
 -- (x, y, 0) without common divisor, x and y at most 10^6 in size
 abbrev pub is_level_axis : Axis → Bool
 is_level_axis a =
     int_eq a.z (pos 0)
     && are_coprime (unsigned_abs a.x) (unsigned_abs a.y)
-    && nat_le (unsigned_abs a.x) 1000000
-    && nat_le (unsigned_abs a.y) 1000000
+    && nat_le (unsigned_abs a.x) longest_step
+    && nat_le (unsigned_abs a.y) longest_step
 
 -- (0, 0, 1) or (0, 0, -1)
 abbrev pub is_upright_axis : Axis → Bool
@@ -67,7 +83,8 @@ is_upright_axis a = int_eq a.x (pos 0) && int_eq a.y (pos 0) && nat_eq (unsigned
 abbrev pub are_layers : ℕ → List Layer → Bool
 are_layers before [] = true
 are_layers before (l ∷ ls) =
-    nat_lt before l.index && nat_le 1 l.micro && nat_le l.micro 10000000 && are_layers l.index ls
+    nat_lt before l.index && nat_le 1 l.micro && nat_le l.micro greatest_thickness
+    && are_layers l.index ls
 
 -- from 1 to 64 layers along a level or an upright axis
 abbrev pub is_layering : Layering → Bool
@@ -75,14 +92,14 @@ is_layering Plain = true
 is_layering (Single material) = true
 is_layering (Layered layers axis) =
     nat_le 1 (length layers)
-    && nat_le (length layers) 64
+    && nat_le (length layers) most_layers
     && are_layers 0 layers
     && (is_level_axis axis || is_upright_axis axis)
 
 -- the ground, the reach, the frames and the layers are in their ranges
 abbrev pub is_in_range : Building → Bool
 is_in_range m =
-    is_level m.level
+    is_ground_height m.ground_height
     && is_reach m.reach
     && list_all (λ s. is_shift s.frame.shift) m.spaces
     && list_all (λ e. is_layering e.layering) m.elements

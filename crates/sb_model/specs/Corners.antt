@@ -3,7 +3,7 @@
 use Rattle.std.specs.Prelude.{ℤ, pos, ◌+ℤ◌, ◌-ℤ◌, ◌*ℤ◌, Bool, true, false, ◌&&◌, Option, Some, None}
 use Rattle.std.specs.Prelude.{if◌then◌else◌}
 use Rattle.std.specs.Ordering.{int_eq}
-use Rattle.sb_fraction.specs.Ratio.{Ratio, reduced}
+use Rattle.theory_numbers.specs.Fractions.{Ratio, reduced, whole}
 use Rattle.theory_lists.specs.Parity.{differ}
 use Rattle.theory_plane.specs.Sides.{LineSide}
 use Rattle.sb_model.specs.declared.corner.Corner.{Corner}
@@ -14,15 +14,12 @@ use Rattle.sb_model.specs.declared.face.FaceKind.TheVariants as kind
 use Rattle.sb_model.specs.declared.face.Side.{Side}
 use Rattle.sb_model.specs.declared.patch.Patch.{Patch}
 use Rattle.sb_model.specs.declared.products.Space.{Space}
-use Rattle.sb_model.specs.Spots.{inner}
-use Rattle.sb_model.specs.Plan.{Edge}
+use Rattle.sb_fraction.specs.Spots.{inner}
+use Rattle.sb_fraction.specs.Edges.{Edge}
 use Rattle.sb_model.specs.Sides.{line_of}
 use Rattle.sb_model.specs.Building.{Building}
-use Rattle.sb_model.specs.Faces.{direction_of, runs_along, offset_of, edge_numbered, space_numbered}
-
--- a whole number as a fraction
-abbrev pub whole : ℤ → Ratio
-whole z = record { num = z; den = pos 1 }
+use Rattle.sb_model.specs.Faces.{edge_numbered, space_numbered}
+use Rattle.sb_fraction.specs.Directions.{direction_of, runs_along, offset_of}
 
 -- the point of a level face at the height z and at u, on this line
 unfoldable pub level_corner : ℤ → Ratio → LineSide → Corner

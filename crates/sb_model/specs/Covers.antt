@@ -5,7 +5,7 @@ use Rattle.std.specs.Prelude.{◌≡◌, Bool, ◌&&◌, List, Some, IsTrue}
 use Rattle.sb_model.specs.declared.boundary.Boundary.{Boundary}
 use Rattle.sb_model.specs.declared.face.FaceKind.{FaceKind}
 use Rattle.sb_model.specs.declared.products.Space.{Space}
-use Rattle.sb_model.specs.Spots.{Spot, IsSpot}
+use Rattle.sb_fraction.specs.Spots.{Spot, IsSpot}
 use Rattle.sb_model.specs.Building.{Building}
 use Rattle.sb_model.specs.Faces.{Surface, surface_of, is_in_plane, is_of_face, is_face_of}
 use Rattle.sb_model.specs.PlainPoints.{is_plain}

@@ -1,47 +1,21 @@
 -- The faces of spaces: the coordinates u and v, the outward normal and its unit.
 
-use Rattle.std.specs.Prelude.{ℕ, ℤ, pos, neg_ℤ, ◌+ℤ◌, ◌-ℤ◌, ◌*ℤ◌, ◌==◌, Bool, false, ◌&&◌, Option}
-use Rattle.std.specs.Prelude.{Some, None, unsigned_abs, slice_get, is_some}
-use Rattle.std.specs.Prelude.{if◌then◌else◌}
+use Rattle.std.specs.Prelude.{ℕ, ℤ, neg_ℤ, ◌+ℤ◌, ◌*ℤ◌, ◌==◌, Bool, false, ◌&&◌, Option, Some, None}
+use Rattle.std.specs.Prelude.{slice_get, is_some}
 use Rattle.std.specs.Ordering.{int_eq}
 use Rattle.std.specs.List.{find}
-use Rattle.sb_fraction.specs.Divisors.{greatest_divisor}
-use Rattle.sb_fraction.specs.Plane.{is_forward}
-use Rattle.sb_fraction.specs.Ratio.{divided}
 use Rattle.theory_plane.specs.Points.{FacePoint, face_point}
+use Rattle.sb_fraction.specs.Spots.{Vector, inner, opposite, Spot, times_w}
+use Rattle.sb_fraction.specs.Edges.{Edge, is_on}
+use Rattle.sb_fraction.specs.Directions.{axis_x, axis_y, axis_z, direction_of, normal_over}
+use Rattle.theory_plans.specs.LoopEdges.{edges_of}
+use Rattle.theory_plans.specs.Inside.{is_in_plan}
 use Rattle.sb_model.specs.declared.face.Face.{Face}
 use Rattle.sb_model.specs.declared.face.FaceKind.{FaceKind}
 use Rattle.sb_model.specs.declared.face.FaceKind.TheVariants as kind
 use Rattle.sb_model.specs.declared.products.Space.{Space}
-use Rattle.sb_model.specs.Spots.{Vector, vector, inner, opposite, Spot}
-use Rattle.sb_model.specs.Plan.{Edge, edges_of, is_on, is_in_plan}
 use Rattle.sb_model.specs.Solids.{Upright, is_between_heights}
 use Rattle.sb_model.specs.Building.{Building}
-
--- the step of an edge: from a to b without common divisor
-unfoldable pub step : Edge → Vector
-step e =
-    let x = e.b.x -ℤ e.a.x in
-    let y = e.b.y -ℤ e.a.y in
-    let common = greatest_divisor (unsigned_abs x) (unsigned_abs y) in
-    vector (divided x common) (divided y common) (pos 0)
-
--- the edge runs along its direction, and not against it
-unfoldable pub runs_along : Edge → Bool
-runs_along e = is_forward (step e).x (step e).y
-
--- the direction of an edge: its step or the opposite of it, whichever has x > 0 or is (0, 1)
-unfoldable pub direction_of : Edge → Vector
-direction_of e = if runs_along e then step e else opposite (step e)
-
--- the outward normal of the face over an edge, which has the solid on its left: (dy, -dx, 0) where
--- it runs along its direction, (-dy, dx, 0) where it runs against it
-unfoldable pub normal_over : Edge → Vector
-normal_over e = vector (step e).y (neg_ℤ (step e).x) (pos 0)
-
--- the offset p·(-dy, dx) of the line that an edge lies on
-unfoldable pub offset_of : Edge → ℤ
-offset_of e = (e.a.y *ℤ (direction_of e).x) -ℤ (e.a.x *ℤ (direction_of e).y)
 
 -- a face of a space: u is read along `across`, v along `up`, and all points have the same
 -- `position` p·n along the outward normal
@@ -50,15 +24,6 @@ pub record Surface : Type 0 where
   pub up : Vector
   pub normal : Vector
   pub position : ℤ
-
-abbrev pub axis_x : Vector
-axis_x = vector (pos 1) (pos 0) (pos 0)
-
-abbrev pub axis_y : Vector
-axis_y = vector (pos 0) (pos 1) (pos 0)
-
-abbrev pub axis_z : Vector
-axis_z = vector (pos 0) (pos 0) (pos 1)
 
 -- the face below a space: u is x, v is y
 abbrev pub bottom_of : Upright → Surface
@@ -99,10 +64,6 @@ surface_of s (kind.Side k) = side_of (edge_numbered s k)
 -- the unit of a face, n·n: 1 for Bottom, Top and sides along x or y
 abbrev pub unit_of : Surface → ℤ
 unit_of f = inner f.normal f.normal
-
--- the inner product of a point and a vector, w times
-abbrev pub times_w : Spot → Vector → ℤ
-times_w p n = ((p.x *ℤ n.x) +ℤ (p.y *ℤ n.y)) +ℤ (p.z *ℤ n.z)
 
 -- the point (u, v) of a face
 abbrev pub on_face : Surface → Spot → FacePoint

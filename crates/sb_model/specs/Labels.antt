@@ -1,8 +1,7 @@
 -- What is at a point: a space, an element with its layer, the earth or nothing.
 
 use Rattle.std.specs.Prelude.{ℕ, ℤ, pos, ◌+◌, ◌+ℤ◌, ◌-ℤ◌, ◌*ℤ◌, Bool, ◌&&◌, nat_le, int_lt, int_le}
-use Rattle.std.specs.Prelude.{List, [], ◌∷◌, ◌++◌, Option, Some, None}
-use Rattle.std.specs.Prelude.{if◌then◌else◌}
+use Rattle.std.specs.Prelude.{List, [], ◌∷◌, ◌++◌, Option, Some, None, if◌then◌else◌}
 use Rattle.std.specs.List.{fold}
 use Rattle.std.specs.Int.{int_min, int_max}
 use Rattle.sb_fraction.specs.declared.point.Point.{Point}
@@ -14,7 +13,8 @@ use Rattle.sb_model.specs.declared.layers.Layering.{Layering}
 use Rattle.sb_model.specs.declared.layers.Layering.TheVariants.{Plain, Single, Layered}
 use Rattle.sb_model.specs.declared.products.Space.{Space}
 use Rattle.sb_model.specs.declared.products.Element.{Element}
-use Rattle.sb_model.specs.Spots.{Spot, Vector, vector}
+use Rattle.sb_fraction.specs.Spots.{Spot, Vector, vector, times_w}
+use Rattle.sb_fraction.specs.Crossings.{abscissa_at}
 use Rattle.sb_model.specs.Solids.{Upright, is_in_solid}
 use Rattle.sb_model.specs.Building.{Building}
 
@@ -36,7 +36,7 @@ axis_vector a = vector a.x a.y a.z
 -- p·n for the corners of a prism over one plan point
 abbrev pub readings_over : Upright → Vector → Point → List ℤ
 readings_over s n p =
-    let plan = (p.x *ℤ n.x) +ℤ (p.y *ℤ n.y) in
+    let plan = abscissa_at p n in
     (plan +ℤ (s.z0 *ℤ n.z)) ∷ (plan +ℤ (s.z1 *ℤ n.z)) ∷ []
 
 abbrev pub readings_in : Upright → Vector → List Point → List ℤ
@@ -90,8 +90,7 @@ layer_at s (Single material) p = 0
 layer_at s (Layered layers axis) p =
     let n = axis_vector axis in
     let low = low_along s n in
-    let reading = ((p.x *ℤ n.x) +ℤ (p.y *ℤ n.y)) +ℤ (p.z *ℤ n.z) in
-    layer_from ((reading -ℤ (low *ℤ p.w)) *ℤ pos (total_of layers))
+    layer_from ((times_w p n -ℤ (low *ℤ p.w)) *ℤ pos (total_of layers))
     ((high_along s n -ℤ low) *ℤ p.w) 0 layers
 
 abbrev pub space_at : Building → Spot → Option Space
@@ -102,14 +101,14 @@ element_at m p = lowest (λ e. e.number) (λ e. is_in_solid e.prism p) m.element
 
 -- earth below the ground, else nothing
 abbrev pub open_label : ℤ → Spot → Label
-open_label level p = if int_lt p.z (level *ℤ p.w) then label.Earth else label.Void
+open_label ground_height p = if int_lt p.z (ground_height *ℤ p.w) then label.Earth else label.Void
 
 abbrev pub element_label : ℤ → Spot → Option Element → Label
-element_label level p None = open_label level p
-element_label level p (Some e) = label.Element e.number (layer_at e.prism e.layering p)
+element_label ground_height p None = open_label ground_height p
+element_label ground_height p (Some e) = label.Element e.number (layer_at e.prism e.layering p)
 
 abbrev pub space_label : Building → Spot → Option Space → Label
-space_label m p None = element_label m.level p (element_at m p)
+space_label m p None = element_label m.ground_height p (element_at m p)
 space_label m p (Some s) = label.Space s.number
 
 -- the label of a point, the first that applies: the lowest-numbered space that contains it; the

@@ -1,8 +1,5 @@
 -- What is true of models, points, walks, patches and lists of boundaries, in reading order.
-pub mod Spots
 pub mod Turns
-pub mod Loops
-pub mod Plan
 pub mod Solids
 pub mod Sides
 pub mod Building

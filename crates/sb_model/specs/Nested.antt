@@ -5,7 +5,7 @@ use Rattle.theory_plane.specs.Points.{FacePoint, IsFacePoint}
 use Rattle.theory_plane.specs.Regions.{is_inside}
 use Rattle.sb_model.specs.declared.boundary.Boundary.{Boundary}
 use Rattle.sb_model.specs.declared.products.Space.{Space}
-use Rattle.sb_model.specs.Spots.{Spot, IsSpot}
+use Rattle.sb_fraction.specs.Spots.{Spot, IsSpot}
 use Rattle.sb_model.specs.Building.{Building}
 use Rattle.sb_model.specs.Faces.{Surface, surface_of, space_numbered}
 use Rattle.sb_model.specs.PlainPoints.{is_plain}

@@ -11,7 +11,7 @@ use Rattle.sb_model.specs.declared.products.Filling.{Filling}
 use Rattle.sb_model.specs.declared.products.Opening.{Opening}
 use Rattle.sb_model.specs.declared.walk.End.{End}
 use Rattle.sb_model.specs.declared.walk.End.TheVariants as end
-use Rattle.sb_model.specs.Spots.{Spot}
+use Rattle.sb_fraction.specs.Spots.{Spot}
 use Rattle.sb_model.specs.Solids.{is_in_solid}
 use Rattle.sb_model.specs.Building.{Building, has_number}
 use Rattle.sb_model.specs.Labels.{lowest}

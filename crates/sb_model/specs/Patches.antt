@@ -8,7 +8,7 @@ use Rattle.sb_model.specs.declared.face.FaceKind.{FaceKind}
 use Rattle.sb_model.specs.declared.face.FaceKind.TheVariants as kind
 use Rattle.sb_model.specs.declared.patch.Patch.{Patch}
 use Rattle.sb_model.specs.declared.products.Space.{Space}
-use Rattle.sb_model.specs.Spots.{Spot}
+use Rattle.sb_fraction.specs.Spots.{Spot}
 use Rattle.sb_model.specs.Sides.{region_between}
 use Rattle.sb_model.specs.Building.{Building}
 use Rattle.sb_model.specs.Faces.{Surface, surface_of, on_face, space_numbered}
@@ -43,10 +43,10 @@ is_top_level b = is_none b.parent
 abbrev pub stands_on : ℕ → FaceKind → Boundary → Bool
 stands_on space k b = b.patch.face.space == space && is_same_kind b.patch.face.kind k
 
-abbrev pub is_number : ℕ → Option ℕ → Bool
-is_number i None = false
-is_number i (Some j) = i == j
+abbrev pub is_id : ℕ → Option ℕ → Bool
+is_id i None = false
+is_id i (Some j) = i == j
 
 -- the boundary is a child of the one with this id
 abbrev pub is_child_of : ℕ → Boundary → Bool
-is_child_of id b = is_number id b.parent
+is_child_of id b = is_id id b.parent

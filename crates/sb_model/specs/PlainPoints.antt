@@ -5,12 +5,13 @@ use Rattle.std.specs.Ordering.{int_eq}
 use Rattle.std.specs.List.{list_any}
 use Rattle.sb_model.specs.declared.face.FaceKind.{FaceKind}
 use Rattle.sb_model.specs.declared.face.FaceKind.TheVariants as kind
-use Rattle.sb_model.specs.Spots.{Spot, reading}
-use Rattle.sb_model.specs.Plan.{Edge, is_on}
+use Rattle.sb_fraction.specs.Spots.{Spot, reading}
+use Rattle.sb_fraction.specs.Edges.{Edge, is_on}
 use Rattle.sb_model.specs.Solids.{Upright}
 use Rattle.sb_model.specs.Building.{Building}
 use Rattle.sb_model.specs.PlanEdges.{plan_edges, products_of, is_abscissa}
-use Rattle.sb_model.specs.Faces.{axis_x, direction_of, edge_numbered, is_of_face}
+use Rattle.sb_model.specs.Faces.{edge_numbered, is_of_face}
+use Rattle.sb_fraction.specs.Directions.{axis_x, direction_of}
 
 -- p lies on a plan edge
 abbrev pub is_on_plan_edge : Building → Spot → Bool
@@ -23,7 +24,7 @@ is_at_height m p =
 
 -- p lies at the height of the ground
 abbrev pub is_at_ground : Building → Spot → Bool
-is_at_ground m p = int_eq p.z (m.level *ℤ p.w)
+is_at_ground m p = int_eq p.z (m.ground_height *ℤ p.w)
 
 -- off the cut lines of Bottom and Top: on no plan edge, and x is no abscissa of (1, 0)
 abbrev pub is_off_level_cuts : Building → Spot → Bool

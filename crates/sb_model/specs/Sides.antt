@@ -2,7 +2,8 @@
 
 use Rattle.std.specs.Prelude.{ℕ, pos, Bool, true, false, ◌&&◌, ◌*◌, ◌^◌, int_lt, nat_le}
 use Rattle.std.specs.Prelude.{unsigned_abs}
-use Rattle.sb_fraction.specs.Ratio.{Ratio, is_fraction}
+use Rattle.sb_fraction.specs.Bounds.{is_fraction}
+use Rattle.theory_numbers.specs.Fractions.{Ratio}
 use Rattle.theory_numbers.specs.Arrows.{Arrow}
 use Rattle.theory_numbers.specs.Rationals.{rational}
 use Rattle.theory_plane.specs.Sides.{LineSide, line, level}
@@ -42,11 +43,19 @@ is_side_of (kind.Side k) (OnLine l) = false
 is_side_of _ (Height h) = false
 is_side_of _ (OnLine l) = int_lt (pos 0) l.dir.x && nat_le (unsigned_abs l.off) greatest_offset
 
--- a reduced fraction within the bounds of abscissae, 2·10^24 over 2·10^12
+-- the greatest size of the numerator of an abscissa
+abbrev pub greatest_abscissa_num : ℕ
+greatest_abscissa_num = 2 * 10 ^ 24
+
+-- the greatest denominator of an abscissa
+abbrev pub greatest_abscissa_den : ℕ
+greatest_abscissa_den = 2 * 10 ^ 12
+
+-- a reduced fraction within the bounds of abscissae
 abbrev pub is_abscissa_size : Ratio → Bool
 is_abscissa_size u =
-    is_fraction u && (nat_le (unsigned_abs u.num) (2 * 10 ^ 24)
-    && nat_le (unsigned_abs u.den) (2 * 10 ^ 12))
+    is_fraction u && (nat_le (unsigned_abs u.num) greatest_abscissa_num
+    && nat_le (unsigned_abs u.den) greatest_abscissa_den)
 
 -- what holds of every patch: low < high, both within the bounds of abscissae, sides of the kind of
 -- its face, the lower nowhere above the upper, and the two meeting at one end at most

@@ -2,9 +2,10 @@
 
 use Rattle.std.specs.Prelude.{ℤ, Bool, ◌*ℤ◌, ◌&&◌, List, int_lt}
 use Rattle.sb_fraction.specs.declared.point.Point.{Point}
-use Rattle.sb_model.specs.Spots.{Spot}
-use Rattle.sb_model.specs.Loops.{is_coordinate, are_loops}
-use Rattle.sb_model.specs.Plan.{is_in_plan}
+use Rattle.sb_fraction.specs.Spots.{Spot}
+use Rattle.theory_plans.specs.Loops.{are_loops}
+use Rattle.sb_fraction.specs.Plane.{is_coordinate}
+use Rattle.theory_plans.specs.Inside.{is_in_plan}
 
 -- a plan between two heights
 pub record Upright : Type 0 where

@@ -1,9 +1,9 @@
 -- The turns by quarters: where they take the local x and z.
 
-use Rattle.std.specs.Prelude.{◌+◌, pos, Bool, ◌&&◌, nat_eq, unsigned_abs, if◌then◌else◌}
+use Rattle.std.specs.Prelude.{◌+◌, pos, Bool, ◌&&◌, nat_eq, unsigned_abs, if◌then◌else◌, Option}
+use Rattle.std.specs.Prelude.{Some, None}
 use Rattle.std.specs.Ordering.{int_eq}
-use Rattle.std.specs.Prelude.{Option, Some, None}
-use Rattle.sb_model.specs.Spots.{Vector, inner}
+use Rattle.sb_fraction.specs.Spots.{Vector, inner}
 
 -- a turn takes the local x to `x`, the local z to `z` and the local y to `z × x`
 pub record Quarter : Type 0 where

@@ -3,11 +3,10 @@
 
 use Rattle.std.specs.Prelude.{◌≡◌, ℕ, ℤ, zero, suc, pos, ◌+◌, ◌*◌, ◌==◌, ◌+ℤ◌, ◌-ℤ◌, ◌*ℤ◌, Bool}
 use Rattle.std.specs.Prelude.{true, false, not, ◌&&◌, ◌||◌, int_le, List, [], ◌∷◌, ◌++◌, Option}
-use Rattle.std.specs.Prelude.{Some, None, IsTrue}
-use Rattle.std.specs.Prelude.{if◌then◌else◌}
+use Rattle.std.specs.Prelude.{Some, None, IsTrue, if◌then◌else◌}
 use Rattle.std.specs.Ordering.{int_eq}
 use Rattle.std.specs.List.{list_all, find}
-use Rattle.sb_fraction.specs.Ratio.{Ratio, reduced}
+use Rattle.theory_numbers.specs.Fractions.{Ratio, reduced, whole}
 use Rattle.theory_numbers.specs.Arrows.{Arrow}
 use Rattle.theory_numbers.specs.Rationals.{rational}
 use Rattle.theory_cuttings.specs.Cuttings.{Break}
@@ -21,15 +20,14 @@ use Rattle.sb_model.specs.declared.walk.End.{End}
 use Rattle.sb_model.specs.declared.walk.End.TheVariants as end
 use Rattle.sb_model.specs.declared.walk.Item.{Item}
 use Rattle.sb_model.specs.declared.walk.Walk.{Walk}
-use Rattle.sb_model.specs.Spots.{Spot, Vector, inner}
-use Rattle.sb_model.specs.Plan.{Edge, is_on, span_of}
+use Rattle.sb_fraction.specs.Spots.{Spot, Vector, inner}
+use Rattle.sb_fraction.specs.Edges.{Edge, is_on, span_of}
 use Rattle.sb_model.specs.Building.{Building}
 use Rattle.sb_model.specs.Labels.{axis_vector, low_along, high_along, total_of}
 use Rattle.sb_model.specs.PlanEdges.{plan_edges}
 use Rattle.sb_model.specs.Faces.{Surface}
 use Rattle.sb_model.specs.Passages.{Ray, ray_from, at_depth, ArePassages, Passage, passages_of}
 use Rattle.sb_model.specs.Passages.{Piece, pieces_of, start_of, end_of}
-use Rattle.sb_model.specs.Corners.{whole}
 
 -- the edge stands at right angles to n, so a side with the normal n runs along it
 abbrev pub is_across : Vector → Edge → Bool

@@ -23,7 +23,7 @@ use thiserror::Error;
 #[derive(Drop)]
 pub struct Model {
     unit: Unit,
-    level: i32,
+    ground_height: i32,
     reach: u32,
     spaces: Spaces,
     elements: Elements,
@@ -37,10 +37,10 @@ impl marker::Model for Model {
 
     ghost Value = { Building };
 
-    ghost view = { λ m. building m.unit m.level m.reach m.spaces m.elements m.openings m.fillings };
+    ghost view = { λ m. building m.unit m.ground_height m.reach m.spaces m.elements m.openings m.fillings };
 
     ghost invariant = { λ m. IsTrue (is_building (
-        building m.unit m.level m.reach m.spaces m.elements m.openings m.fillings
+        building m.unit m.ground_height m.reach m.spaces m.elements m.openings m.fillings
         )) };
 }
 
@@ -65,25 +65,25 @@ impl Model {
     pub fn new(
         _alloc: Global,
         unit: Unit,
-        level: i32,
+        ground_height: i32,
         reach: u32,
         spaces: Spaces,
         elements: Elements,
         openings: Openings,
         fillings: Fillings,
     ) -> Result<Model, ModelError>
-        requires in_range { IsTrue (is_in_range (building unit level reach spaces elements openings fillings)) }
-        requires one_space { IsTrue (is_one_space (building unit level reach spaces elements openings fillings)) }
-        ensures value { IfOk result (λ m. m ≡ building unit level reach spaces elements openings fillings) }
+        requires in_range { IsTrue (is_in_range (building unit ground_height reach spaces elements openings fillings)) }
+        requires one_space { IsTrue (is_one_space (building unit ground_height reach spaces elements openings fillings)) }
+        ensures value { IfOk result (λ m. m ≡ building unit ground_height reach spaces elements openings fillings) }
         ensures bad_number { (n : ℕ) → IsErrOf result (ModelError.BadNumber n)
-            ↔ (first_bad (building unit level reach spaces elements openings fillings) ≡ Some n) }
+            ↔ (first_bad (building unit ground_height reach spaces elements openings fillings) ≡ Some n) }
     {
         if has_unnumbered(&spaces) {
             return Err(ModelError::BadNumber(0));
         }
         Ok(Model {
             unit,
-            level,
+            ground_height,
             reach,
             spaces,
             elements,
@@ -101,10 +101,10 @@ impl Model {
 
     /// The height of the ground in millimetres (mm).
     pub fn ground(&self) -> i32
-        ensures value { result ≡ self.now.level }
+        ensures value { result ≡ self.now.ground_height }
         ensures is_building { IsTrue (is_building self.now) }
     {
-        self.level
+        self.ground_height
     }
 
     /// How far a walk passes through one element, in millimetres (mm).

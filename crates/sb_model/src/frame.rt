@@ -2,7 +2,7 @@
 
 ghost use Rattle.std.specs.Prelude.{◌≡◌, ◌≤◌, ◌^◌, ◌+◌, ◌+ℤ◌, ◌*ℤ◌, pos, unsigned_abs};
 ghost use Rattle.std.specs.Ordering.{int_eq};
-ghost use Rattle.sb_model.specs.Spots.{vector, inner};
+ghost use Rattle.sb_fraction.specs.Spots.{vector, inner};
 ghost use Rattle.sb_model.specs.Turns.{turn_of, is_signed_axis};
 
 use crate::layers::Axis;
@@ -18,7 +18,7 @@ pub struct Turn {
 impl Model for Turn {
     ghost use Rattle.std.specs.Prelude.{IsTrue};
     ghost use Rattle.sb_model.specs.Turns.{Quarter, is_quarter};
-    ghost use Rattle.sb_model.specs.Spots.{vector};
+    ghost use Rattle.sb_fraction.specs.Spots.{vector};
 
     ghost Value = { Quarter };
 

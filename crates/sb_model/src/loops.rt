@@ -3,8 +3,10 @@
 ghost use Rattle.std.specs.Prelude.{◌≡◌, ◌<◌, ◌&&◌, length, slice_get, IfSome, IsTrue, Ok, Some};
 ghost use Rattle.std.specs.List.{list_all};
 ghost use Rattle.std.specs.Option.{option_map};
-ghost use Rattle.sb_model.specs.Loops.{are_loops, is_plan_point, is_rectangle};
-ghost use Rattle.sb_model.specs.Plan.{edge, edges_of, edges_of_loop, place_after};
+ghost use Rattle.theory_plans.specs.Loops.{are_loops, is_rectangle};
+ghost use Rattle.sb_fraction.specs.Plane.{is_plan_point};
+ghost use Rattle.theory_plans.specs.LoopEdges.{edges_of, edges_of_loop, next_in_loop};
+ghost use Rattle.sb_fraction.specs.Edges.{edge};
 
 use sb_fraction::Point;
 use sb_list::Listed;
@@ -28,7 +30,7 @@ pub struct Loops {
 impl Model for Loops {
     ghost use Rattle.std.specs.Prelude.{List, IsTrue};
     ghost use Rattle.sb_fraction.specs.declared.point.Point.{Point};
-    ghost use Rattle.sb_model.specs.Loops.{are_loops};
+    ghost use Rattle.theory_plans.specs.Loops.{are_loops};
 
     ghost Value = { List (List Point) };
 
@@ -99,7 +101,7 @@ fn edge_in(points: &[Point], k: usize) -> (Point, Point)
 /// The place after `k` in a closed loop of `len` points.
 fn next_place(k: usize, len: usize) -> usize
     requires { k < len }
-    ensures value { result ≡ place_after k len }
+    ensures value { result ≡ next_in_loop k len }
     ensures within { result < len }
 {
     if k + 1 < len { k + 1 } else { 0 }

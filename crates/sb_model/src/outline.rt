@@ -2,11 +2,14 @@
 
 ghost use Rattle.std.specs.Prelude.{◌≡◌, int_lt, slice_get, IsTrue, Some};
 ghost use Rattle.std.specs.Ordering.{int_eq};
-ghost use Rattle.sb_fraction.specs.Ratio.{is_fraction};
-ghost use Rattle.sb_model.specs.Plan.{edge, edges_of};
+ghost use Rattle.sb_fraction.specs.Bounds.{is_fraction};
+ghost use Rattle.theory_plans.specs.LoopEdges.{edges_of};
+ghost use Rattle.sb_fraction.specs.Edges.{edge};
 ghost use Rattle.sb_model.specs.Sides.{line_of};
-ghost use Rattle.sb_model.specs.Faces.{runs_along, is_face_of};
-ghost use Rattle.sb_model.specs.Corners.{whole as whole_number, level_corner, side_corner};
+ghost use Rattle.sb_model.specs.Faces.{is_face_of};
+ghost use Rattle.sb_fraction.specs.Directions.{runs_along};
+ghost use Rattle.sb_model.specs.Corners.{level_corner, side_corner};
+ghost use Rattle.theory_numbers.specs.Fractions.{whole as whole_number};
 ghost use Rattle.sb_model.specs.Corners.{listed as corners_listed};
 ghost use Rattle.sb_model.specs.Corners.{corners_of, is_level_side, is_straight, is_straight_edge};
 ghost use Rattle.sb_model.specs.Corners.{corners_in, side_corners, is_straight_face};
@@ -111,7 +114,7 @@ fn level_point(u: Fraction, side: Side, z: i32) -> Corner
 }
 
 /// Whether an edge runs along x.
-fn is_level(a: Point, b: Point) -> bool
+fn is_along_x(a: Point, b: Point) -> bool
     ensures { result ≡ int_eq a.y b.y }
 {
     a.y == b.y
@@ -136,7 +139,7 @@ fn is_along(a: Point, b: Point) -> bool
     requires { IsTrue (is_straight_edge (Some (edge a b))) }
     ensures { result ≡ runs_along (edge a b) }
 {
-    if is_level(a, b) {
+    if is_along_x(a, b) {
         is_rightward(a, b)
     } else {
         is_upward(a, b)
@@ -149,7 +152,7 @@ fn side_point(a: Point, b: Point, u: Fraction, side: Side) -> Corner
     requires lowest { IsTrue (is_fraction u) }
     ensures { result ≡ side_corner (edge a b) u (line_of side).off }
 {
-    if is_level(a, b) {
+    if is_along_x(a, b) {
         Corner {
             x: u,
             y: whole(a.y as i64),
@@ -165,6 +168,7 @@ fn side_point(a: Point, b: Point, u: Fraction, side: Side) -> Corner
 }
 
 /// The corners of a patch of a level face at the height z.
+#[tactic(auto, using(crate::proofs::StraightCorners::end_rules))]
 fn level_ends(patch: &Patch, z: i32) -> Ends
     requires lower_along_x { IsTrue (is_level_side patch.now.lower) }
     requires upper_along_x { IsTrue (is_level_side patch.now.upper) }
@@ -182,6 +186,7 @@ fn level_ends(patch: &Patch, z: i32) -> Ends
 }
 
 /// The corners of a patch of the side face over an edge along x or y.
+#[tactic(auto, using(crate::proofs::StraightCorners::end_rules))]
 fn side_ends(patch: &Patch, a: Point, b: Point) -> Ends
     requires { IsTrue (is_straight_edge (Some (edge a b))) }
     ensures low_lower { result.low_lower ≡ side_corner (edge a b) patch.now.low (line_of patch.now.lower).off }

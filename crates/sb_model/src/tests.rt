@@ -1,21 +1,9 @@
 use crate::{
-    Axis, Boundaries, Boundary, Elements, End, Face, FaceKind, Fillings, Frame, Item, Items, Loops,
-    Model, Openings, Patch, PointLists, Points, Prism, Side, Space, Spaces, Text, Turn, Walk,
+    Axis, Elements, End, Fillings, Frame, Item, Items, Loops, Model, Openings, PointLists, Points,
+    Prism, Space, Spaces, Text, Turn, Walk,
 };
-use sb_fraction::{Direction, Fraction, Line, Point, Unit};
-use std::alloc::Global;
+use sb_fraction::{Fraction, Point, Unit};
 use std::test::Fail;
-
-#[test]
-fn a_turn_is_two_signed_axes_at_right_angles(rt: HostRuntime) -> Result<(), Fail> {
-    let x = Axis { x: 1, y: 0, z: 0 };
-    let z = Axis { x: 0, y: 0, z: -1 };
-    let diagonal = Axis { x: 1, y: 1, z: 0 };
-    assert!(rt; Turn::new(x, z).is_some(), "x and -z stand at right angles");
-    assert!(rt; Turn::new(x, x).is_none(), "x is parallel to itself");
-    assert!(rt; Turn::new(diagonal, z).is_none(), "a diagonal is no axis");
-    Ok(())
-}
 
 #[test]
 fn one_room_is_a_model(rt: HostRuntime) -> Result<(), Fail> {
@@ -90,47 +78,5 @@ fn a_walk_is_copied_with_its_items(rt: HostRuntime) -> Result<(), Fail> {
         12500,
         "thicknesses are in lowest terms"
     );
-    Ok(())
-}
-
-/// A boundary of the room [0, 4000] × [0, 3000] × [0, 2500]: its Bottom.
-fn bottom(alloc: Global) -> Boundary {
-    let dir = Direction { x: 1, y: 0 };
-    Boundary {
-        patch: Patch {
-            face: Face {
-                space: 20,
-                kind: FaceKind::Bottom,
-            },
-            low: Fraction::new(0, 1),
-            high: Fraction::new(4000, 1),
-            lower: Side::OnLine(Line { dir, off: 0 }),
-            upper: Side::OnLine(Line { dir, off: 3000 }),
-        },
-        walk: Walk {
-            items: Items::new(alloc),
-            depth: 0,
-            end: End::Earth,
-        },
-        pair: None,
-        parent: None,
-        key: None,
-    }
-}
-
-#[test]
-fn ids_count_from_1(rt: HostRuntime) -> Result<(), Fail> {
-    let mut list = Boundaries::new(rt.alloc());
-    list.push(bottom(rt.alloc()))?;
-    assert_eq!(rt; list.len(), 1, "one boundary was pushed");
-    assert!(rt; list.get(0).is_none(), "no id is 0");
-    let Some(first) = list.get(1) else {
-        panic!(rt; "the first boundary has the id 1");
-    };
-    assert!(rt;
-        first.walk.end == End::Earth,
-        "it is the boundary that was pushed"
-    );
-    assert!(rt; list.get(2).is_none(), "no id is above the length");
     Ok(())
 }

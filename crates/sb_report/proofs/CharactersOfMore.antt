@@ -1,9 +1,10 @@
 -- The name of a material is written byte by byte: one byte more adds one character.
 
-use Rattle.std.proofs.Common.{◌≡◌, ℕ, ◌+◌, ◌<◌, List, [], ◌∷◌, ◌++◌, length, take, get_or, sym, ap, ◌∙◌}
+use Rattle.std.proofs.Common.{◌≡◌, ℕ, ◌+◌, ◌<◌, List, [], ◌∷◌, ◌++◌, length, take, get_or, sym, ap}
+use Rattle.std.proofs.Common.{◌∙◌}
 use Rattle.std.proofs.lemmas.List.{append-nil, append_assoc, take_more}
 use Rattle.std.specs.Prelude.{encode_utf8}
-use Rattle.sb_report.specs.Texts.{material_text}
+use Rattle.sb_report.specs.Strings.{material_text}
 
 -- a byte at the end adds its character at the end
 characters_of_last : (bytes : List ℕ) (b : ℕ)

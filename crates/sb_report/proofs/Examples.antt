@@ -1,13 +1,14 @@
 -- Worked reports that the definitions give, and lists that the conditions refuse.
 
-use Rattle.std.proofs.Common.{◌≡◌, ℕ, ℤ, pos, negsuc, true, false, [], ◌∷◌, ◌++◌, codes, IsTrue, Option, Some, None, refl}
+use Rattle.std.proofs.Common.{◌≡◌, ℕ, ℤ, pos, negsuc, true, false, [], ◌∷◌, ◌++◌, codes, IsTrue}
+use Rattle.std.proofs.Common.{Option, Some, None, refl}
 use Rattle.serde_json.specs.Data.{Data}
 use Rattle.serde_json.specs.Written.{compact_text}
 use Rattle.serde_json.proofs.OnLiterals.{serde_json_on_literals}
 use Rattle.std.specs.Fmt.{digits}
 use lib.Utf8.{encode}
-use Rattle.sb_fraction.specs.Divisors.{divisor_within, greatest_divisor}
-use Rattle.sb_fraction.specs.Ratio.{Ratio, reduced}
+use Rattle.theory_numbers.specs.Divisors.{divisor_within, greatest_divisor}
+use Rattle.theory_numbers.specs.Fractions.{Ratio, reduced}
 use Rattle.sb_fraction.specs.declared.direction.Direction.{Direction}
 use Rattle.sb_fraction.specs.declared.direction.Line.{Line}
 use Rattle.sb_fraction.specs.declared.point.Point.{Point}
@@ -24,9 +25,10 @@ use Rattle.sb_model.specs.Building.{Building, building}
 use Rattle.sb_model.specs.Corners.{corners_of, level_corner}
 use Rattle.sb_model.specs.Sides.{is_patch}
 use Rattle.sb_model.specs.Solids.{upright}
-use Rattle.sb_model.specs.Spots.{vector}
-use Rattle.sb_report.specs.Texts.{fraction_text, material_text}
-use Rattle.sb_report.specs.Entries.{three, four, fraction_data, corners_data, item_data, boundary_data}
+use Rattle.sb_fraction.specs.Spots.{vector}
+use Rattle.sb_report.specs.Strings.{fraction_text, material_text}
+use Rattle.sb_report.specs.Entries.{three, four, fraction_data, corners_data, item_data}
+use Rattle.sb_report.specs.Entries.{boundary_data}
 use Rattle.sb_report.specs.Conditions.{is_list_of, have_corners}
 use Rattle.sb_report.specs.Report.{report_data, report_of}
 

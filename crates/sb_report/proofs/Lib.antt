@@ -1,3 +1,4 @@
+-- Lemmas, each file a claim.
 mod CharactersOfMore
 mod Examples
 mod LowestBesideZero

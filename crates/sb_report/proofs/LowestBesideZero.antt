@@ -2,7 +2,7 @@
 
 use Rattle.std.proofs.Common.{◌≡◌, ℕ, zero, suc, ◌/◌, ◌<◌, min, refl, sym, ◌∙◌, arith}
 use Rattle.std.proofs.Math.Nat.{div_self}
-use Rattle.sb_fraction.specs.Divisors.{divisor_within, greatest_divisor}
+use Rattle.theory_numbers.specs.Divisors.{divisor_within, greatest_divisor}
 
 -- the number divided by its greatest common divisor with 0
 pub lowest_beside_zero : (n : ℕ) → min n 1 ≡ n / greatest_divisor n 0

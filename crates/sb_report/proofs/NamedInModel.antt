@@ -1,7 +1,10 @@
 -- What is asked of a list of boundaries holds of each of them.
 
-use Rattle.std.proofs.Common.{◌≡◌, ℕ, zero, suc, Bool, IsTrue, List, [], ◌∷◌, length, Some, slice_get}
+use Rattle.std.proofs.Common.{◌≡◌, ℕ, Bool, IsTrue, List, length, Some}
+use Rattle.std.proofs.Common.{slice_get}
 use Rattle.std.proofs.lemmas.Bool.{and_parts}
+use Rattle.std.proofs.lemmas.List.Sums.{AllPass-from_list_all}
+use Rattle.std.proofs.lemmas.Option.{get_or_from_slice_get, slice_get_within}
 use Rattle.std.specs.List.{list_all}
 use Rattle.sb_model.specs.declared.boundary.Boundary.{Boundary}
 use Rattle.sb_model.specs.Building.{Building}
@@ -12,12 +15,9 @@ use Rattle.sb_report.specs.Conditions.{is_boundary_of, is_list_of, have_corners}
 -- a test that all items pass is passed by the item at each place
 passed_at : {X : Type 0} (p : X → Bool) (xs : List X) (i : ℕ) (x : X)
     → IsTrue (list_all p xs) → slice_get xs i ≡ Some x → IsTrue (p x)
-passed_at p [] i x all here = absurd (cc)
-passed_at p (y ∷ ys) zero x all here =
-    let same : y ≡ x = cc in
-    rw same at (and_parts (p y) (list_all p ys) all).0
-passed_at p (y ∷ ys) (suc i) x all here =
-    passed_at p ys i x (and_parts (p y) (list_all p ys) all).1 here
+passed_at p xs i x all here =
+    let passed = AllPass-from_list_all p xs all i x (slice_get_within xs i x here) in
+    rw (get_or_from_slice_get xs i x x here) at passed
 
 -- the face of each boundary is the model's
 pub face_at : (m : Building) (bs : List Boundary) (i : ℕ) (b : Boundary)

@@ -1,6 +1,7 @@
 -- No number of the report is a float, so that its text is told exactly.
 
-use Rattle.std.proofs.Common.{◌≡◌, ℕ, ◌+◌, ℤ, pos, negsuc, false, List, [], ◌∷◌, map, Option, Some, None, refl}
+use Rattle.std.proofs.Common.{◌≡◌, ℕ, ◌+◌, ℤ, pos, negsuc, false, List, [], ◌∷◌, map, Option, Some}
+use Rattle.std.proofs.Common.{None, refl}
 use Rattle.serde_json.specs.Data.{Data}
 use Rattle.serde_json.specs.View.{items_of}
 use Rattle.serde_json.specs.Written.{has_float, items_have_float}
@@ -8,11 +9,12 @@ use Rattle.sb_model.specs.declared.boundary.Boundary.{Boundary}
 use Rattle.sb_model.specs.declared.corner.Corners.{Corners}
 use Rattle.sb_model.specs.declared.corner.Corners.TheVariants.{Three, Four}
 use Rattle.sb_model.specs.declared.walk.Item.{Item}
-use Rattle.sb_model.specs.Spots.{Vector, inner}
+use Rattle.sb_fraction.specs.Spots.{Vector, inner}
 use Rattle.sb_model.specs.Building.{Building}
 use Rattle.sb_model.specs.Corners.{corners_of}
 use Rattle.sb_report.specs.Normals.{normal_of}
-use Rattle.sb_report.specs.Entries.{count, signed, number_or_null, corners_data, normal_data, unit_data, target, item_data, boundary_data}
+use Rattle.sb_report.specs.Entries.{count, signed, count_or_null, corners_data, normal_data}
+use Rattle.sb_report.specs.Entries.{unit_data, target, item_data, boundary_data}
 use Rattle.sb_report.specs.Report.{entries_from, report_data}
 
 -- the data of each item of a list
@@ -25,9 +27,9 @@ signed_has_none : (z : ℤ) → has_float (signed z) ≡ false
 signed_has_none (pos n) = refl
 signed_has_none (negsuc n) = refl
 
-number_has_none : (n : Option ℕ) → has_float (number_or_null n) ≡ false
-number_has_none None = refl
-number_has_none (Some n) = refl
+count_has_none : (n : Option ℕ) → has_float (count_or_null n) ≡ false
+count_has_none None = refl
+count_has_none (Some n) = refl
 
 corners_have_none : (c : Option Corners) → has_float (corners_data c) ≡ false
 corners_have_none None = refl
@@ -53,11 +55,11 @@ boundary_has_none m id b = rw (
   corners_have_none (corners_of m b.patch),
   signed_has_none b.walk.depth,
   each (item_data m) (item_has_none m) b.walk.items,
-  number_has_none b.key,
+  count_has_none b.key,
   normal_has_none (normal_of m b.patch.face),
-  number_has_none b.pair,
-  number_has_none b.parent,
-  number_has_none (target b.walk.end),
+  count_has_none b.pair,
+  count_has_none b.parent,
+  count_has_none (target b.walk.end),
   unit_has_none (normal_of m b.patch.face),
 ) refl
 
@@ -71,6 +73,6 @@ pub report_has_no_float : (m : Building) (bs : List Boundary) → has_float (rep
 unfolding report_data
 report_has_no_float m bs = rw (
   entries_have_none m 1 bs,
-  signed_has_none m.level,
+  signed_has_none m.ground_height,
   each (λ s. count s.number) (λ s. refl) m.spaces,
 ) refl

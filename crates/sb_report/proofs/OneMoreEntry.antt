@@ -1,6 +1,7 @@
 -- The entries are those of the boundaries in order: one boundary more adds its entry at the end.
 
-use Rattle.std.proofs.Common.{◌≡◌, ℕ, zero, suc, ◌+◌, List, [], ◌∷◌, ◌++◌, take, Some, option_map, slice_get, refl, ap, ◌∙◌, arith, add-one}
+use Rattle.std.proofs.Common.{◌≡◌, ℕ, zero, suc, ◌+◌, List, [], ◌∷◌, ◌++◌, take, Some, option_map}
+use Rattle.std.proofs.Common.{slice_get, refl, ap, ◌∙◌, arith, add-one}
 use Rattle.serde_json.specs.Data.{Data}
 use Rattle.sb_model.specs.declared.boundary.Boundary.{Boundary}
 use Rattle.sb_model.specs.Building.{Building}
@@ -17,7 +18,8 @@ entries_of_more m id (b ∷ bs) zero d here =
     rw (same, start) refl
 entries_of_more m id (b ∷ bs) (suc i) d here =
     let next : id + suc i ≡ (id + 1) + i = omega arith in
-    let later : Some d ≡ option_map (boundary_data m ((id + 1) + i)) (slice_get bs i) = rw next at here in
+    let later : Some d ≡ option_map (boundary_data m ((id + 1) + i)) (slice_get bs i) =
+    rw next at here in
     ap (λ ds. boundary_data m id b ∷ ds) (entries_of_more m (id + 1) bs i d later)
 
 -- the entries of the boundaries up to place i, and of the one there
@@ -26,5 +28,6 @@ pub entries_more : (m : Building) (bs : List Boundary) (i : ℕ) (d : Data)
     → entries_from m 1 (take (i + 1) bs) ≡ entries_from m 1 (take i bs) ++ d ∷ []
 entries_more m bs i d here =
     let same : i + 1 ≡ 1 + i = omega arith in
-    let from_one : Some d ≡ option_map (boundary_data m (1 + i)) (slice_get bs i) = rw same at here in
+    let from_one : Some d ≡ option_map (boundary_data m (1 + i)) (slice_get bs i) =
+    rw same at here in
     ap (λ n. entries_from m 1 (take n bs)) (add-one i) ∙ entries_of_more m 1 bs i d from_one

@@ -1,10 +1,11 @@
 -- The entry of a boundary, as data of JSON. The keys stand in the order of their bytes.
 
 use Rattle.std.specs.Prelude.{ℕ, ℤ, List, map, codes, Option, Some, None}
-use Rattle.serde_json.specs.Data.{Data, null, number, string, array, object, unsigned, no_items, item, no_members, member}
+use Rattle.serde_json.specs.Data.{Data, null, number, string, array, object, unsigned, no_items}
+use Rattle.serde_json.specs.Data.{item, no_members, member}
 use Rattle.serde_json.specs.Find.{of_integer}
 use Rattle.serde_json.specs.View.{items_of}
-use Rattle.sb_fraction.specs.Ratio.{Ratio}
+use Rattle.theory_numbers.specs.Fractions.{Ratio}
 use Rattle.sb_model.specs.declared.boundary.Boundary.{Boundary}
 use Rattle.sb_model.specs.declared.corner.Corner.{Corner}
 use Rattle.sb_model.specs.declared.corner.Corners.{Corners}
@@ -12,10 +13,10 @@ use Rattle.sb_model.specs.declared.corner.Corners.TheVariants.{Three, Four}
 use Rattle.sb_model.specs.declared.walk.End.{End}
 use Rattle.sb_model.specs.declared.walk.End.TheVariants as end
 use Rattle.sb_model.specs.declared.walk.Item.{Item}
-use Rattle.sb_model.specs.Spots.{Vector, inner}
+use Rattle.sb_fraction.specs.Spots.{Vector, inner}
 use Rattle.sb_model.specs.Building.{Building, material_of}
 use Rattle.sb_model.specs.Corners.{corners_of}
-use Rattle.sb_report.specs.Texts.{fraction_text, material_text, face_name, end_name}
+use Rattle.sb_report.specs.Strings.{fraction_text, material_text, face_name, end_name}
 use Rattle.sb_report.specs.Normals.{normal_of}
 
 -- a number without a sign
@@ -26,10 +27,10 @@ count n = number (unsigned n)
 abbrev pub signed : ℤ → Data
 signed z = number (of_integer z)
 
--- a number, or null
-abbrev pub number_or_null : Option ℕ → Data
-number_or_null None = null
-number_or_null (Some n) = count n
+-- a number without a sign, or null
+abbrev pub count_or_null : Option ℕ → Data
+count_or_null None = null
+count_or_null (Some n) = count n
 
 -- three values in a list
 abbrev pub three : Data → Data → Data → Data
@@ -93,11 +94,11 @@ boundary_data m id b = object
     (member (codes "face") (string (face_name b.patch.face.kind))
     (member (codes "id") (count id)
     (member (codes "items") (items_data m b.walk.items)
-    (member (codes "key") (number_or_null b.key)
+    (member (codes "key") (count_or_null b.key)
     (member (codes "normal") (normal_data (normal_of m b.patch.face))
-    (member (codes "pair") (number_or_null b.pair)
-    (member (codes "parent") (number_or_null b.parent)
+    (member (codes "pair") (count_or_null b.pair)
+    (member (codes "parent") (count_or_null b.parent)
     (member (codes "space") (count b.patch.face.space)
-    (member (codes "target") (number_or_null (target b.walk.end))
+    (member (codes "target") (count_or_null (target b.walk.end))
     (member (codes "unit") (unit_data (normal_of m b.patch.face))
     no_members)))))))))))))

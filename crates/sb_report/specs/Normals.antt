@@ -2,7 +2,7 @@
 
 use Rattle.std.specs.Prelude.{Option, option_map, option_and_then}
 use Rattle.sb_model.specs.declared.face.Face.{Face}
-use Rattle.sb_model.specs.Spots.{Vector}
+use Rattle.sb_fraction.specs.Spots.{Vector}
 use Rattle.sb_model.specs.Building.{Building}
 use Rattle.sb_model.specs.Faces.{Surface, surface_of, space_numbered}
 

@@ -24,7 +24,7 @@ unfoldable pub report_data : Building → List Boundary → Data
 report_data m bs = object
     (member (codes "boundaries") (array (items_of (entries_from m 1 bs)))
     (member (codes "format") (string (codes "sbgen-1"))
-    (member (codes "ground") (signed m.level)
+    (member (codes "ground") (signed m.ground_height)
     (member (codes "reach") (count m.reach)
     (member (codes "spaces") (space_numbers m.spaces)
     no_members)))))

@@ -4,7 +4,7 @@ ghost use Rattle.std.specs.Prelude.{◌≡◌, IfOk, Some};
 ghost use Rattle.serde_json.specs.View.{view};
 ghost use Rattle.sb_report.specs.Entries.{corner_data, corners_data};
 
-use crate::text::written_fraction;
+use crate::strings::written_fraction;
 use sb_model::{Corner, Corners};
 use serde_json::{Value, json};
 use std::alloc::{AllocError, Global};

@@ -5,38 +5,35 @@ ghost use Rattle.serde_json.specs.Data.{string, put as with};
 ghost use Rattle.serde_json.specs.View.{view, members_view};
 ghost use Rattle.sb_model.specs.Corners.{corners_of, is_straight};
 ghost use Rattle.sb_model.specs.Faces.{is_face_of};
-ghost use Rattle.sb_report.specs.Texts.{face_name, end_name};
+ghost use Rattle.sb_report.specs.Strings.{face_name, end_name};
 ghost use Rattle.sb_report.specs.Normals.{normal_of};
-ghost use Rattle.sb_report.specs.Steps.{vector_of, is_short};
-ghost use Rattle.sb_report.specs.Entries.{count, signed, number_or_null, target, items_data};
+ghost use Rattle.sb_report.specs.AxisVectors.{vector_of, is_bounded};
+ghost use Rattle.sb_report.specs.Entries.{count, signed, count_or_null, target, items_data};
 ghost use Rattle.sb_report.specs.Entries.{corners_data, normal_data, unit_data, boundary_data};
 
 use crate::corner::corners_value;
 use crate::item::items_value;
 use crate::normal::{normal, unit_of};
-use crate::text::{name_of_end, name_of_face};
+use crate::strings::{name_of_end, name_of_face};
 use sb_model::{Axis, Boundary, Corners, End, Face, Model, Walk, corners};
 use serde_json::{Map, Value, json, put};
 use std::alloc::{AllocError, Global};
 
-/// A number, or null.
-fn number(number: Option<u64>) -> Value
-    ensures { view result ≡ number_or_null number }
+/// The id of a boundary, or null.
+fn id_or_null(id: Option<u64>) -> Value
+    ensures { view result ≡ count_or_null id }
 {
-    match number {
-        Some(number) => Value::from(number),
+    match id {
+        Some(id) => Value::from(id),
         None => Value::Null,
     }
 }
 
 /// The number of a product, or null.
-fn product(number: Option<u32>) -> Value
-    ensures { view result ≡ number_or_null number }
+fn product_or_null(product: Option<u32>) -> Value
+    ensures { view result ≡ count_or_null product }
 {
-    match number {
-        Some(number) => Value::from(number),
-        None => Value::Null,
-    }
+    id_or_null(product.map(u64::from))
 }
 
 /// The number of the space or element at an end.
@@ -57,7 +54,7 @@ fn put_walk(
     walk: &Walk,
 ) -> Result<(), AllocError>
     ensures { OnOk result (members_view entry.new.entries
-        ≡ with (codes "target") (number_or_null (target walk.now.end))
+        ≡ with (codes "target") (count_or_null (target walk.now.end))
         (with (codes "items") (items_data model.now walk.now.items)
         (with (codes "end") (string (end_name walk.now.end))
         (with (codes "depth") (signed walk.now.depth) (members_view entry.old.entries))))) }
@@ -67,7 +64,7 @@ fn put_walk(
     put(entry, alloc, "end", end)?;
     let items = items_value(alloc, model, &walk.items)?;
     put(entry, alloc, "items", items)?;
-    put(entry, alloc, "target", product(target_of(walk.end)))
+    put(entry, alloc, "target", product_or_null(target_of(walk.end)))
 }
 
 /// Adds the key, the counterpart and the parent of a boundary.
@@ -77,13 +74,13 @@ fn put_ties(
     boundary: &Boundary,
 ) -> Result<(), AllocError>
     ensures { OnOk result (members_view entry.new.entries
-        ≡ with (codes "parent") (number_or_null boundary.now.parent)
-        (with (codes "pair") (number_or_null boundary.now.pair)
-        (with (codes "key") (number_or_null boundary.now.key) (members_view entry.old.entries)))) }
+        ≡ with (codes "parent") (count_or_null boundary.now.parent)
+        (with (codes "pair") (count_or_null boundary.now.pair)
+        (with (codes "key") (count_or_null boundary.now.key) (members_view entry.old.entries)))) }
 {
-    put(entry, alloc, "key", product(boundary.key))?;
-    put(entry, alloc, "pair", number(boundary.pair))?;
-    put(entry, alloc, "parent", number(boundary.parent))
+    put(entry, alloc, "key", product_or_null(boundary.key))?;
+    put(entry, alloc, "pair", id_or_null(boundary.pair))?;
+    put(entry, alloc, "parent", id_or_null(boundary.parent))
 }
 
 /// The three coordinates of a normal.
@@ -101,7 +98,7 @@ fn put_face(
     corners: &Corners,
     normal: Axis,
 ) -> Result<(), AllocError>
-    requires { IsTrue (is_short normal) }
+    requires { IsTrue (is_bounded normal) }
     ensures { OnOk result (members_view entry.new.entries
         ≡ with (codes "unit") (unit_data (Some (vector_of normal)))
         (with (codes "space") (count face.space)

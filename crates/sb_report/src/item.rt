@@ -4,7 +4,7 @@ ghost use Rattle.std.specs.Prelude.{◌≡◌, IfOk};
 ghost use Rattle.serde_json.specs.View.{view};
 ghost use Rattle.sb_report.specs.Entries.{item_data, items_data};
 
-use crate::text::{written_fraction, written_material};
+use crate::strings::{written_fraction, written_material};
 use sb_model::{Item, Items, Model};
 use serde_json::{Value, json};
 use std::alloc::{AllocError, Global};

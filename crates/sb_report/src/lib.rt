@@ -9,8 +9,8 @@ mod entry;
 mod item;
 mod normal;
 mod report;
+mod strings;
 #[cfg(test)]
 mod tests;
-mod text;
 
 pub use report::report_text;

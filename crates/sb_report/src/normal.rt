@@ -1,14 +1,15 @@
 //! The outward normals of faces.
 
-ghost use Rattle.std.specs.Prelude.{◌≡◌, ◌≤◌, ◌-ℤ◌, ◌*ℤ◌, ◌+ℤ◌, ◌+◌, ◌/◌, IsTrue, Some, pos};
+ghost use Rattle.std.specs.Prelude.{◌≡◌, ◌≤◌, ◌-ℤ◌, ◌*ℤ◌, ◌+ℤ◌, ◌+◌, ◌*◌, ◌/◌, IsTrue, Some, pos};
 ghost use Rattle.std.specs.Prelude.{neg_ℤ, unsigned_abs};
-ghost use Rattle.sb_fraction.specs.Divisors.{greatest_divisor};
-ghost use Rattle.sb_model.specs.Spots.{vector, inner};
-ghost use Rattle.sb_model.specs.Plan.{edge};
-ghost use Rattle.sb_model.specs.Loops.{is_plan_point};
-ghost use Rattle.sb_model.specs.Faces.{is_face_of, normal_over as normal_over_edge};
+ghost use Rattle.theory_numbers.specs.Divisors.{greatest_divisor};
+ghost use Rattle.sb_fraction.specs.Spots.{vector, inner};
+ghost use Rattle.sb_fraction.specs.Edges.{edge};
+ghost use Rattle.sb_fraction.specs.Plane.{is_plan_point, greatest_coordinate};
+ghost use Rattle.sb_model.specs.Faces.{is_face_of};
+ghost use Rattle.sb_fraction.specs.Directions.{normal_over as normal_over_edge};
 ghost use Rattle.sb_report.specs.Normals.{normal_of};
-ghost use Rattle.sb_report.specs.Steps.{vector_of, is_short, signed_as};
+ghost use Rattle.sb_report.specs.AxisVectors.{vector_of, greatest_difference, is_bounded, signed_as};
 
 use sb_fraction::{Fraction, Point};
 use sb_model::{Axis, Face, FaceKind, Model};
@@ -17,7 +18,7 @@ use sb_model::{Axis, Face, FaceKind, Model};
 pub fn normal(model: &Model, face: Face) -> Axis
     requires { IsTrue (is_face_of model.now face) }
     ensures value { normal_of model.now face ≡ Some (vector_of result) }
-    ensures short { IsTrue (is_short result) }
+    ensures short { IsTrue (is_bounded result) }
 {
     match face.kind {
         FaceKind::Bottom => Axis { x: 0, y: 0, z: -1 },
@@ -33,7 +34,7 @@ pub fn normal(model: &Model, face: Face) -> Axis
 /// The unit of a normal: its inner product with itself.
 #[tactic(auto, using(crate::proofs::Passing::passing))]
 pub fn unit_of(normal: Axis) -> i64
-    requires { IsTrue (is_short normal) }
+    requires { IsTrue (is_bounded normal) }
     ensures { result ≡ inner (vector_of normal) (vector_of normal) }
 {
     sum(sum(square(normal.x), square(normal.y)), square(normal.z))
@@ -41,17 +42,17 @@ pub fn unit_of(normal: Axis) -> i64
 
 /// The product of a number with itself.
 fn square(a: i32) -> i64
-    requires { unsigned_abs a ≤ 1000000 }
+    requires { unsigned_abs a ≤ greatest_difference }
     ensures value { result ≡ a *ℤ a }
-    ensures size { unsigned_abs result ≤ 1000000000000 }
+    ensures size { unsigned_abs result ≤ greatest_difference * greatest_difference }
 {
     a as i64 * a as i64
 }
 
 /// The sum of two numbers.
 fn sum(a: i64, b: i64) -> i64
-    requires a_size { unsigned_abs a ≤ 2000000000000 }
-    requires b_size { unsigned_abs b ≤ 2000000000000 }
+    requires a_size { unsigned_abs a ≤ 2 * (greatest_difference * greatest_difference) }
+    requires b_size { unsigned_abs b ≤ 2 * (greatest_difference * greatest_difference) }
     ensures value { result ≡ a +ℤ b }
     ensures size { unsigned_abs result ≤ unsigned_abs a + unsigned_abs b }
 {
@@ -59,12 +60,12 @@ fn sum(a: i64, b: i64) -> i64
 }
 
 /// The outward normal of the face over the edge from `a` to `b`.
-#[tactic(auto, using(crate::proofs::Passing::passing), unfolding(sb_model::specs::Faces::normal_over, sb_model::specs::Faces::step))]
+#[tactic(auto, using(crate::proofs::Passing::passing), unfolding(sb_fraction::specs::Directions::normal_over, sb_fraction::specs::Directions::step))]
 fn normal_over(a: Point, b: Point) -> Axis
     requires a_in_range { IsTrue (is_plan_point a) }
     requires b_in_range { IsTrue (is_plan_point b) }
     ensures value { vector_of result ≡ normal_over_edge (edge a b) }
-    ensures short { IsTrue (is_short result) }
+    ensures short { IsTrue (is_bounded result) }
 {
     let x = difference(b.x, a.x);
     let y = difference(b.y, a.y);
@@ -74,33 +75,33 @@ fn normal_over(a: Point, b: Point) -> Axis
 
 /// The level direction with these coordinates.
 fn level(x: i32, y: i32) -> Axis
-    requires x_size { unsigned_abs x ≤ 1000000 }
-    requires y_size { unsigned_abs y ≤ 1000000 }
+    requires x_size { unsigned_abs x ≤ greatest_difference }
+    requires y_size { unsigned_abs y ≤ greatest_difference }
     ensures value { vector_of result ≡ vector x y (pos 0) }
-    ensures short { IsTrue (is_short result) }
+    ensures short { IsTrue (is_bounded result) }
 {
     Axis { x, y, z: 0 }
 }
 
 /// The difference of two coordinates.
 fn difference(a: i32, b: i32) -> i32
-    requires a_size { unsigned_abs a ≤ 500000 }
-    requires b_size { unsigned_abs b ≤ 500000 }
+    requires a_size { unsigned_abs a ≤ greatest_coordinate }
+    requires b_size { unsigned_abs b ≤ greatest_coordinate }
     ensures value { result ≡ a -ℤ b }
-    ensures size { unsigned_abs result ≤ 1000000 }
+    ensures size { unsigned_abs result ≤ greatest_difference }
 {
     a - b
 }
 
 /// Two numbers divided by their greatest common divisor.
-#[tactic(auto, unfolding(sb_fraction::specs::Ratio::reduced))]
+#[tactic(auto, unfolding(theory_numbers::specs::Fractions::reduced))]
 fn lowest(x: u32, y: u32) -> (u32, u32)
-    requires x_size { x ≤ 1000000 }
-    requires y_size { y ≤ 1000000 }
+    requires x_size { x ≤ greatest_difference }
+    requires y_size { y ≤ greatest_difference }
     ensures x { result.0 ≡ x / greatest_divisor x y }
     ensures y { result.1 ≡ y / greatest_divisor x y }
-    ensures x_size { result.0 ≤ 1000000 }
-    ensures y_size { result.1 ≤ 1000000 }
+    ensures x_size { result.0 ≤ greatest_difference }
+    ensures y_size { result.1 ≤ greatest_difference }
 {
     if y == 0 {
         return (x.min(1), 0);
@@ -111,9 +112,9 @@ fn lowest(x: u32, y: u32) -> (u32, u32)
 
 /// The number of this size with the sign of `like`.
 fn with_sign(size: u32, like: i32) -> i32
-    requires { size ≤ 1000000 }
+    requires { size ≤ greatest_difference }
     ensures value { result ≡ signed_as like size }
-    ensures size { unsigned_abs result ≤ 1000000 }
+    ensures size { unsigned_abs result ≤ greatest_difference }
 {
     if like < 0 {
         -(size as i32)
@@ -124,9 +125,9 @@ fn with_sign(size: u32, like: i32) -> i32
 
 /// The number with its sign changed.
 fn opposite(a: i32) -> i32
-    requires { unsigned_abs a ≤ 1000000 }
+    requires { unsigned_abs a ≤ greatest_difference }
     ensures value { result ≡ neg_ℤ a }
-    ensures size { unsigned_abs result ≤ 1000000 }
+    ensures size { unsigned_abs result ≤ greatest_difference }
 {
     -a
 }

@@ -1,6 +1,7 @@
 //! The report.
 
-ghost use Rattle.std.specs.Prelude.{◌≡◌, ◌<◌, ◌+◌, IfOk, Some, IsTrue, length, slice_get, option_map};
+ghost use Rattle.std.specs.Prelude.{◌≡◌, ◌<◌, ◌+◌, IfOk, Some, IsTrue, length, slice_get};
+ghost use Rattle.std.specs.Prelude.{option_map};
 ghost use Rattle.serde_json.specs.View.{view, items_of};
 ghost use Rattle.serde_json.specs.Data.{array};
 ghost use Rattle.sb_report.specs.Conditions.{is_list_of, have_corners};
@@ -15,7 +16,8 @@ use std::alloc::{AllocError, Global};
 /// The report of a list of boundaries and its model, in UTF-8.
 ///
 /// Each boundary names faces, spaces, elements and keys of the model, and its pair and its parent
-/// are ids of the list. The one error is want of memory. The form of the text is this project's own.
+/// are ids of the list. The one error is want of memory. The form of the text is this project's
+/// own.
 #[tactic(auto, using(crate::proofs::NoFloats::report_has_no_float), unfolding(crate::specs::Report::report_of))]
 pub fn report_text(alloc: Global, model: &Model, bounds: &Boundaries) -> Result<Vec<u8>, AllocError>
     requires of_model { IsTrue (is_list_of model.now bounds.now) }

@@ -1,28 +1,12 @@
-use crate::report_text;
-use crate::text::{written_fraction, written_material};
+use crate::item::items_value;
+use crate::strings::written_material;
 use sb_fraction::{Fraction, Point, Unit};
 use sb_list::{Listed, Text};
-use sb_model::{Axis, Boundaries, Frame, Loops, Model, Prism, Space, Turn};
+use sb_model::{Axis, Frame, Item, Items, Loops, Model, Prism, Space, Turn};
 use std::test::Fail;
 
 #[test]
-fn strings_are_written(rt: HostRuntime) -> Result<(), Fail> {
-    for (num, den, want) in [
-        (4000, 1, "4000"),
-        (10, 3, "10/3"),
-        (-2, 4, "-1/2"),
-        (0, 7, "0"),
-    ] {
-        let text = written_fraction(rt.alloc(), &Fraction::new(num, den))?;
-        assert_eq!(rt; text.as_str(), want, "at {num}/{den}");
-    }
-    let name = written_material(rt.alloc(), &[67, 97, 102, 233])?;
-    assert_eq!(rt; name.as_str(), "Café", "the byte 233 is the character é");
-    Ok(())
-}
-
-#[test]
-fn a_report_is_written(rt: HostRuntime) -> Result<(), Fail> {
+fn a_crossed_layer_is_written(rt: HostRuntime) -> Result<(), Fail> {
     let mut corners = Listed::new(rt.alloc());
     corners.push(Point { x: 0, y: 0 })?;
     corners.push(Point { x: 4000, y: 0 })?;
@@ -58,13 +42,16 @@ fn a_report_is_written(rt: HostRuntime) -> Result<(), Fail> {
     ) else {
         panic!(rt; "this is a model");
     };
-    let text = report_text(rt.alloc(), &model, &Boundaries::new(rt.alloc()))?;
-    let want =
-        b"{\"boundaries\":[],\"format\":\"sbgen-1\",\"ground\":-500,\"reach\":1000,\"spaces\":[20]}\n";
-    assert_eq!(rt;
-        text.as_slice(),
-        want.as_slice(),
-        "a space without boundaries"
-    );
+    let mut items = Items::new(rt.alloc());
+    items.push(Item {
+        element: 30,
+        layer: 1,
+        thickness: Fraction::new(20, 6),
+    })?;
+    let text = items_value(rt.alloc(), &model, &items)?.to_string(rt.alloc())?;
+    let want = "[{\"element\":30,\"layer\":1,\"material\":\"\",\"thickness\":\"10/3\"}]";
+    assert_eq!(rt; text.as_str(), want, "a layer without a name");
+    let name = written_material(rt.alloc(), b"Caf\xE9")?;
+    assert_eq!(rt; name.as_str(), "Café", "the byte 233 is the character é");
     Ok(())
 }

@@ -3,12 +3,14 @@ use Rattle.std.proofs.Common.{◌≡◌, ◌≤◌, ℕ, true, List, [], ◌∷�
 use Rattle.std.proofs.lemmas.Bool.{le-leb}
 use Rattle.sb_model.specs.declared.boundary.Boundary.{Boundary}
 use Rattle.sb_box.specs.BoxList.{BoxPatch, AreBoxBoundaries}
-use Rattle.sb_run.specs.Answers.{have_rising_spaces}
+use Rattle.sb_run.specs.Messages.{have_rising_spaces}
 
-pub box_boundaries_rise : (from space : ℕ) (ps : List BoxPatch) (bs : List Boundary) → from ≤ space
-    → AreBoxBoundaries space ps bs → have_rising_spaces from bs ≡ true
+-- from any number that is not above the space
+pub box_boundaries_rise : (from space : ℕ) (ps : List BoxPatch) (bs : List Boundary)
+    → from ≤ space → AreBoxBoundaries space ps bs → have_rising_spaces from bs ≡ true
 box_boundaries_rise from space [] [] below all = refl
 box_boundaries_rise from space [] (b ∷ bs) below all = absurd all
 box_boundaries_rise from space (p ∷ ps) [] below all = refl
 box_boundaries_rise from space (p ∷ ps) (b ∷ bs) below all =
-    rw (all.0.of_space, le-leb from space below) (box_boundaries_rise space space ps bs (omega arith) all.1)
+    rw (all.0.of_space, le-leb from space below)
+    (box_boundaries_rise space space ps bs (omega arith) all.1)

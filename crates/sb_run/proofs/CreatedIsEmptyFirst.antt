@@ -1,5 +1,6 @@
 -- On an output that was just created stands exactly what was written to it.
-use Rattle.std.proofs.Common.{◌≡◌, ◌++◌, ◌∙◌, ℕ, List, [], length, take, Option, Some, None, Result, Ok, Err, is_some, OnOk, OnErr, subst, refl, ap}
+use Rattle.std.proofs.Common.{◌≡◌, ◌++◌, ◌∙◌, ℕ, List, [], length, take, Option, Some, None, Result}
+use Rattle.std.proofs.Common.{Ok, Err, is_some, OnOk, OnErr, subst, refl, ap}
 use Rattle.std.proofs.Math.Nat.{sub-zero}
 use Rattle.std.specs.Option.{ForSome}
 use Rattle.sb_shelf.specs.WholeTexts.{AppendsFirstOf}
@@ -9,10 +10,13 @@ pub empty_first : (old mid : Option (List ℕ)) → is_some mid ≡ is_some old
     → ForSome old (λ _. mid ≡ Some []) → ForSome mid (λ bytes. bytes ≡ [])
 empty_first None None tells empty = λ bytes told. absurd (cc told)
 empty_first None (Some m) tells empty = absurd (cc tells)
-empty_first (Some b) mid tells empty = λ bytes told. let emptied = empty b refl in cc (told, emptied)
+empty_first (Some b) mid tells empty = λ bytes told.
+    let emptied = empty b refl in
+    cc (told, emptied)
 
 -- what was told stays told
-told_before : (mid new : Option (List ℕ)) (bytes : List ℕ) → is_some new ≡ is_some mid → new ≡ Some bytes
+told_before : (mid new : Option (List ℕ)) (bytes : List ℕ)
+    → is_some new ≡ is_some mid → new ≡ Some bytes
     → (before : List ℕ) × (mid ≡ Some before)
 told_before (Some before) new bytes tells told = (before, refl)
 told_before None new bytes tells told = absurd (cc (tells, ap is_some told))
@@ -20,7 +24,8 @@ told_before None new bytes tells told = absurd (cc (tells, ap is_some told))
 -- the whole text stands there
 pub whole_written : {X E : Type 0} (r : Result X E) (mid new : Option (List ℕ)) (text : List ℕ)
     → is_some new ≡ is_some mid → ForSome mid (λ bytes. bytes ≡ [])
-    → OnOk r (ForSome mid (λ before. new ≡ Some (before ++ text))) → OnOk r (ForSome new (λ bytes. bytes ≡ text))
+    → OnOk r (ForSome mid (λ before. new ≡ Some (before ++ text)))
+    → OnOk r (ForSome new (λ bytes. bytes ≡ text))
 whole_written (Err e) mid new text tells empty written = tt
 whole_written (Ok x) mid new text tells empty written = λ bytes told.
     let before = told_before mid new bytes tells told in

@@ -5,7 +5,9 @@ use Rattle.sb_box.specs.declared.extent.Extent.{Extent}
 use Rattle.sb_form.specs.Meaning.{IsExtentOf, model_of, space_of, space_number}
 use Rattle.sb_form.specs.declared.matcher.FirstForm.{FirstForm}
 
-pub form_is_box : (f : FirstForm) (e : Extent) → IsExtentOf f e → IsBoxModel space_number e (model_of f)
+-- with the corners that its extent says
+pub form_is_box : (f : FirstForm) (e : Extent) → IsExtentOf f e
+    → IsBoxModel space_number e (model_of f)
 form_is_box f e is = record {
   space = space_of f;
   spaces = refl;
@@ -14,5 +16,5 @@ form_is_box f e is = record {
   elements = refl;
   openings = refl;
   fillings = refl;
-  level = refl;
+  ground_height = refl;
 }

@@ -1,3 +1,4 @@
+-- Lemmas, each file a claim.
 mod SpacesEndWhereTheyChange
 mod CreatedIsEmptyFirst
 mod BoxListRises
@@ -6,3 +7,4 @@ mod TextsAreJudged
 mod AnswersHaveTheirCause
 mod BoxListIsReportable
 mod FormIsBox
+mod Examples

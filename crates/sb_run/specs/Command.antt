@@ -1,5 +1,6 @@
 -- The command: which words are one, and what they ask for.
-use Rattle.std.specs.Prelude.{ℕ, ◌==◌, Bool, false, not, ◌&&◌, List, [], ◌∷◌, take, codes, Option, Some, None, if◌then◌else◌}
+use Rattle.std.specs.Prelude.{ℕ, Bool, not, ◌&&◌, List, [], ◌∷◌, take, codes, Option}
+use Rattle.std.specs.Prelude.{Some, None, if◌then◌else◌}
 use Rattle.std.specs.Str.{bytes_eq}
 
 -- the model to read, and where the report is to stand: two paths
@@ -9,8 +10,7 @@ pub record Command : Type 0 where
 
 -- a value is not empty and does not begin with `-`
 abbrev pub is_value : List ℕ → Bool
-is_value [] = false
-is_value (first ∷ others) = not (first == 45)
+is_value word = not (bytes_eq word []) && not (bytes_eq (take 1 word) (codes "-"))
 
 -- `demo:3` is no path
 abbrev pub is_generated : List ℕ → Bool

@@ -1,7 +1,7 @@
 -- What the judgement of an input says.
 use Rattle.std.specs.Prelude.{◌≡◌, ◌⊎◌, ◌<◌, ◌≤◌, ℕ, true, List, length, take, Option}
 use Rattle.std.specs.Option.{ForSome}
-use Rattle.sb_shelf.specs.Outside.{Outside, Rose}
+use Rattle.sb_shelf.specs.World.{World, Rose}
 use Rattle.sb_shelf.specs.declared.shelf.Out.TheVariants.{Ifc, Idf, Report}
 use Rattle.sb_step.specs.IndexAnswers.{HasDoubled}
 use Rattle.sb_step.specs.Faults.{IsFaultAt}
@@ -13,13 +13,16 @@ use Rattle.sb_form.specs.declared.matcher.FirstForm.{FirstForm}
 use Rattle.sb_form.specs.declared.meaning.Defect.{Defect}
 use Rattle.sb_form.specs.declared.meaning.Defect.TheVariants as defect
 use Rattle.sb_report.specs.Report.{report_of}
-use Rattle.sb_run.specs.Promises.{longest, IsExchangeText, IsSound, IsListOf, IsRefused}
+use Rattle.sb_shelf.specs.WholeTexts.{longest_input}
+use Rattle.sb_run.specs.Promises.{IsExchangeText, IsSoundForm, IsListOf, IsRefused}
 use Rattle.sb_run.specs.declared.answer.Answer.{Answer}
-use Rattle.sb_run.specs.declared.answer.Answer.TheVariants.{Done, ReadFault, TooLong, Syntax, Refused, WriteFault, NoMemory}
+use Rattle.sb_run.specs.declared.answer.Answer.TheVariants.{Done, ReadFault, TooLong, Syntax}
+use Rattle.sb_run.specs.declared.answer.Answer.TheVariants.{Refused, WriteFault, NoMemory}
 use Rattle.sb_run.specs.declared.answer.Code.{Code}
 use Rattle.sb_run.specs.declared.answer.Code.TheVariants as code
-use Rattle.sb_run.specs.declared.judging.Ready.{Ready}
+use Rattle.sb_run.specs.declared.judgement.Ready.{Ready}
 
+-- the code of a defect of the form
 abbrev pub code_of : Defect → Code
 code_of defect.Shape = code.Shape
 code_of defect.Range = code.Range
@@ -41,30 +44,30 @@ pub record IsRead (input : List ℕ) : Type 0 where
 abbrev pub IsSole : FirstForm → List ℕ → Type 0
 IsSole form input = (other : FirstForm) → IsFormOf other input → other ≡ form
 
--- the input has its fault at this byte and at no other, is refused for no reason, and no box without
--- defect is spelled by it
+-- the input has its fault at this byte and at no other, is refused for no reason, and no box
+-- without defect is spelled by it
 pub record IsFaultyOnly (input : List ℕ) (place : ℕ) : Type 0 where
-  pub within : length input ≤ longest
+  pub within : length input ≤ longest_input
   pub fault : IsFaultAt input place
   pub only : (other : ℕ) → IsFaultAt input other → other ≡ place
   pub not_refused : (m : ℕ) (why : Code) → IsRefused input m why → ⊥
-  pub unsound : (form : FirstForm) → IsSound form input → ⊥
+  pub unsound : (form : FirstForm) → IsSoundForm form input → ⊥
 
 -- the input has no fault, is refused for this reason and no other, and no box without defect is
 -- spelled by it
 pub record IsRefusedOnly (input : List ℕ) (n : ℕ) (why : Code) : Type 0 where
-  pub within : length input ≤ longest
+  pub within : length input ≤ longest_input
   pub no_fault : (place : ℕ) → IsFaultAt input place → ⊥
   pub refused : IsRefused input n why
   pub only : (m : ℕ) (other : Code) → IsRefused input m other → Refused m other ≡ Refused n why
-  pub unsound : (form : FirstForm) → IsSound form input → ⊥
+  pub unsound : (form : FirstForm) → IsSoundForm form input → ⊥
 
 -- the input is a form without defect, and this is its list and its report
 pub record IsReady (input : List ℕ) (ready : Ready) : Type 0 where
-  pub within : length input ≤ longest
+  pub within : length input ≤ longest_input
   pub read : IsRead input
   pub form : FirstForm
-  pub sound : IsSound form input
+  pub sound : IsSoundForm form input
   pub sole : IsSole form input
   pub list_is : IsListOf form ready.list
   pub report_is : ready.report.items ≡ report_of (model_of form) ready.list
@@ -77,9 +80,9 @@ IsJudged input NoMemory = Unit {0}
 IsJudged input _ = ⊥
 
 -- no answer but these comes before anything is created and after the words, each with its cause
-abbrev pub IsRefusal : Option (List ℕ) → Answer → Outside → Outside → Type 0
+abbrev pub IsRefusal : Option (List ℕ) → Answer → World → World → Type 0
 IsRefusal told ReadFault old new = Rose old.read_faults new.read_faults
-IsRefusal told TooLong old new = ForSome told (λ input. longest < length input)
+IsRefusal told TooLong old new = ForSome told (λ input. longest_input < length input)
 IsRefusal told (Syntax place) old new = ForSome told (λ input. IsFaultyOnly input place)
 IsRefusal told (Refused n why) old new = ForSome told (λ input. IsRefusedOnly input n why)
 IsRefusal told NoMemory old new = Unit {0}
@@ -90,16 +93,17 @@ abbrev pub IsSameOrNoMemory : Answer → Answer → Type 0
 IsSameOrNoMemory answer result = (result ≡ answer) ⊎ (result ≡ NoMemory)
 
 -- After what was ready was put: the answer is Done with its list, or a fault of writing.
-abbrev pub IsFinished : Ready → Answer → Outside → Outside → Type 0
+abbrev pub IsFinished : Ready → Answer → World → World → Type 0
 IsFinished ready (Done list) old new =
     (list ≡ ready.list) × ForSome (new.bytes Report) (λ bytes. bytes ≡ ready.report.items)
 IsFinished ready WriteFault old new =
     Rose old.file_faults new.file_faults
-    × (new.is_created Report ≡ true → ForSome (new.bytes Report) (λ bytes. bytes ≡ take (length bytes) ready.report.items))
+    × (new.is_created Report ≡ true → ForSome (new.bytes Report)
+    (λ bytes. bytes ≡ take (length bytes) ready.report.items))
 IsFinished ready _ old new = ⊥
 
 -- what can be read, and the two files that are not written, are as they were
-pub record OnlyReportAndMessage (old new : Outside) : Type 0 where
+pub record OnlyReportAndMessage (old new : World) : Type 0 where
   pub ifc : new.is_created Ifc ≡ old.is_created Ifc
   pub idf : new.is_created Idf ≡ old.is_created Idf
   pub read_faults : new.read_faults ≡ old.read_faults

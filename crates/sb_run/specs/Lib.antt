@@ -1,6 +1,6 @@
 -- What contracts of this crate cite, in reading order.
 pub mod Command
-pub mod Answers
+pub mod Statuses
 pub mod Promises
+pub mod Messages
 pub mod Judgements
-pub mod Steps

@@ -1,7 +1,7 @@
--- What a run promises. `old` and `new` are the outside before the run and after it.
+-- What a run promises. `old` and `new` are the world before the run and after it.
 use Rattle.std.specs.Prelude.{◌≡◌, ◌≤◌, ◌++◌, ℕ, false, true, List, length, take, Some, None}
 use Rattle.std.specs.Option.{ForSome}
-use Rattle.sb_shelf.specs.Outside.{Outside, Rose}
+use Rattle.sb_shelf.specs.World.{World, Rose}
 use Rattle.sb_shelf.specs.WholeTexts.{AppendsFirstOf}
 use Rattle.sb_shelf.specs.declared.shelf.Out.TheVariants.{Ifc, Idf, Report, Said}
 use Rattle.sb_step.specs.Indexed.{Indexed}
@@ -23,23 +23,19 @@ use Rattle.sb_run.specs.declared.answer.Answer.TheVariants.{Done, WriteFault, No
 use Rattle.sb_run.specs.declared.answer.Code.{Code}
 use Rattle.sb_run.specs.declared.answer.Code.TheVariants as code
 
--- the greatest length of an input, in bytes: 64 MiB
-abbrev pub longest : ℕ
-longest = 67108864
-
 -- the words are a command, and these are the bytes under its model, which the shelf tells
-pub record IsInput (words : List (List ℕ)) (old : Outside) (bytes : List ℕ) : Type 0 where
+pub record IsInput (words : List (List ℕ)) (old : World) (bytes : List ℕ) : Type 0 where
   pub asked : Command
   pub is_asked : command words ≡ Some asked
   pub is_told : old.under asked.model ≡ Some bytes
 
 -- the IFC text and the IDF are not written yet
-pub record OnlyReport (s : Outside) : Type 0 where
+pub record OnlyReport (s : World) : Type 0 where
   pub no_ifc : s.is_created Ifc ≡ false
   pub no_idf : s.is_created Idf ≡ false
 
 -- the input is the first form with these numbers, and they have no defect
-pub record IsSound (form : FirstForm) (input : List ℕ) : Type 0 where
+pub record IsSoundForm (form : FirstForm) (input : List ℕ) : Type 0 where
   pub spelled : IsFormOf form input
   pub no_defect : defect_of form ≡ None
 
@@ -70,34 +66,36 @@ pub record IsListOf (form : FirstForm) (list : List Boundary) : Type 0 where
   pub is_extent : IsExtentOf form extent
   pub is_list : IsBoxList space_number extent list
 
--- After Done: the input is a form without defect, the list is that of its box, and on the report stands
--- the text of the list for the model of the input.
-pub record Reports (input : List ℕ) (list : List Boundary) (new : Outside) : Type 0 where
+-- After Done: the input is a form without defect, the list is that of its box, and on the report
+-- stands the text of the list for the model of the input.
+pub record Reports (input : List ℕ) (list : List Boundary) (new : World) : Type 0 where
   pub form : FirstForm
-  pub sound : IsSound form input
+  pub sound : IsSoundForm form input
   pub list_is : IsListOf form list
   pub written : ForSome (new.bytes Report) (λ bytes. bytes ≡ report_of (model_of form) list)
 
 -- After a fault of writing: where the report was created, a first part of that text stands on it.
-pub record ReportsInPart (input : List ℕ) (new : Outside) : Type 0 where
+pub record ReportsInPart (input : List ℕ) (new : World) : Type 0 where
   pub form : FirstForm
-  pub sound : IsSound form input
+  pub sound : IsSoundForm form input
   pub list : List Boundary
   pub list_is : IsListOf form list
   pub written : new.is_created Report ≡ true
-      → ForSome (new.bytes Report) (λ bytes. bytes ≡ take (length bytes) (report_of (model_of form) list))
+      → ForSome (new.bytes Report)
+      (λ bytes. bytes ≡ take (length bytes) (report_of (model_of form) list))
 
 -- what stands on the report after an answer, for an input
-abbrev pub ReportStands : List ℕ → Outside → Answer → Type 0
+abbrev pub ReportStands : List ℕ → World → Answer → Type 0
 ReportStands input new (Done list) = Reports input list new
 ReportStands input new WriteFault = ReportsInPart input new
 ReportStands input new _ = Unit {0}
 
--- A text is said: it stands behind what was said before. Only where the count of failed messages rose
--- may a first part of it stand there.
-pub record Says (text : List ℕ) (old new : Outside) : Type 0 where
+-- A text is said: it stands behind what was said before. Only where the count of failed messages
+-- rose may a first part of it stand there.
+pub record Says (text : List ℕ) (old new : World) : Type 0 where
   pub no_fall : old.said_faults ≤ new.said_faults
-  pub in_part : ForSome (old.bytes Said) (λ before. ForSome (new.bytes Said) (AppendsFirstOf text before))
+  pub in_part : ForSome (old.bytes Said)
+      (λ before. ForSome (new.bytes Said) (AppendsFirstOf text before))
   pub whole : (Rose old.said_faults new.said_faults → ⊥)
       → ForSome (old.bytes Said) (λ before. new.bytes Said ≡ Some (before ++ text))
 

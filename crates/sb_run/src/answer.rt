@@ -1,6 +1,6 @@
 // The answers of the program and their statuses.
 ghost use Rattle.std.specs.Prelude.{◌≡◌};
-ghost use Rattle.sb_run.specs.Answers.{status};
+ghost use Rattle.sb_run.specs.Statuses.{status};
 
 use sb_model::Boundaries;
 
@@ -32,7 +32,8 @@ pub enum Answer {
     TooLong,
     /// The input is no exchange text (ISO 10303-21): it has its fault at this byte.
     Syntax(u64),
-    /// The input is refused because of the instance with this number, or of the whole where it is 0.
+    /// The input is refused because of the instance with this number, or of the whole where it is
+    /// 0.
     Refused(u32, Code),
     /// Creating or writing an output has failed. A first part of its text may stand on it.
     WriteFault,

@@ -3,11 +3,11 @@
 #![tactic(auto)]
 
 mod answer;
-mod asking;
-mod judging;
-mod outside;
-mod telling;
-mod top;
+mod command;
+mod judgement;
+mod messages;
+mod outputs;
+mod program;
 
 pub use answer::{Answer, Code, status};
-pub use top::run;
+pub use program::run;

@@ -1,10 +1,10 @@
 -- Two calls that keep all else keep it together, so what a run of calls changes is what one may.
 use Rattle.std.proofs.Common.{◌∙◌, arith}
 use Rattle.sb_shelf.specs.declared.shelf.Out.{Out}
-use Rattle.sb_shelf.specs.Outside.{Outside, SameOut, OnlyReads, OnlyOutput, OnlyWrites}
+use Rattle.sb_shelf.specs.World.{World, SameOut, OnlyReads, OnlyOutput, OnlyWrites}
 
 -- an output that two calls leave alone is as it was
-pub same_out_twice : {out : Out} {a b c : Outside}
+pub same_out_twice : {out : Out} {a b c : World}
     → SameOut out a b → SameOut out b c → SameOut out a c
 same_out_twice first second = record {
   is_created = second.is_created ∙ first.is_created;
@@ -12,7 +12,7 @@ same_out_twice first second = record {
 }
 
 -- two calls that only read are as one
-pub only_reads_twice : {a b c : Outside} → OnlyReads a b → OnlyReads b c → OnlyReads a c
+pub only_reads_twice : {a b c : World} → OnlyReads a b → OnlyReads b c → OnlyReads a c
 only_reads_twice first second = record {
   under = λ path. second.under path ∙ first.under path;
   tells_left = second.tells_left ∙ first.tells_left;
@@ -23,7 +23,7 @@ only_reads_twice first second = record {
 }
 
 -- two calls that change one output only are as one
-pub only_output_twice : {out : Out} {a b c : Outside}
+pub only_output_twice : {out : Out} {a b c : World}
     → OnlyOutput out a b → OnlyOutput out b c → OnlyOutput out a c
 only_output_twice first second = record {
   under = λ path. second.under path ∙ first.under path;
@@ -34,7 +34,7 @@ only_output_twice first second = record {
 }
 
 -- two calls that only write to an output are as one
-pub only_writes_twice : {out : Out} {a b c : Outside}
+pub only_writes_twice : {out : Out} {a b c : World}
     → OnlyWrites out a b → OnlyWrites out b c → OnlyWrites out a c
 only_writes_twice {out} first second = record {
   output = only_output_twice first.output second.output;

@@ -3,7 +3,7 @@ use Rattle.std.proofs.Common.{◌≡◌, true, false, refl, [], ◌∷◌, arith
 use Rattle.sb_shelf.specs.declared.shelf.Out.{Out}
 use Rattle.sb_shelf.specs.declared.shelf.Out.TheVariants.{Ifc, Idf, Report, Said}
 use Rattle.sb_shelf.specs.declared.steady.SteadyShelf.{SteadyShelf}
-use Rattle.sb_shelf.specs.Outside.{Rose, last_count, faults_of}
+use Rattle.sb_shelf.specs.World.{Rose, last_count, faults_of}
 use Rattle.sb_shelf.specs.Steady.{steady_state}
 use Rattle.sb_shelf.specs.WholeTexts.{AppendsFirstOf}
 use Rattle.sb_shelf.specs.Counting.{is_among}

@@ -5,10 +5,10 @@ use Rattle.std.specs.Option.{ForSome}
 use Rattle.std.proofs.Math.Seq.{take-add}
 use Rattle.sb_shelf.specs.declared.shelf.Out.{Out}
 use Rattle.sb_shelf.proofs.CallsCompose.{only_writes_twice}
-use Rattle.sb_shelf.specs.Outside.{Outside, OnlyWrites}
+use Rattle.sb_shelf.specs.World.{World, OnlyWrites}
 
 -- so far nothing but writing to this output was done, and the first bytes of the text stand there
-pub record IsWriting (out : Out) (text : List ℕ) (done : ℕ) (start now : Outside) : Type 0 where
+pub record IsWriting (out : Out) (text : List ℕ) (done : ℕ) (start now : World) : Type 0 where
   pub keeps : OnlyWrites out start now
   pub bytes : ForSome (start.bytes out) (λ before. now.bytes out ≡ Some (before ++ take done text))
 
@@ -22,7 +22,7 @@ appended_where_told was between now text done n first second before is_before =
     ∙ ap (λ written. before ++ written) (sym (take-add done n text)))
 
 -- a write of the rest of the text goes on where the parts before it end
-pub pieces_append : (out : Out) (start between now : Outside)
+pub pieces_append : (out : Out) (start between now : World)
     (text : List ℕ) (done n : ℕ) (rest : List ℕ)
     → rest ≡ drop done text
     → IsWriting out text done start between

@@ -5,12 +5,12 @@ use Rattle.std.specs.Bool.{OnFalse}
 use Rattle.std.specs.Prelude.{is_some, nat_lt}
 use Rattle.std.specs.Option.{ForSome, option_map}
 use Rattle.std.proofs.lemmas.List.{take-append-drop}
-use Rattle.sb_shelf.specs.Outside.{Outside, OnlyReads}
+use Rattle.sb_shelf.specs.World.{World, OnlyReads}
 use Rattle.sb_shelf.specs.Calls.{Moves}
 use Rattle.sb_shelf.specs.WholeTexts.{taken_and_left}
 
 -- so far nothing but reading was done, and what was taken with what is left is the text of the path
-pub record IsReading (path : List ℕ) (start now : Outside) (taken : List ℕ) : Type 0 where
+pub record IsReading (path : List ℕ) (start now : World) (taken : List ℕ) : Type 0 where
   pub keeps : OnlyReads start now
   pub whole : ForSome (start.under path) (λ told. taken_and_left taken now ≡ Some told)
 
@@ -26,7 +26,7 @@ joined_where_told (Some left) now taken came n tells told =
     rw (moved.1, moved.0, regrouped, take-append-drop n left) refl
 
 -- a piece goes from what is left to the end of what was taken
-pub pieces_join : (was now : Outside) (taken before after : List ℕ) (n : ℕ)
+pub pieces_join : (was now : World) (taken before after : List ℕ) (n : ℕ)
     → is_some now.left ≡ is_some was.left
     → ForSome was.left (λ left. Moves n before after left now)
     → taken_and_left (taken ++ take n after) now ≡ taken_and_left taken was
@@ -47,7 +47,7 @@ ends_where_told (Some was_left) now tells told left is_left =
     cc
 
 -- nothing came into a piece that is not empty, so nothing is left
-pub nothing_left : (was now : Outside) (before after : List ℕ) (n : ℕ)
+pub nothing_left : (was now : World) (before after : List ℕ) (n : ℕ)
     → is_some now.left ≡ is_some was.left
     → ForSome was.left (λ left. Moves n before after left now)
     → 0 < length after

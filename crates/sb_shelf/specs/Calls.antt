@@ -1,14 +1,14 @@
--- What the four calls of a shelf do, each as a relation of the outside before and after it.
+-- What the four calls of a shelf do, each as a relation of the world before and after it.
 use Rattle.std.specs.Prelude.{◌≡◌, ◌↔◌, ℕ, ◌<◌, ◌≤◌, true, Some, Result, IfOk, OnOk, OnErr}
 use Rattle.std.specs.Prelude.{List, [], ◌++◌, length, take, drop}
 use Rattle.std.specs.Option.{ForSome}
 use Rattle.sb_shelf.specs.declared.shelf.Out.{Out}
 use Rattle.sb_shelf.specs.declared.shelf.Failed.{Failed}
-use Rattle.sb_shelf.specs.Outside.{Outside, Rose, faults_of, OnlyReads, OnlyOutput, OnlyWrites}
+use Rattle.sb_shelf.specs.World.{World, Rose, faults_of, OnlyReads, OnlyOutput, OnlyWrites}
 
 -- `open`: the bytes under the path, where they are told, are what is left to read.
 pub record Opens
-    (path : List ℕ) (result : Result (Unit {0}) Failed) (old new : Outside) : Type 0 where
+    (path : List ℕ) (result : Result (Unit {0}) Failed) (old new : World) : Type 0 where
   pub keeps : OnlyReads old new
   pub ok : OnOk result (ForSome (old.under path) (λ bytes. new.left ≡ Some bytes))
   pub failed : OnErr result (Rose old.read_faults new.read_faults)
@@ -16,7 +16,7 @@ pub record Opens
 
 -- The first n of the bytes that were left have come into the piece, and the rest is left. None of
 -- them comes into a piece that is not empty exactly at the end.
-pub record Moves (n : ℕ) (before after left : List ℕ) (new : Outside) : Type 0 where
+pub record Moves (n : ℕ) (before after left : List ℕ) (new : World) : Type 0 where
   pub there : n ≤ length left
   pub moved : take n after ≡ take n left
   pub untouched : drop n after ≡ drop n before
@@ -26,7 +26,7 @@ pub record Moves (n : ℕ) (before after left : List ℕ) (new : Outside) : Type
 -- `read` into a piece: `before` and `after` are the bytes of the piece. After a failed call they
 -- are the same where it is told what is left; a host does not say what a failed read leaves there.
 pub record Reads
-    (before after : List ℕ) (result : Result ℕ Failed) (old new : Outside) : Type 0 where
+    (before after : List ℕ) (result : Result ℕ Failed) (old new : World) : Type 0 where
   pub keeps : OnlyReads old new
   pub within : IfOk result (λ n. n ≤ length after)
   pub ok : IfOk result (λ n. ForSome old.left (λ left. Moves n before after left new))
@@ -36,7 +36,7 @@ pub record Reads
 
 -- `create`: the output is created and, where its bytes are told, empty.
 pub record Creates
-    (out : Out) (result : Result (Unit {0}) Failed) (old new : Outside) : Type 0 where
+    (out : Out) (result : Result (Unit {0}) Failed) (old new : World) : Type 0 where
   pub keeps : OnlyOutput out old new
   pub file_faults : old.file_faults ≤ new.file_faults
   pub said_faults : new.said_faults ≡ old.said_faults
@@ -49,7 +49,7 @@ pub record Creates
 -- `write`: the first n bytes of the piece stand behind what stood on the output; at least one of a
 -- piece that is not empty.
 pub record Writes
-    (out : Out) (piece : List ℕ) (result : Result ℕ Failed) (old new : Outside) : Type 0 where
+    (out : Out) (piece : List ℕ) (result : Result ℕ Failed) (old new : World) : Type 0 where
   pub keeps : OnlyWrites out old new
   pub within : IfOk result (λ n. n ≤ length piece)
   pub some : IfOk result (λ n. 0 < length piece → 0 < n)

@@ -4,26 +4,26 @@ use Rattle.std.specs.Prelude.{Result, IfOk, is_ok}
 use Rattle.std.specs.List.{list_any}
 use Rattle.sb_shelf.specs.declared.shelf.Failed.{Failed}
 use Rattle.sb_shelf.specs.declared.shelf.Out.{Out}
-use Rattle.sb_shelf.specs.Outside.{Outside, one_more, faults_of}
+use Rattle.sb_shelf.specs.World.{World, one_more, faults_of}
 
--- whether this number is listed
+-- whether the n-th call is one of the listed
 abbrev pub is_among : List ℕ → ℕ → Bool
-is_among numbers n = list_any (λ number. number == n) numbers
+is_among listed n = list_any (λ call. call == n) listed
 
 -- a count of failed calls after one more call, which failed or did not
 abbrev pub count_after : {T : Type 0} → Result T Failed → ℕ → ℕ
 count_after result count = if is_ok result then count else one_more count
 
 -- the count of read faults is that of failed calls: one more after one that failed
-abbrev pub CountsReads : {T : Type 0} → Result T Failed → Outside → Outside → Type 0
+abbrev pub CountsReads : {T : Type 0} → Result T Failed → World → World → Type 0
 CountsReads result old new = new.read_faults ≡ count_after result old.read_faults
 
 -- the same of the count of file faults
-abbrev pub CountsCreates : {T : Type 0} → Result T Failed → Outside → Outside → Type 0
+abbrev pub CountsCreates : {T : Type 0} → Result T Failed → World → World → Type 0
 CountsCreates result old new = new.file_faults ≡ count_after result old.file_faults
 
 -- the same of the count of writes to this output
-abbrev pub CountsWrites : {T : Type 0} → Out → Result T Failed → Outside → Outside → Type 0
+abbrev pub CountsWrites : {T : Type 0} → Out → Result T Failed → World → World → Type 0
 CountsWrites out result old new = faults_of out new ≡ count_after result (faults_of out old)
 
 -- The answer of a write of this piece, and its count: at most the piece was taken, and something of

@@ -1,5 +1,5 @@
 -- What contracts of this crate cite, in reading order.
-pub mod Outside
+pub mod World
 pub mod Calls
 pub mod WholeTexts
 pub mod Counting

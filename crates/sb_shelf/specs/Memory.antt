@@ -2,35 +2,36 @@
 use Rattle.std.specs.Prelude.{◌≡◌, ◌≢◌, ℕ, min, Bool, true, List, [], Some}
 use Rattle.sb_shelf.specs.declared.shelf.Out.{Out}
 use Rattle.sb_shelf.specs.declared.shelf.Out.TheVariants.{Ifc, Idf, Report, Said}
-use Rattle.sb_shelf.specs.declared.sheet.Sheet.{Sheet}
+use Rattle.sb_shelf.specs.declared.page.Page.{Page}
 use Rattle.sb_shelf.specs.declared.memory.MemoryShelf.{MemoryShelf}
-use Rattle.sb_shelf.specs.Outside.{Outside, IsUntouched, one_more}
+use Rattle.sb_shelf.specs.World.{World, IsUntouched, one_more}
 use Rattle.sb_shelf.specs.Counting.{is_among}
 use Rattle.sb_shelf.specs.Input.{left_of, told_under}
 
-abbrev pub sheet_of : MemoryShelf → Out → Sheet
-sheet_of m Ifc = m.ifc
-sheet_of m Idf = m.idf
-sheet_of m Report = m.report
-sheet_of m Said = m.said
+-- the page of an output
+abbrev pub page_of : MemoryShelf → Out → Page
+page_of m Ifc = m.ifc
+page_of m Idf = m.idf
+page_of m Report = m.report
+page_of m Said = m.said
 
 -- how many more bytes may be written to the output
 abbrev pub room_of : MemoryShelf → Out → ℕ
-room_of m out = (sheet_of m out).room
+room_of m out = (page_of m out).room
 
 -- a shelf in memory tells everything; a path that it does not hold has no bytes
-abbrev pub memory_state : MemoryShelf → Outside
+abbrev pub memory_state : MemoryShelf → World
 memory_state m = record {
   under = λ path. Some (told_under m.input path);
   left = Some (left_of m.input);
-  is_created = λ out. (sheet_of m out).is_created;
-  bytes = λ out. Some (sheet_of m out).bytes.items;
+  is_created = λ out. (page_of m out).is_created;
+  bytes = λ out. Some (page_of m out).bytes.items;
   read_faults = m.read_faults;
   file_faults = m.file_faults;
   said_faults = m.said_faults;
 }
 
--- whether the next call is one of those that are to fail; the call before it was number `calls`
+-- whether the next call is one of those that are to fail; `calls` were made before it
 abbrev pub is_listed : MemoryShelf → Bool
 is_listed m = is_among m.failing (one_more m.calls)
 
@@ -38,14 +39,14 @@ is_listed m = is_among m.failing (one_more m.calls)
 abbrev pub at_most_a_piece : MemoryShelf → ℕ → ℕ
 at_most_a_piece m bytes = min m.piece bytes
 
--- What a shelf holds, which of its calls fail and how much they move is given once and for all; the
--- number of its last call is this one now.
+-- What a shelf holds, which of its calls fail and how much they move is given once and for all; so
+-- many calls were made now.
 pub record IsCalled (calls : ℕ) (old new : MemoryShelf) : Type 0 where
   pub path : new.input.path ≡ old.input.path
   pub bytes : new.input.bytes ≡ old.input.bytes
   pub failing : new.failing ≡ old.failing
   pub piece : new.piece ≡ old.piece
-  pub number : new.calls ≡ calls
+  pub made : new.calls ≡ calls
 
 -- one more call was made
 abbrev pub IsCall : MemoryShelf → MemoryShelf → Type 0

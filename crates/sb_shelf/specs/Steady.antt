@@ -3,12 +3,12 @@
 use Rattle.std.specs.Prelude.{ℕ, Bool, List, [], Some, None, if◌then◌else◌}
 use Rattle.std.specs.Str.{bytes_eq}
 use Rattle.sb_shelf.specs.declared.steady.SteadyShelf.{SteadyShelf}
-use Rattle.sb_shelf.specs.Outside.{Outside, created_of}
+use Rattle.sb_shelf.specs.World.{World, created_of}
 use Rattle.sb_shelf.specs.Input.{left_of}
 
 -- From the path that is held, the bytes under it, what is left of them, and which files are
 -- created. A path that is not held has no bytes, and the three counts are 0.
-abbrev pub never_failing : List ℕ → List ℕ → List ℕ → Bool → Bool → Bool → Outside
+abbrev pub never_failing : List ℕ → List ℕ → List ℕ → Bool → Bool → Bool → World
 never_failing held bytes left ifc idf report = record {
   under = λ path. Some (if bytes_eq path held then bytes else []);
   left = Some left;
@@ -19,6 +19,7 @@ never_failing held bytes left ifc idf report = record {
   said_faults = 0;
 }
 
-abbrev pub steady_state : SteadyShelf → Outside
+-- the world that such a shelf stands for
+abbrev pub steady_state : SteadyShelf → World
 steady_state s =
     never_failing s.input.path s.input.bytes (left_of s.input) s.has_ifc s.has_idf s.has_report

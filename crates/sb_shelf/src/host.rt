@@ -1,7 +1,7 @@
 ghost use Rattle.std.specs.Prelude.{◌≡◌, ◌≤◌, false, true, length, is_some, IfOk, OnOk};
 ghost use Rattle.sb_shelf.specs.Counting.{IsCounted};
 
-use crate::calls::raise;
+use crate::counting::raise;
 use crate::shelf::{Failed, Out, Shelf};
 use std::fs::File;
 use std::io;
@@ -25,7 +25,7 @@ pub struct HostShelf<R: Files + Print + Drop> {
 }
 
 impl<R: Files + Print + Drop> HostShelf<R> {
-    ghost use Rattle.sb_shelf.specs.Outside.{IsUntouched};
+    ghost use Rattle.sb_shelf.specs.World.{IsUntouched};
     ghost use Rattle.sb_shelf.specs.Host.{host_state};
 
     /// A shelf over the files and the standard output of this runtime: nothing is open, and only

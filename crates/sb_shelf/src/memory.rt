@@ -1,9 +1,9 @@
 ghost use Rattle.std.specs.Prelude.{◌≡◌, ◌-◌, ◌<◌, ◌≤◌, ◌||◌, false, true, length, min, nat_lt};
 ghost use Rattle.std.specs.Prelude.{Some, is_some, is_err, IfOk, IfSome, OnOk, OnErr};
 
-use crate::calls::{Calls, append_unless, is_next_listed, raise};
+use crate::counting::{Calls, append_unless, begin_call, is_next_listed};
 use crate::input::Input;
-use crate::sheet::Sheet;
+use crate::page::Page;
 use crate::shelf::{Failed, Out, Shelf};
 use sb_list::Text;
 use std::alloc::{AllocError, Global};
@@ -22,10 +22,10 @@ pub struct MemoryShelf {
     calls: u64,
     /// The most bytes that a read or a write moves.
     piece: usize,
-    ifc: Sheet,
-    idf: Sheet,
-    report: Sheet,
-    said: Sheet,
+    ifc: Page,
+    idf: Page,
+    report: Page,
+    said: Page,
     read_faults: u64,
     file_faults: u64,
     said_faults: u64,
@@ -48,10 +48,10 @@ impl MemoryShelf {
             failing,
             calls: 0,
             piece,
-            ifc: Sheet::new(alloc, false),
-            idf: Sheet::new(alloc, false),
-            report: Sheet::new(alloc, false),
-            said: Sheet::new(alloc, true),
+            ifc: Page::new(alloc, false),
+            idf: Page::new(alloc, false),
+            report: Page::new(alloc, false),
+            said: Page::new(alloc, true),
             read_faults: 0,
             file_faults: 0,
             said_faults: 0,
@@ -82,14 +82,14 @@ impl MemoryShelf {
         ensures bytes { IfSome result
             (λ bytes. (memory_state self.now).bytes out ≡ Some bytes.now) }
     {
-        let sheet = match out {
+        let page = match out {
             Out::Ifc => &self.ifc,
             Out::Idf => &self.idf,
             Out::Report => &self.report,
             Out::Said => &self.said,
         };
-        if sheet.is_created {
-            Some(sheet.bytes.as_slice())
+        if page.is_created {
+            Some(page.bytes.as_slice())
         } else {
             None
         }
@@ -116,10 +116,7 @@ impl Shelf for MemoryShelf {
         ensures called { IsCall self.old self.new }
         ensures rooms { SameRooms self.old self.new }
     {
-        if is_next_listed(&mut self.calls, &self.failing) {
-            raise(&mut self.read_faults);
-            return Err(Failed);
-        }
+        begin_call(&mut self.calls, &self.failing, &mut self.read_faults)?;
         self.input.open(path);
         Ok(())
     }
@@ -134,10 +131,7 @@ impl Shelf for MemoryShelf {
         ensures called { IsCall self.old self.new }
         ensures rooms { SameRooms self.old self.new }
     {
-        if is_next_listed(&mut self.calls, &self.failing) {
-            raise(&mut self.read_faults);
-            return Err(Failed);
-        }
+        begin_call(&mut self.calls, &self.failing, &mut self.read_faults)?;
         Ok(self.input.read(into, self.piece))
     }
 
@@ -149,10 +143,7 @@ impl Shelf for MemoryShelf {
         ensures called { IsCall self.old self.new }
         ensures rooms { SameRooms self.old self.new }
     {
-        if is_next_listed(&mut self.calls, &self.failing) {
-            raise(&mut self.file_faults);
-            return Err(Failed);
-        }
+        begin_call(&mut self.calls, &self.failing, &mut self.file_faults)?;
         match out {
             Out::Ifc => self.ifc.create(),
             Out::Idf => self.idf.create(),

@@ -17,19 +17,19 @@ pub enum Out {
 #[derive(Drop)]
 pub struct Failed;
 
-/// The outside of the program.
+/// The world outside the program.
 ///
 /// A shelf may tell the bytes under a path, what is left to read, and the bytes on an output; which
 /// of these it tells never changes. It counts its failed calls in three counts that never fall: of
 /// `open` and `read`, of `create` and of `write` to the three files, and of `write` to `Said`. Each
 /// count stays at 2^64 - 1 once it is there.
 pub trait Shelf {
-    ghost use Rattle.sb_shelf.specs.Outside.{Outside};
+    ghost use Rattle.sb_shelf.specs.World.{World};
     ghost use Rattle.sb_shelf.specs.Calls.{Opens, Reads, Creates, Writes};
     ghost use Rattle.sb_shelf.specs.declared.shelf.Out.TheVariants.{Said};
 
     /// What the shelf stands for.
-    ghost state: { Self → Outside };
+    ghost state: { Self → World };
 
     /// Makes the bytes under the path what is left to read.
     fn open(&mut self, path: &str) -> Result<(), Failed>

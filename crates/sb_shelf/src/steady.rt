@@ -19,7 +19,7 @@ pub struct SteadyShelf {
 }
 
 impl SteadyShelf {
-    ghost use Rattle.sb_shelf.specs.Outside.{IsUntouched};
+    ghost use Rattle.sb_shelf.specs.World.{IsUntouched};
     ghost use Rattle.sb_shelf.specs.Steady.{never_failing, steady_state};
 
     /// A shelf with these bytes under this path. Nothing is left to read before the first `open`,

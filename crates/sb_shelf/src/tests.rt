@@ -1,6 +1,5 @@
-ghost use Rattle.std.specs.Prelude.{◌<◌, ◌≡◌, false, IfOk, IsErrOf};
+ghost use Rattle.std.specs.Prelude.{◌<◌, ◌≡◌, false, IfOk};
 ghost use Rattle.sb_shelf.specs.Memory.{memory_state};
-ghost use Rattle.sb_shelf.specs.Steady.{steady_state};
 
 use crate::{
     Calls, HostShelf, MemoryShelf, Out, ReadError, Shelf, SteadyShelf, read_all, write_all,
@@ -26,13 +25,11 @@ fn shelf(alloc: Global, bytes: &[u8], failing: u64, piece: usize) -> Result<Memo
 }
 
 /// What `read_all` answers over a shelf that holds `bytes`, as a word.
-fn read_word<S: Shelf>(alloc: Global, shelf: &mut S, path: &str, bytes: &[u8]) -> &'static str {
-    match read_all(alloc, shelf, path) {
+fn read_word<S: Shelf>(alloc: Global, shelf: &mut S, bytes: &[u8]) -> &'static str {
+    match read_all(alloc, shelf, "model.ifc") {
         Ok(read) => {
             if read.as_slice() == bytes {
                 "all"
-            } else if read.is_empty() {
-                "nothing"
             } else {
                 "other bytes"
             }
@@ -47,50 +44,23 @@ fn read_word<S: Shelf>(alloc: Global, shelf: &mut S, path: &str, bytes: &[u8]) -
 #[test]
 fn a_text_is_read_whole_or_not_at_all(rt: HostRuntime) -> Result<(), Fail> {
     let text = b"ISO-10303-";
-    let held = "model.ifc";
-    for (path, failing, piece, want, why) in [
-        (held, 0, 100, "all", "one large piece"),
-        (held, 0, 7, "all", "pieces of 7 bytes"),
-        (held, 0, 1, "all", "pieces of 1 byte"),
-        (
-            "other.ifc",
-            0,
-            7,
-            "nothing",
-            "a path that is not held has no bytes",
-        ),
-        (held, 1, 7, "fault", "open fails"),
-        (held, 2, 7, "fault", "the first read fails"),
-        (held, 3, 7, "fault", "the second read fails, after 7 bytes"),
-        (held, 4, 7, "fault", "the read at the end fails"),
-        (held, 5, 7, "all", "there is no fifth call"),
-        (
-            held,
-            12,
-            1,
-            "fault",
-            "the read at the end fails, in pieces of 1",
-        ),
-    ] {
-        let mut shelf = shelf(rt.alloc(), text, failing, piece)?;
-        let got = read_word(rt.alloc(), &mut shelf, path, text);
-        assert_eq!(rt; got, want, "{why}");
+    for (failing, want) in [(0, "all"), (3, "fault"), (4, "fault"), (5, "all")] {
+        let mut shelf = shelf(rt.alloc(), text, failing, 7)?;
+        let got = read_word(rt.alloc(), &mut shelf, text);
+        assert_eq!(rt; got, want, "where call {failing} fails");
     }
     Ok(())
 }
 
-/// Creates the report, writes the text to it, and answers whether all went well and what stands
-/// there.
+/// Creates the report, writes the text to it in pieces of 7 bytes, and answers whether all went
+/// well and what stands there.
 fn write_report(
     alloc: Global,
     text: &[u8],
     failing: u64,
-    piece: usize,
     room: usize,
-) -> Result<(bool, Option<Text>), AllocError>
-    requires { 0 < piece }
-{
-    let mut shelf = shelf(alloc, b"", failing, piece)?;
+) -> Result<(bool, Option<Text>), AllocError> {
+    let mut shelf = shelf(alloc, b"", failing, 7)?;
     shelf.reserve(room)?;
     let is_whole = match shelf.create(Out::Report, "report.json") {
         Ok(()) => write_all(&mut shelf, Out::Report, text).is_ok(),
@@ -107,67 +77,16 @@ fn write_report(
 #[test]
 fn what_stands_after_a_fault_is_a_first_part(rt: HostRuntime) -> Result<(), Fail> {
     let text = b"{\"n\":1234}";
-    for (failing, piece, room, whole, want, why) in [
-        (0, 100, 10, true, Some(10), "one large piece"),
-        (0, 7, 10, true, Some(10), "pieces of 7 bytes"),
-        (0, 1, 10, true, Some(10), "pieces of 1 byte"),
-        (1, 7, 10, false, None, "create fails"),
-        (2, 7, 10, false, Some(0), "the first write fails"),
-        (3, 7, 10, false, Some(7), "the second write fails"),
-        (4, 7, 10, true, Some(10), "there is no fourth call"),
-        (0, 100, 9, false, Some(0), "no room for the whole piece"),
-        (0, 7, 9, false, Some(7), "no room for the second piece"),
-        (0, 1, 9, false, Some(9), "no room for the last byte"),
-        (0, 7, 0, false, Some(0), "no room at all"),
+    for (failing, room, want, why) in [
+        (0, 10, 10, "no call fails"),
+        (3, 10, 7, "the second write fails"),
+        (0, 9, 7, "no room for the second piece"),
     ] {
-        let (is_whole, bytes) = write_report(rt.alloc(), text, failing, piece, room)?;
-        assert_eq!(rt; is_whole, whole, "{why}");
-        match (&bytes, want) {
-            (Some(bytes), Some(count)) if count <= text.len() => {
-                assert_eq!(rt; bytes.bytes(), &text[..count], "{why}");
-            }
-            (None, None) => {}
-            _ => panic!(rt; "created or not: {why}"),
-        }
-    }
-    Ok(())
-}
-
-/// Reads the path and writes what came there to the report. Over a shelf that never fails there is
-/// no fault, by the contracts alone.
-fn copy_to_report(alloc: Global, shelf: &mut SteadyShelf, path: &str) -> Result<Vec<u8>, ReadError>
-    requires { (steady_state shelf.old).is_created Out.Report ≡ false }
-    ensures { ¬ IsErrOf result ReadError.ReadFault }
-{
-    let bytes = read_all(alloc, shelf, path)?;
-    shelf.create(Out::Report, "report.json").ok().unwrap();
-    write_all(shelf, Out::Report, &bytes).ok().unwrap();
-    Ok(bytes)
-}
-
-#[test]
-fn a_steady_shelf_reads_and_writes_whole_texts(rt: HostRuntime) -> Result<(), Fail> {
-    let held = "model.ifc";
-    let long = vec![in rt.alloc(); b'#'; 70_000]?;
-    for (text, path, count, why) in [
-        (b"ISO-10303-".as_slice(), held, 10, "a short text"),
-        (long.as_slice(), held, 70_000, "a text of two pieces"),
-        (b"".as_slice(), held, 0, "an empty text"),
-        (
-            b"ISO-10303-".as_slice(),
-            "other.ifc",
-            0,
-            "a path that is not held has no bytes",
-        ),
-    ] {
-        let name = Text::of(rt.alloc(), held.as_bytes())?;
-        let bytes = Text::of(rt.alloc(), text)?;
-        let mut shelf = SteadyShelf::new(rt.alloc(), name, bytes);
-        let Ok(read) = copy_to_report(rt.alloc(), &mut shelf, path) else {
-            panic!(rt; "not read: {why}");
-        };
+        let (is_whole, bytes) = write_report(rt.alloc(), text, failing, room)?;
+        assert_eq!(rt; is_whole, want == text.len(), "{why}");
+        let bytes = bytes.ok_or("the report is created")?;
         assert!(rt;
-            count <= text.len() && read.as_slice() == &text[..count],
+            want <= text.len() && bytes.bytes() == &text[..want],
             "{why}"
         );
     }
@@ -183,30 +102,39 @@ fn is_written<R: Files + Print + Drop>(rt: R, path: &str, text: &[u8]) -> bool {
     }
 }
 
+// A text of two pieces, over a shelf that never fails and over real files.
 #[test]
-fn real_files_are_read_and_written(rt: HostRuntime) -> Result<(), Fail> {
-    let input = vec![in rt.alloc(); b'#'; 70_000]?;
-    fs::write(&rt, "model.ifc", input.as_slice())?;
-    let mut shelf = HostShelf::new(rt.clone()?);
-    assert!(rt;
-        read_all(rt.alloc(), &mut shelf, "absent.ifc").is_err(),
+fn a_long_text_is_read_and_written(rt: HostRuntime) -> Result<(), Fail> {
+    let long = vec![in rt.alloc(); b'#'; 70_000]?;
+    let name = Text::of(rt.alloc(), b"model.ifc")?;
+    let bytes = Text::of(rt.alloc(), long.as_slice())?;
+    let mut steady = SteadyShelf::new(rt.alloc(), name, bytes);
+    assert_eq!(rt;
+        read_word(rt.alloc(), &mut steady, long.as_slice()),
+        "all",
+        "steady"
+    );
+
+    let mut host = HostShelf::new(rt.clone()?);
+    assert_eq!(rt;
+        read_word(rt.alloc(), &mut host, b""),
+        "fault",
         "no such file"
     );
-    let Ok(read) = read_all(rt.alloc(), &mut shelf, "model.ifc") else {
-        panic!(rt; "the file is there");
-    };
-    assert!(rt;
-        read.as_slice() == input.as_slice(),
-        "the bytes of the file"
+    fs::write(&rt, "model.ifc", long.as_slice())?;
+    assert_eq!(rt;
+        read_word(rt.alloc(), &mut host, long.as_slice()),
+        "all",
+        "a file"
     );
     assert!(rt;
-        !is_written(rt.clone()?, "absent/report.json", &read),
+        !is_written(rt.clone()?, "absent/report.json", &long),
         "no such folder"
     );
-    assert!(rt; is_written(rt.clone()?, "report.json", &read), "a new file");
+    assert!(rt; is_written(rt.clone()?, "report.json", &long), "a new file");
     let written = fs::read(&rt, "report.json")?;
     assert!(rt;
-        written.as_slice() == input.as_slice(),
+        written.as_slice() == long.as_slice(),
         "the whole text stands there"
     );
     Ok(())

@@ -1,0 +1,1 @@
+-- No lemmas: the answers stand with their functions.

@@ -1,8 +1,8 @@
 // A run over a shelf that never fails.
 ghost use Rattle.std.specs.Prelude.{◌≡◌, List, ℕ, map, string_bytes};
 ghost use Rattle.sb_form.specs.declared.matcher.FirstForm.{FirstForm};
-ghost use Rattle.sb_run.specs.Promises.{IsDoneOrNoMemory, IsInput, IsSound};
-ghost use Rattle.sb_shelf.specs.Outside.{IsUntouched};
+ghost use Rattle.sb_run.specs.Promises.{IsDoneOrNoMemory, IsInput, IsSoundForm};
+ghost use Rattle.sb_shelf.specs.World.{IsUntouched};
 ghost use Rattle.sb_shelf.specs.Steady.{steady_state};
 
 use sb_run::{Answer, run};
@@ -17,7 +17,7 @@ pub fn run_without_faults(alloc: Global, words: &[String], shelf: &mut SteadyShe
     ensures no_write_fault { ¬ (result ≡ Answer.WriteFault) }
     ensures complete { (input : List ℕ)
         → IsInput (map string_bytes words.now) (steady_state shelf.old) input
-        → (form : FirstForm) → IsSound form input → IsDoneOrNoMemory result }
+        → (form : FirstForm) → IsSoundForm form input → IsDoneOrNoMemory result }
 {
     run(alloc, words, shelf)
 }

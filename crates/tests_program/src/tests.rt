@@ -2,7 +2,7 @@
 // and written for it. The texts are worked by hand.
 ghost use Rattle.std.specs.Prelude.{◌≡◌, ◌<◌, IfOk};
 ghost use Rattle.sb_shelf.specs.Memory.{memory_state};
-ghost use Rattle.sb_shelf.specs.Outside.{IsUntouched};
+ghost use Rattle.sb_shelf.specs.World.{IsUntouched};
 
 use sb_list::Text;
 use sb_run::{run, status};
@@ -76,17 +76,12 @@ fn each_box_is_judged(rt: HostRuntime) -> Result<(), Fail> {
     let shape = "refused #20: Shape\n";
     let range = "refused #20: Range\n";
     for (numbers, want, said, why) in [
-        (
-            [2000, 1500, 0, 4000, 3000, 2500],
-            0,
-            done,
-            "a room on the ground",
-        ),
+        ([2000, 1500, 0, 4000, 3000, 2500], 0, done, "on the ground"),
         (
             [2000, 1500, -1000, 4000, 3000, 2500],
             0,
             cut,
-            "the ground cuts the sides",
+            "the ground cuts it",
         ),
         (
             [2000, 1500, -2500, 4000, 3000, 2500],
@@ -95,23 +90,12 @@ fn each_box_is_judged(rt: HostRuntime) -> Result<(), Fail> {
             "it ends at the ground",
         ),
         ([2000, 1500, 0, 4001, 3000, 2500], 6, off_grid, "X is odd"),
-        ([2000, 1500, 0, 4000, 3001, 2500], 6, off_grid, "Y is odd"),
-        ([2000, 1500, 0, 4000, 3000, 0], 6, shape, "no height"),
-        ([2000, 1500, 0, 0, 3000, 2500], 6, shape, "no width"),
         ([2000, 1500, 0, 4000, -2, 2500], 6, shape, "a depth below 0"),
         (
             [2000, 1500, 0, 4001, 3000, 0],
             6,
             shape,
-            "a shape comes before the grid",
-        ),
-        ([2000, 1500, 0, 1, 3000, 2500], 6, off_grid, "a width of 1"),
-        ([2000, 1500, 0, 2, 2, 1], 0, done, "the least box"),
-        (
-            [499999, 1500, 0, 4, 3000, 2500],
-            6,
-            range,
-            "1 mm beyond the range",
+            "shape comes before the grid",
         ),
         (
             [499998, 1500, 0, 4, 3000, 2500],
@@ -120,28 +104,16 @@ fn each_box_is_judged(rt: HostRuntime) -> Result<(), Fail> {
             "up to 500,000 mm",
         ),
         (
-            [-499998, 1500, 0, 4, 3000, 2500],
-            0,
-            done,
-            "down to -500,000 mm",
-        ),
-        (
             [499998, 1500, 0, 5, 3000, 2500],
             6,
             range,
             "half a millimetre beyond",
         ),
         (
-            [2000, 1500, 497500, 4000, 3000, 2500],
-            0,
-            done,
-            "up to a height of 500,000 mm",
-        ),
-        (
             [2000, 1500, 497501, 4000, 3000, 2500],
             6,
             range,
-            "1 mm higher",
+            "1 mm too high",
         ),
     ] {
         let left = left_by(alloc, form(alloc, numbers)?.as_bytes(), 0)?;
@@ -163,25 +135,19 @@ const ROOM_REPORT: &str = "{\"boundaries\":[\
 {\"corners\":[[\"4000\",\"3000\",\"2500\"],[\"4000\",\"3000\",\"0\"],[\"0\",\"3000\",\"0\"],[\"0\",\"3000\",\"2500\"]],\"depth\":0,\"end\":\"outside\",\"face\":\"side\",\"id\":5,\"items\":[],\"key\":null,\"normal\":[0,1,0],\"pair\":null,\"parent\":null,\"space\":20,\"target\":null,\"unit\":1},\
 {\"corners\":[[\"0\",\"3000\",\"2500\"],[\"0\",\"3000\",\"0\"],[\"0\",\"0\",\"0\"],[\"0\",\"0\",\"2500\"]],\"depth\":0,\"end\":\"outside\",\"face\":\"side\",\"id\":6,\"items\":[],\"key\":null,\"normal\":[-1,0,0],\"pair\":null,\"parent\":null,\"space\":20,\"target\":null,\"unit\":1}],\"format\":\"sbgen-1\",\"ground\":0,\"reach\":1000,\"spaces\":[20]}\n";
 
-#[test]
-fn the_report_of_a_room(rt: HostRuntime) -> Result<(), Fail> {
-    let alloc = rt.alloc();
-    let left = left_by(alloc, form(alloc, ROOM)?.as_bytes(), 0)?;
-    let report = left.report.ok_or("no report")?;
-    assert_eq!(rt; report.as_str(), ROOM_REPORT);
-    Ok(())
-}
-
 /// The first side of a room from -1,000 to 1,500 mm: below the ground, and then above it.
 const CUT_SIDE: &str =
     "{\"corners\":[[\"0\",\"0\",\"0\"],[\"0\",\"0\",\"-1000\"],[\"4000\",\"0\",\"-1000\"],[\"4000\",\"0\",\"0\"]],\"depth\":0,\"end\":\"earth\",\"face\":\"side\",\"id\":3,\"items\":[],\"key\":null,\"normal\":[0,-1,0],\"pair\":null,\"parent\":null,\"space\":20,\"target\":null,\"unit\":1},{\"corners\":[[\"0\",\"0\",\"1500\"],[\"0\",\"0\",\"0\"],[\"4000\",\"0\",\"0\"],[\"4000\",\"0\",\"1500\"]],\"depth\":0,\"end\":\"outside\",\"face\":\"side\",\"id\":4,\"items\":[],\"key\":null,\"normal\":[0,-1,0],\"pair\":null,\"parent\":null,\"space\":20,\"target\":null,\"unit\":1}";
 
 #[test]
-fn the_sides_of_a_cut_room(rt: HostRuntime) -> Result<(), Fail> {
+fn the_reports_of_two_rooms(rt: HostRuntime) -> Result<(), Fail> {
     let alloc = rt.alloc();
-    let file = form(alloc, [2000, 1500, -1000, 4000, 3000, 2500])?;
-    let left = left_by(alloc, file.as_bytes(), 0)?;
+    let left = left_by(alloc, form(alloc, ROOM)?.as_bytes(), 0)?;
     let report = left.report.ok_or("no report")?;
+    assert_eq!(rt; report.as_str(), ROOM_REPORT);
+    let cut = form(alloc, [2000, 1500, -1000, 4000, 3000, 2500])?;
+    let left = left_by(alloc, cut.as_bytes(), 0)?;
+    let report = left.report.ok_or("no report of the cut room")?;
     assert!(rt; report.contains(CUT_SIDE));
     Ok(())
 }
@@ -192,51 +158,21 @@ fn each_fault_has_its_answer(rt: HostRuntime) -> Result<(), Fail> {
     let alloc = rt.alloc();
     let room = form(alloc, ROOM)?;
     let done = "spaces 1, boundaries 6, openings 0, pairs 0\n";
-    for (file, failing, want, said, created, why) in [
-        (room.as_bytes(), 1, 3, "read fault\n", false, "open fails"),
-        (room.as_bytes(), 2, 3, "read fault\n", false, "a read fails"),
+    for (failing, want, said, created, why) in [
+        (1, 3, "read fault\n", false, "open fails"),
+        (3, 3, "read fault\n", false, "the read at the end fails"),
+        (4, 10, "write fault\n", false, "create fails"),
         (
-            room.as_bytes(),
-            3,
-            3,
-            "read fault\n",
-            false,
-            "the read at the end fails",
-        ),
-        (
-            room.as_bytes(),
-            4,
-            10,
-            "write fault\n",
-            false,
-            "create fails",
-        ),
-        (
-            room.as_bytes(),
             5,
             10,
             "write fault\n",
             true,
             "the write of the report fails",
         ),
-        (
-            room.as_bytes(),
-            6,
-            0,
-            "",
-            true,
-            "a fault of the message changes no answer",
-        ),
-        (
-            room.as_bytes(),
-            7,
-            0,
-            done,
-            true,
-            "there is no seventh call",
-        ),
+        (6, 0, "", true, "a fault of the message changes no answer"),
+        (7, 0, done, true, "there is no seventh call"),
     ] {
-        let left = left_by(alloc, file, failing)?;
+        let left = left_by(alloc, room.as_bytes(), failing)?;
         assert_eq!(rt; left.status, want, "{why}");
         assert_eq!(rt; left.said.as_str(), said, "{why}");
         assert_eq!(rt; left.report.is_some(), created, "{why}");
@@ -268,18 +204,7 @@ fn each_text_has_its_fault(rt: HostRuntime) -> Result<(), Fail> {
     let thrice = building(alloc, "#1=A();#002=A();#2")?;
     let zero = building(alloc, "#0")?;
     for (file, want, said) in [
-        ("", 5, "syntax at byte 0\n"),
         ("ISO-10303-21;/*", 5, "syntax at byte 13\n"),
-        (
-            "ISO-10303-21;HEADER;FILE_SCHEMA(('IFC4'));ENDSEC;DATA;#0=IFCWALL();",
-            5,
-            "syntax at byte 54\n",
-        ),
-        (
-            "ISO-10303-21;HEADER;FILE_SCHEMA(('IFC4'));ENDSEC;DATA;#12=IFCWALL(",
-            5,
-            "syntax at byte 66\n",
-        ),
         (zero.as_str(), 5, "syntax at byte 126\n"),
         (twice.as_str(), 6, "refused #2: Duplicate\n"),
         (thrice.as_str(), 6, "refused #1: Duplicate\n"),
@@ -300,11 +225,7 @@ fn each_text_has_its_fault(rt: HostRuntime) -> Result<(), Fail> {
 fn words_that_are_no_command(rt: HostRuntime) -> Result<(), Fail> {
     let alloc = rt.alloc();
     for (model, option, report) in [
-        ("", "--report", "r.json"),
-        ("-", "--report", "r.json"),
         ("box.ifc", "--report", "box.ifc"),
-        ("box.ifc", "--report", ""),
-        ("box.ifc", "--report", "-r"),
         ("box.ifc", "--ifc", "r.json"),
         ("demo:3", "--report", "r.json"),
     ] {

@@ -1,16 +1,14 @@
 -- The walk through a layered wall between two rooms: plaster, brick and gypsum, depth 100, and the
 -- other room at the end.
 
-use Rattle.std.proofs.Common.{◌≡◌, refl, ap, subst, ◌∙◌, arith, ℕ, ◌+◌, ◌*◌, ◌<◌}
-use Rattle.std.proofs.Common.{ℤ, pos}
-use Rattle.std.proofs.Common.{negsuc, ◌<ℤ◌, ◌-ℤ◌, Bool, true, false, ◌&&◌, List, [], ◌∷◌}
-use Rattle.std.proofs.Common.{nat_lt}
-use Rattle.std.specs.Int.{IsGcd}
+use Rattle.std.proofs.Common.{◌≡◌, refl, ap, ◌∙◌, arith, ℕ, ◌+◌, ◌*◌, ◌<◌, ◌≤◌, ℤ, pos, negsuc}
+use Rattle.std.proofs.Common.{◌<ℤ◌, ◌-ℤ◌, Bool, true, false, ◌&&◌, List, [], ◌∷◌, nat_lt}
 use Rattle.std.proofs.lemmas.Int.{ints}
-use Rattle.std.proofs.lemmas.Bool.{lt-ltb, le-ltb}
-use Rattle.sb_fraction.specs.Divisors.{greatest_divisor, divisor_within}
-use Rattle.sb_fraction.specs.Ratio.{reduced}
-use Rattle.sb_fraction.proofs.GreatestDivisor.{greatest_divisor_is}
+use Rattle.std.proofs.lemmas.Bool.{lt-ltb, le-ltb, and_from, and_left, and_right}
+use Rattle.theory_numbers.specs.Divisors.{greatest_divisor, divisor_within}
+use Rattle.theory_numbers.specs.Fractions.{reduced, whole}
+use Rattle.theory_numbers.proofs.LowestTerms.{lowest_is_reduced}
+use Rattle.theory_numbers.proofs.Reduced.{whole_is_reduced}
 use Rattle.theory_numbers.specs.Arrows.{Arrow, arrow, cross, dot}
 use Rattle.theory_numbers.specs.Reduced.{IsReduced}
 use Rattle.theory_numbers.proofs.Signs.{test_less, test_not_less, test_at_most}
@@ -23,14 +21,13 @@ use Rattle.sb_model.specs.declared.label.Label.TheVariants as label
 use Rattle.sb_model.specs.declared.walk.End.TheVariants as end
 use Rattle.sb_model.specs.declared.walk.Item.{Item}
 use Rattle.sb_model.specs.declared.walk.Walk.{Walk}
-use Rattle.sb_model.specs.Spots.{Spot, spot, vector}
+use Rattle.sb_fraction.specs.Spots.{Spot, spot, vector}
 use Rattle.sb_model.specs.Solids.{is_in_solid, is_between_heights}
 use Rattle.sb_model.specs.Labels.{label_at}
-use Rattle.sb_model.specs.Corners.{whole}
 use Rattle.sb_model.specs.Passages.{Ray, ray_from, at_depth, ArePassages}
 use Rattle.sb_model.specs.Walks.{item, course, IsWalkOf}
-use Rattle.sb_model.proofs.ExampleModels.{block, layered_wall_between_rooms}
-use Rattle.theory_models.proofs.InsideRectangle.{inside_rectangle}
+use Rattle.theory_models.proofs.ExampleModels.{block, layered_wall_between_rooms}
+use Rattle.theory_plans.proofs.InsideRectangle.{inside_rectangle}
 
 -- the ray from (4000, 1500, 1000) on Side(1) of space #20, along x
 abbrev through_the_wall : Ray
@@ -83,51 +80,48 @@ record IsSeen (n k : ℕ) (first second wall : Bool) : Type 0 where
   second_is : is_in_solid (block 4100 8100 0 3000 2500) (point n k) ≡ second
   wall_is : is_in_solid (block 4000 4100 0 3000 2500) (point n k) ≡ wall
 
--- a block that begins or ends short of the point does not contain it
-beside : (p q : Bool) → q ≡ false → (p && q) ≡ false
-beside true q off = off
-beside false q off = refl
+-- a block that ends short of the point does not contain it, nor does one that begins behind it
+ends_before : (x0 x1 n k : ℕ) → x0 < x1 → 0 < n → x1 * n ≤ 4000 * n + k
+    → is_in_solid (block x0 x1 0 3000 2500) (point n k) ≡ false
+ends_before x0 x1 n k wide some short =
+    in_block x0 x1 n k wide some
+    ∙ and_right (nat_lt (x0 * n) (4000 * n + k)) _ (le-ltb (4000 * n + k) (x1 * n) short)
+
+begins_behind : (x0 x1 n k : ℕ) → x0 < x1 → 0 < n → 4000 * n + k ≤ x0 * n
+    → is_in_solid (block x0 x1 0 3000 2500) (point n k) ≡ false
+begins_behind x0 x1 n k wide some short =
+    in_block x0 x1 n k wide some
+    ∙ and_left _ (nat_lt (4000 * n + k) (x1 * n)) (le-ltb (x0 * n) (4000 * n + k) short)
+
+-- one that begins before it and ends behind it does
+reaches_over : (x0 x1 n k : ℕ) → x0 < x1 → 0 < n → x0 * n < 4000 * n + k → 4000 * n + k < x1 * n
+    → is_in_solid (block x0 x1 0 3000 2500) (point n k) ≡ true
+reaches_over x0 x1 n k wide some left right =
+    in_block x0 x1 n k wide some
+    ∙ and_from _ _ (lt-ltb (x0 * n) (4000 * n + k) left) (lt-ltb (4000 * n + k) (x1 * n) right)
 
 -- in the wall
 seen_in_wall : (n k : ℕ) → 0 < n → 0 < k → k < 100 * n → IsSeen n k false false true
 seen_in_wall n k some after before = record {
-  first_is = in_block 0 4000 n k (omega arith) some
-      ∙ beside _ _ (le-ltb (4000 * n + k) (4000 * n) (omega arith));
-  second_is = in_block 4100 8100 n k (omega arith) some
-      ∙ ap (λ b. b && nat_lt (4000 * n + k) (8100 * n))
-      (le-ltb (4100 * n) (4000 * n + k) (omega arith));
-  wall_is = in_block 4000 4100 n k (omega arith) some
-      ∙ rw (
-        lt-ltb (4000 * n) (4000 * n + k) (omega arith),
-        lt-ltb (4000 * n + k) (4100 * n)
-            (omega arith),
-      ) refl;
+  first_is = ends_before 0 4000 n k (omega arith) some (omega arith);
+  second_is = begins_behind 4100 8100 n k (omega arith) some (omega arith);
+  wall_is = reaches_over 4000 4100 n k (omega arith) some (omega arith) (omega arith);
 }
 
 -- in the other room
 seen_in_room : (n k : ℕ) → 0 < n → 100 * n < k → k < 4100 * n → IsSeen n k false true false
 seen_in_room n k some after before = record {
-  first_is = in_block 0 4000 n k (omega arith) some
-      ∙ beside _ _ (le-ltb (4000 * n + k) (4000 * n) (omega arith));
-  second_is = in_block 4100 8100 n k (omega arith) some
-      ∙ rw (
-        lt-ltb (4100 * n) (4000 * n + k) (omega arith),
-        lt-ltb (4000 * n + k) (8100 * n)
-            (omega arith),
-      ) refl;
-  wall_is = in_block 4000 4100 n k (omega arith) some
-      ∙ beside _ _ (le-ltb (4000 * n + k) (4100 * n) (omega arith));
+  first_is = ends_before 0 4000 n k (omega arith) some (omega arith);
+  second_is = reaches_over 4100 8100 n k (omega arith) some (omega arith) (omega arith);
+  wall_is = ends_before 4000 4100 n k (omega arith) some (omega arith);
 }
 
 -- behind it
 seen_behind : (n k : ℕ) → 0 < n → 4100 * n < k → IsSeen n k false false false
 seen_behind n k some after = record {
-  first_is = in_block 0 4000 n k (omega arith) some
-      ∙ beside _ _ (le-ltb (4000 * n + k) (4000 * n) (omega arith));
-  second_is = in_block 4100 8100 n k (omega arith) some
-      ∙ beside _ _ (le-ltb (4000 * n + k) (8100 * n) (omega arith));
-  wall_is = in_block 4000 4100 n k (omega arith) some
-      ∙ beside _ _ (le-ltb (4000 * n + k) (4100 * n) (omega arith));
+  first_is = ends_before 0 4000 n k (omega arith) some (omega arith);
+  second_is = ends_before 4100 8100 n k (omega arith) some (omega arith);
+  wall_is = ends_before 4000 4100 n k (omega arith) some (omega arith);
 }
 
 -- the label by what is seen
@@ -201,28 +195,14 @@ by_numbers P all none (pos n) (pos k) some = all n k (omega (arith, ints))
 by_numbers P all none (pos n) (negsuc k) some = none n k (omega (arith, ints))
 by_numbers P all none (negsuc n) y some = absurd (omega (arith, ints))
 
--- a fraction in lowest terms is one
-is_reduced : (num den : ℕ) → 0 < den → greatest_divisor num den ≡ 1 → IsReduced (pos num) (pos den)
-is_reduced num den some one = record {
-  positive = omega (arith, ints);
-  no_divisor = subst (λ g. IsGcd num den g) one (greatest_divisor_is num den);
-}
-
+-- the fractions at which the label changes are reduced
 first_break_reduced : IsReduced (pos 25) (pos 2)
 unfolding greatest_divisor divisor_within
-first_break_reduced = is_reduced 25 2 (omega arith) refl
+first_break_reduced = lowest_is_reduced (record { num = pos 25; den = pos 2 }) refl
 
 second_break_reduced : IsReduced (pos 175) (pos 2)
 unfolding greatest_divisor divisor_within
-second_break_reduced = is_reduced 175 2 (omega arith) refl
-
-third_break_reduced : IsReduced (pos 100) (pos 1)
-unfolding greatest_divisor divisor_within
-third_break_reduced = is_reduced 100 1 (omega arith) refl
-
-last_break_reduced : IsReduced (pos 4100) (pos 1)
-unfolding greatest_divisor divisor_within
-last_break_reduced = is_reduced 4100 1 (omega arith) refl
+second_break_reduced = lowest_is_reduced (record { num = pos 175; den = pos 2 }) refl
 
 -- the breaks: 0, 12.5, 87.5, 100 and 4100
 abbrev later_breaks : List (Break Label)
@@ -240,58 +220,64 @@ abbrev IsLabelBetween : Arrow → Arrow → Label → ℤ → ℤ → Type 0
 IsLabelBetween low high l x y =
     pos 0 <ℤ cross low (arrow x y) → pos 0 <ℤ cross (arrow x y) high → label_along (arrow x y) ≡ l
 
+-- it is where the points between them have this label, and no depth below 0 is between them
+between_depths : (low high : Arrow) (l : Label)
+    → ((n k : ℕ) → 0 < n → pos 0 <ℤ cross low (arrow (pos n) (pos k))
+    → pos 0 <ℤ cross (arrow (pos n) (pos k)) high
+    → label_at layered_wall_between_rooms (point n k) ≡ l)
+    → ((n k : ℕ) → 0 < n → pos 0 <ℤ cross low (arrow (pos n) (negsuc k)) → ⊥)
+    → (x y : ℤ) → pos 0 <ℤ x → IsLabelBetween low high l x y
+between_depths low high l here none =
+    by_numbers (IsLabelBetween low high l)
+    (λ n k some after before. ap (label_at layered_wall_between_rooms) (point_at n k)
+    ∙ here n k some after before)
+    (λ n k some after before. absurd (none n k some after))
+
 in_first : (x y : ℤ) → pos 0 <ℤ x
     → IsLabelBetween ray_start (rational (pos 25) (pos 2)) (label.Element 30 1) x y
 unfolding cross
 in_first =
-    by_numbers (IsLabelBetween ray_start (rational (pos 25) (pos 2)) (label.Element 30 1))
+    between_depths ray_start (rational (pos 25) (pos 2)) (label.Element 30 1)
     (λ n k some after before.
     let more : 0 < k = omega (arith, ints) in
     let less : 2 * k < 25 * n = omega (arith, ints) in
-    ap (label_at layered_wall_between_rooms) (point_at n k)
-    ∙ label_in_first n k less (seen_in_wall n k some more (omega arith)))
-    (λ n k some after before. absurd (omega (arith, ints)))
+    label_in_first n k less (seen_in_wall n k some more (omega arith)))
+    (λ n k some after. omega (arith, ints))
 
 in_second : (x y : ℤ) → pos 0 <ℤ x
     → IsLabelBetween (rational (pos 25) (pos 2)) (rational (pos 175) (pos 2))
     (label.Element 30 2) x y
 unfolding cross
 in_second =
-    by_numbers (IsLabelBetween (rational (pos 25) (pos 2)) (rational (pos 175) (pos 2))
-    (label.Element 30 2))
+    between_depths (rational (pos 25) (pos 2)) (rational (pos 175) (pos 2)) (label.Element 30 2)
     (λ n k some after before.
     let more : 25 * n < 2 * k = omega (arith, ints) in
     let less : 2 * k < 175 * n = omega (arith, ints) in
-    ap (label_at layered_wall_between_rooms) (point_at n k)
-    ∙ label_in_second n k more less (seen_in_wall n k some (omega arith) (omega arith)))
-    (λ n k some after before. absurd (omega (arith, ints)))
+    label_in_second n k more less (seen_in_wall n k some (omega arith) (omega arith)))
+    (λ n k some after. omega (arith, ints))
 
 in_third : (x y : ℤ) → pos 0 <ℤ x
     → IsLabelBetween (rational (pos 175) (pos 2)) (rational (pos 100) (pos 1))
     (label.Element 30 3) x y
 unfolding cross
 in_third =
-    by_numbers (IsLabelBetween (rational (pos 175) (pos 2)) (rational (pos 100) (pos 1))
-    (label.Element 30 3))
+    between_depths (rational (pos 175) (pos 2)) (rational (pos 100) (pos 1)) (label.Element 30 3)
     (λ n k some after before.
     let more : 175 * n < 2 * k = omega (arith, ints) in
     let less : k < 100 * n = omega (arith, ints) in
-    ap (label_at layered_wall_between_rooms) (point_at n k)
-    ∙ label_in_third n k more less (seen_in_wall n k some (omega arith) less))
-    (λ n k some after before. absurd (omega (arith, ints)))
+    label_in_third n k more less (seen_in_wall n k some (omega arith) less))
+    (λ n k some after. omega (arith, ints))
 
 in_room : (x y : ℤ) → pos 0 <ℤ x
     → IsLabelBetween (rational (pos 100) (pos 1)) (rational (pos 4100) (pos 1)) (label.Space 21) x y
 unfolding cross
 in_room =
-    by_numbers (IsLabelBetween (rational (pos 100) (pos 1)) (rational (pos 4100) (pos 1))
-    (label.Space 21))
+    between_depths (rational (pos 100) (pos 1)) (rational (pos 4100) (pos 1)) (label.Space 21)
     (λ n k some after before.
     let more : 100 * n < k = omega (arith, ints) in
     let less : k < 4100 * n = omega (arith, ints) in
-    ap (label_at layered_wall_between_rooms) (point_at n k)
-    ∙ label_in_room n k (seen_in_room n k some more less))
-    (λ n k some after before. absurd (omega (arith, ints)))
+    label_in_room n k (seen_in_room n k some more less))
+    (λ n k some after. omega (arith, ints))
 
 -- and at all depths after the last break
 abbrev IsLabelAfter : Arrow → Label → ℤ → ℤ → Type 0
@@ -322,11 +308,11 @@ the_passages = (
         omega (arith, ints),
         (λ u good low high. in_second u.x u.y good low high),
         (
-          third_break_reduced,
+          whole_is_reduced (pos 100),
           omega (arith, ints),
           (λ u good low high. in_third u.x u.y good low high),
           (
-            last_break_reduced,
+            whole_is_reduced (pos 4100),
             omega (arith, ints),
             (λ u good low high. in_room u.x u.y good low high),
             (tt, λ u good low high. behind u.x u.y good low),

@@ -1,5 +1,5 @@
 -- Lists that the definitions accept, and lists that they refuse.
-use Rattle.std.proofs.Common.{◌≡◌, refl, sym, inl, inr, true, false, ℕ, ◌<◌, [], ◌∷◌, arith}
+use Rattle.std.proofs.Common.{◌≡◌, refl, inl, inr, true, false, ℕ, ◌<◌, [], ◌∷◌, arith}
 use Rattle.std.specs.Prelude.{nat_lt}
 use Rattle.theory_lists.specs.Members.{Stands, AllOfTwo, AreOnce}
 use Rattle.theory_lists.specs.OneOf.{ExactlyOne, NoneOf}

@@ -4,6 +4,8 @@
 pub mod Members
 -- lists put together from blocks: exactly one, each one, each two
 pub mod Blocks
+-- lists in another order
+pub mod InAnyOrder
 -- lists with the same members, in neither of which one stands twice
 pub mod SameMembers
 -- exclusive or, and parities of lists

@@ -1,7 +1,7 @@
 -- What holds of all items of a list holds of one that stands in it; two items are one, or stand at
 -- different places; what a list has at a place stands in it.
 use Rattle.std.proofs.Common.{◌≡◌, sym, ◌∙◌, inl, inr, ◌⊎◌, subst, List, [], ◌∷◌, map}
-use Rattle.std.proofs.Common.{ℕ, zero, suc, Some, None, slice_get}
+use Rattle.std.proofs.Common.{ℕ, zero, suc, Some, slice_get}
 use Rattle.std.specs.List.{AllByRecursion}
 use Rattle.std.proofs.lemmas.Option.{same_Some, none-some}
 use Rattle.theory_lists.specs.Members.{Stands, AllOfTwo}
@@ -18,6 +18,13 @@ module _ {X : Type 0} where
       → AllByRecursion P xs → AllByRecursion Q xs
   all_follow step [] all = tt
   all_follow step (x ∷ xs) all = (step x all.0, all_follow step xs all.1)
+
+  -- two that hold of all hold together
+  pub all_both : (P Q : X → Type 0) (xs : List X) → AllByRecursion P xs → AllByRecursion Q xs
+      → AllByRecursion (λ x. P x × Q x) xs
+  all_both P Q [] first second = tt
+  all_both P Q (x ∷ xs) first second =
+      ((first.0, second.0), all_both P Q xs first.1 second.1)
 
   -- what holds of all images holds of the items, in this form
   pub all_of_images : {Y : Type 0} (P : Y → Type 0) (f : X → Y) (xs : List X)

@@ -40,7 +40,8 @@ module _ {X : Type 0} where
   stands_with z x (y ∷ ys) back (inl same) = inl same
   stands_with z x (y ∷ ys) back (inr later) = inr (stands_with z x ys back later)
 
-  stands_between : (x : X) (front back : List X) → Stands x (front ++ x ∷ back)
+  -- what stands between front and back stands there
+  pub stands_between : (x : X) (front back : List X) → Stands x (front ++ x ∷ back)
   stands_between x [] back = inl refl
   stands_between x (y ∷ ys) back = inr (stands_between x ys back)
 

@@ -1,10 +1,11 @@
 -- The laws by topic.
 
--- points and edges in plan
-pub mod InsideRectangle
-pub mod EdgesAlongAxes
 -- rays
 pub mod PassagesOfRays
 -- patches and lists
 pub mod PatchesBetweenLevels
 pub mod BoundariesById
+-- worked models
+pub mod ExampleModels
+mod ExampleLabels
+mod ExampleLists

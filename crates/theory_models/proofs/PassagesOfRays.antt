@@ -1,9 +1,12 @@
 -- Rays with one label or two: their passages, their walks, and that none of their points is opened.
-use Rattle.std.proofs.Common.{◌≡◌, refl, sym, ap, ◌∙◌, arith, pos, List, [], ◌∷◌, Option, Some}
-use Rattle.std.proofs.Common.{None, subst}
+use Rattle.std.proofs.Common.{◌≡◌, refl, sym, ap, ◌∙◌, arith, ℤ, pos, ◌-ℤ◌, ◌*ℤ◌, ◌<ℤ◌, List, []}
+use Rattle.std.proofs.Common.{◌∷◌, Option, Some, None, subst}
 use Rattle.std.proofs.lemmas.Int.{ints}
-use Rattle.theory_numbers.specs.Arrows.{Arrow}
-use Rattle.theory_numbers.specs.Rationals.{IsRational, IsBelow}
+use Rattle.theory_numbers.specs.Arrows.{Arrow, cross}
+use Rattle.theory_numbers.specs.Rationals.{IsRational, IsBelow, rational}
+use Rattle.theory_numbers.proofs.Products.{positive_product}
+use Rattle.theory_numbers.proofs.Reduced.{whole_is_reduced}
+use Rattle.theory_numbers.proofs.Ring.{mul_comm}
 use Rattle.theory_cuttings.specs.Ends.{IsEnd}
 use Rattle.theory_cuttings.specs.Cuttings.{Break, IsFraction}
 use Rattle.theory_cuttings.specs.Changes.{break_at}
@@ -15,7 +18,7 @@ use Rattle.sb_model.specs.declared.label.Label.TheVariants as label
 use Rattle.sb_model.specs.declared.walk.End.{End}
 use Rattle.sb_model.specs.declared.walk.End.TheVariants as end
 use Rattle.sb_model.specs.declared.walk.Walk.{Walk}
-use Rattle.sb_model.specs.Spots.{Spot}
+use Rattle.sb_fraction.specs.Spots.{Spot, along}
 use Rattle.sb_model.specs.Building.{Building}
 use Rattle.sb_model.specs.Faces.{Surface}
 use Rattle.sb_model.specs.Labels.{label_at}
@@ -83,6 +86,54 @@ pub record LooksOut (m : Building) (f : Surface) (p : Spot) (found : End) : Type
   pub rest : List (Break Label)
   pub passages : ArePassages m (ray_from p f.normal) (break_at ray_start first ∷ rest)
   pub open_end : IsOpenEnd first found
+
+-- a ray with one label throughout
+pub looks_out_throughout : (m : Building) (f : Surface) (p : Spot) (l : Label) (found : End)
+    → IsOpenEnd l found
+    → ((u : Arrow) → IsRational u → IsBelow ray_start u → label_at m (along p f.normal u) ≡ l)
+    → LooksOut m f p found
+looks_out_throughout m f p l found open_end same = record {
+  first = l;
+  rest = [];
+  passages = one_passage (λ u. label_at m (along p f.normal u)) l same;
+  open_end = open_end;
+}
+
+-- a ray with one label up to a whole depth, and with another from there on
+pub looks_out_up_to : (m : Building) (f : Surface) (p : Spot) (near far : Label) (depth : ℤ)
+    (found : End)
+    → IsOpenEnd near found → pos 0 <ℤ depth → (near ≡ far → ⊥)
+    → ((u : Arrow) → IsRational u → IsBelow ray_start u → u.y <ℤ (depth *ℤ u.x)
+    → label_at m (along p f.normal u) ≡ near)
+    → ((u : Arrow) → IsRational u → IsBelow ray_start u → (depth *ℤ u.x) <ℤ u.y
+    → label_at m (along p f.normal u) ≡ far)
+    → LooksOut m f p found
+unfolding cross
+looks_out_up_to m f p near far depth found open_end ahead other before after = record {
+  first = near;
+  rest = break_at (rational depth (pos 1)) far ∷ [];
+  passages =
+      two_passages (λ u. label_at m (along p f.normal u)) near far (rational depth (pos 1))
+      (whole_is_reduced depth) (later depth ahead) other
+      (λ u positive start end. before u positive start (earlier depth u.x u.y end))
+      (λ u positive past. after u positive
+      (later_still depth u.x u.y (positive_product depth u.x ahead positive) past)
+      (beyond depth u.x u.y past));
+  open_end = open_end;
+}
+  where
+    later : (c : ℤ) → pos 0 <ℤ c → pos 0 <ℤ ((pos 1 *ℤ c) -ℤ (pos 0 *ℤ pos 1))
+    later c h = omega (arith, ints)
+
+    earlier : (c d n : ℤ) → pos 0 <ℤ ((d *ℤ c) -ℤ (n *ℤ pos 1)) → n <ℤ (c *ℤ d)
+    earlier c d n h = let e = mul_comm c d in omega (arith, ints)
+
+    beyond : (c d n : ℤ) → pos 0 <ℤ ((pos 1 *ℤ n) -ℤ (c *ℤ d)) → (c *ℤ d) <ℤ n
+    beyond c d n h = omega (arith, ints)
+
+    later_still : (c d n : ℤ) → pos 0 <ℤ (c *ℤ d) → pos 0 <ℤ ((pos 1 *ℤ n) -ℤ (c *ℤ d))
+        → pos 0 <ℤ ((pos 1 *ℤ n) -ℤ (pos 0 *ℤ d))
+    later_still c d n product h = omega (arith, ints)
 
 -- a passage of earth, or of void, is a piece of its own
 earth_alone : (from : Arrow) (to : Option Arrow) (cs : List Piece)

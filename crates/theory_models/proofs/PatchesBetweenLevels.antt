@@ -10,7 +10,7 @@ use Rattle.theory_plane.specs.Sides.{level}
 use Rattle.theory_plane.specs.Points.{face_point, is_above_side, is_under_side}
 use Rattle.theory_plane.specs.Regions.{is_inside}
 use Rattle.sb_model.specs.declared.patch.Patch.{Patch}
-use Rattle.sb_model.specs.Corners.{whole}
+use Rattle.theory_numbers.specs.Fractions.{whole}
 use Rattle.sb_model.specs.Sides.{line_of}
 use Rattle.sb_model.specs.Patches.{region_of}
 

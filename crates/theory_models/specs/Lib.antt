@@ -1,2 +1,1 @@
--- What the laws speak of, in reading order.
-pub mod Rectangles
+-- Nothing of its own: the laws are in proofs/.

@@ -22,4 +22,7 @@ pub mod Clear
 pub mod Avoid
 -- reduced fractions are unique
 pub mod Reduced
+-- Euclid's remainders, and fractions in lowest terms
+pub mod GreatestDivisor
+pub mod LowestTerms
 mod Examples

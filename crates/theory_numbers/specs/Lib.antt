@@ -4,3 +4,5 @@ pub mod Arrows
 pub mod Rationals
 pub mod Intervals
 pub mod Reduced
+pub mod Divisors
+pub mod Fractions

@@ -1,5 +1,9 @@
 -- The laws by topic, in the order of the proof of the law of patches.
 
+-- what a list marks at a point, patch by patch
+pub mod MarkedAt
+-- marks and trimmed do not see the order of a list
+pub mod TrimmedInAnyOrder
 -- intervals without a number of a list
 pub mod NoneBetween
 -- intervals of one line: one of them covers what all cover

@@ -1,4 +1,5 @@
--- A region is uncrossed exactly where it is at its ends, and open strictly between them.
+-- A region is uncrossed exactly where it is at its ends, and open strictly between them; and what
+-- is open there is a region.
 use Rattle.std.proofs.Common.{◌≡◌, ◌⊎◌, inl, inr, arith, ℤ, pos, ◌<ℤ◌}
 use Rattle.std.proofs.Common.{◌≤ℤ◌, Bool, true, false, not, ◌&&◌}
 use Rattle.std.proofs.lemmas.Int.{ints}
@@ -6,14 +7,16 @@ use Rattle.std.proofs.lemmas.Bool.{and_parts, and_from, not-true, false_from_ne_
 use Rattle.std.proofs.lemmas.Bool.{not_from_false}
 use Rattle.std.specs.Ordering.{int_eq}
 use Rattle.std.specs.Cmp.{signed_Decides}
-use Rattle.theory_numbers.specs.Arrows.{Arrow, cross}
-use Rattle.theory_numbers.specs.Rationals.{IsRational, IsBelow, IsAtMost, IsSame, is_below, value_at}
+use Rattle.theory_numbers.specs.Arrows.{Arrow, cross, opposite}
+use Rattle.theory_numbers.specs.Rationals.{IsRational, IsBelow, IsAtMost, IsSame, is_below}
+use Rattle.theory_numbers.specs.Rationals.{value_at, mediant}
 use Rattle.theory_numbers.proofs.Signs.{test_less, less_from, test_at_most, at_most_from}
 use Rattle.theory_numbers.proofs.Products.{weak_product, weak_factor}
 use Rattle.theory_numbers.proofs.Rationals.{between, value_at_same, number_cases, below_clash}
-use Rattle.theory_numbers.proofs.Rationals.{same_sym}
+use Rattle.theory_numbers.proofs.Rationals.{same_sym, mediant-IsRational, mediant_between}
+use Rattle.theory_numbers.proofs.Arrows.{opposite-dot}
 use Rattle.theory_numbers.proofs.Clear.{positive_between, weak_at_low, weak_at_high}
-use Rattle.theory_plane.specs.Sides.{clearance, clearance_at}
+use Rattle.theory_plane.specs.Sides.{IsLineSide, clearance, clearance_at}
 use Rattle.theory_plane.specs.Regions.{Region, IsRegion, is_region, has_ends, has_sides}
 use Rattle.theory_plane.specs.Regions.{is_uncrossed_at, is_uncrossed, meets_once}
 use Rattle.theory_numbers.specs.Tests.{is_positive}
@@ -37,6 +40,45 @@ open_between p r u u_in after before =
     let ends = at_ends p r in
     positive_between (clearance p.lower p.upper) p.low p.high r.wide ends.0 ends.1 r.one_meeting u
     u_in after before
+
+-- ---- and what is open between its ends is a region
+
+-- a form that is above 0 at s is not 0 at a lower and at a greater number
+pub not_zero_around : (form r s t : Arrow) → IsBelow r s → IsBelow s t → IsBelow r t
+    → pos 0 <ℤ value_at form s → value_at form r ≡ pos 0 → value_at form t ≡ pos 0 → ⊥
+not_zero_around form r s t low high whole above at_r at_t =
+    let turned_r = opposite-dot form r in
+    let turned_s = opposite-dot form s in
+    let turned_t = opposite-dot form t in
+    let weak =
+    between (opposite form) r s t low high whole (omega (arith, ints)) (omega (arith, ints))
+    in
+    omega (arith, ints)
+
+-- two lines, the upper one strictly above the lower one at each number strictly between the ends
+pub region_if_open : (p : Region) → IsRational p.low → IsRational p.high → IsLineSide p.lower
+    → IsLineSide p.upper → IsBelow p.low p.high
+    → ((u : Arrow) → IsRational u → IsBelow p.low u → IsBelow u p.high
+    → pos 0 <ℤ clearance_at p.lower p.upper u)
+    → IsRegion p
+region_if_open p low_in high_in lower_in upper_in wide clear =
+    let form = clearance p.lower p.upper in
+    let m = mediant p.low p.high in
+    let m_in = mediant-IsRational p.low p.high low_in high_in in
+    let inside = mediant_between p.low p.high wide in
+    record {
+      low_in = low_in;
+      high_in = high_in;
+      lower_in = lower_in;
+      upper_in = upper_in;
+      wide = wide;
+      uncrossed =
+          λ u u_in after before.
+          let above = clear u u_in after before in omega (arith, ints);
+      one_meeting =
+          not_zero_around form p.low m p.high inside.0 inside.1 wide
+          (clear m m_in inside.0 inside.1);
+    }
 
 -- ---- with its ends taken in it is uncrossed
 

@@ -1,3 +1,4 @@
+-- The parts of the text follow one another in one way.
 use Rattle.std.proofs.Common.{◌≡◌, ◌∙◌, sym, true, rules}
 use Rattle.std.proofs.lemmas.Slice.Eq.{bytes_eq-Decides}
 use Rattle.sb_form.specs.FirstForm.{before_sizes, before_height, behind_height, comma}

@@ -1,3 +1,4 @@
+-- Behind an opening that is not there stands no number.
 use Rattle.sb_form.proofs.FormHasOneReading.{none_behind}
 use Rattle.sb_form.proofs.matcher.number_behind.Goals as goal
 

@@ -1,3 +1,4 @@
+-- Three numbers behind their openings are read in one way.
 use Rattle.sb_form.proofs.FormHasOneReading.{one_reading}
 use Rattle.sb_form.proofs.matcher.three_behind.Goals as goal
 

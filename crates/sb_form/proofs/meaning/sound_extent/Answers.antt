@@ -1,3 +1,4 @@
+-- What is passed to a call is itself, so each interval is the one of the form.
 use Rattle.std.proofs.Common.{rules, FitsSigned, w32}
 use Rattle.std.proofs.lemmas.Int.{to_z-of_z}
 use Rattle.sb_form.proofs.NearIsInRange.{height_is_positive, heights_are_near}

@@ -1,3 +1,4 @@
+-- A prefix is there, and what stands behind it, or it is not there.
 use Rattle.std.proofs.lemmas.Bool.Decides.{Decides-eqb}
 use Rattle.std.proofs.lemmas.Slice.Eq.{strip_prefix_is}
 use Rattle.std.proofs.Common.{rules}

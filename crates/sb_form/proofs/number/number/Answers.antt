@@ -1,3 +1,4 @@
+-- Behind a minus stands no zero.
 use Rattle.std.proofs.Common.{◌∙◌, suc, sym, arith}
 use Rattle.sb_form.proofs.NumbersEndAtTheirPoint.{behind_minus, decimal_next}
 use Rattle.sb_form.proofs.number.number.Goals as goal

@@ -1,3 +1,4 @@
+-- Plain digits and the decimals of short numbers are the same.
 use Rattle.std.proofs.Common.{◌≡◌, ◌∙◌, sym, subst, true}
 use Rattle.std.specs.Char.{is_ascii_digit}
 use Rattle.std.specs.List.{list_all}

@@ -1,3 +1,4 @@
+-- A number ends at the first point.
 use Rattle.std.proofs.Common.{◌∙◌, sym, arith}
 use Rattle.std.proofs.lemmas.Grind.{common_steps}
 use Rattle.sb_form.proofs.DecimalsAreReadBack.{position-decimal, front-decimal, split_at_point}

@@ -1,3 +1,4 @@
+-- One digit more is ten times the value and the digit, still below a million.
 use Rattle.std.proofs.Common.{arith}
 use Rattle.std.proofs.lemmas.Int.Digits.{digits_value_more}
 use Rattle.sb_form.proofs.DecimalsAreReadBack.{value_is_short, digit_in_range, digit_value-digit}

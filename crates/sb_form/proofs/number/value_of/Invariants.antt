@@ -1,3 +1,4 @@
+-- The value of the digits so far.
 use Rattle.std.proofs.Common.{◌≡◌, take}
 use Rattle.std.specs.Str.Parse.{digits_value}
 use Rattle.sb_form.proofs.number.value_of.Given as goal

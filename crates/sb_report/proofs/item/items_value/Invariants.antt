@@ -5,4 +5,5 @@ use Rattle.sb_report.specs.Entries.{item_data}
 use Rattle.sb_report.proofs.item.items_value.Given as goal
 
 abbrev pub invariant-loop-item : goal.invariant-loop-item
-invariant-loop-item l = map view l.values.items ≡ map (item_data l.model) (take l.item-index l.item-items)
+invariant-loop-item l =
+    map view l.values.items ≡ map (item_data l.model) (take l.item-index l.item-items)

@@ -1,5 +1,6 @@
+-- Beside 0 a number in lowest terms is 1 or 0.
 use Rattle.std.proofs.Common.{◌∙◌, ◌/◌, ap, sym}
-use Rattle.sb_fraction.specs.Divisors.{greatest_divisor}
+use Rattle.theory_numbers.specs.Divisors.{greatest_divisor}
 use Rattle.sb_report.proofs.LowestBesideZero.{lowest_beside_zero}
 use Rattle.sb_report.proofs.normal.lowest.Goals as goal
 

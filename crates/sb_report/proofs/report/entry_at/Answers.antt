@@ -1,4 +1,6 @@
-use Rattle.std.proofs.Common.{◌≡◌, ◌∙◌, ◌≤◌, ◌+◌, ◌-◌, ℕ, List, Option, Some, Bor, slice_get, ap, sym, arith}
+-- The boundary at each place is one of the model, and its corners can be told.
+use Rattle.std.proofs.Common.{◌≡◌, ◌∙◌, ◌≤◌, ◌+◌, ◌-◌, ℕ, List, Option, Some, Bor, slice_get, ap}
+use Rattle.std.proofs.Common.{sym, arith}
 use Rattle.std.specs.Option.{option_copied}
 use Rattle.sb_model.specs.declared.boundary.Boundary.{Boundary}
 use Rattle.sb_report.proofs.NamedInModel.{face_at, straight_at}

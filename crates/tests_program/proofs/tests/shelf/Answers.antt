@@ -7,4 +7,8 @@ pub returns : goal.returns
 returns c =
     let same = c.in_ok-reserve.ensures.same.is_created in
     let files = c.new-shelf.ensures.files in
-    record { ifc = same Ifc ∙ files.ifc; idf = same Idf ∙ files.idf; report = same Report ∙ files.report }
+    record {
+      ifc = same Ifc ∙ files.ifc;
+      idf = same Idf ∙ files.idf;
+      report = same Report ∙ files.report;
+    }

@@ -7,7 +7,7 @@ use Rattle.sb_model.proofs.building.Model.new.Goals as goal
 pub returns-then-has_unnumbered-clause-bad_number :
     goal.returns-then-has_unnumbered-clause-bad_number
 returns-then-has_unnumbered-clause-bad_number c =
-    let m = building c.args.unit c.args.level c.args.reach c.args.spaces c.args.elements
+    let m = building c.args.unit c.args.ground_height c.args.reach c.args.spaces c.args.elements
     c.args.openings c.args.fillings in
     let bad = zero_is_bad m c.requires.one_space
     (sym c.has_unnumbered.ensures ∙ c.if-has_unnumbered.true) in
@@ -15,15 +15,16 @@ returns-then-has_unnumbered-clause-bad_number c =
 
 pub invariant_of-result : goal.invariant_of-result
 invariant_of-result c =
-    let m = building c.args.unit c.args.level c.args.reach c.args.spaces c.args.elements
+    let m = building c.args.unit c.args.ground_height c.args.reach c.args.spaces c.args.elements
     c.args.openings c.args.fillings in
-    let f : FitsSigned w32 c.args.level = search rules in
-    rw (to_z-of_z w32 c.args.level f) (one_is_building m c.requires.in_range c.requires.one_space
+    let f : FitsSigned w32 c.args.ground_height = search rules in
+    rw (to_z-of_z w32 c.args.ground_height f)
+    (one_is_building m c.requires.in_range c.requires.one_space
     (sym c.has_unnumbered.ensures ∙ c.if-has_unnumbered.false))
 
 pub returns-clause-bad_number : goal.returns-clause-bad_number
 returns-clause-bad_number c =
-    let m = building c.args.unit c.args.level c.args.reach c.args.spaces c.args.elements
+    let m = building c.args.unit c.args.ground_height c.args.reach c.args.spaces c.args.elements
     c.args.openings c.args.fillings in
     let none = none_is_bad m c.requires.one_space
     (sym c.has_unnumbered.ensures ∙ c.if-has_unnumbered.false) in

@@ -1,5 +1,5 @@
 use Rattle.std.proofs.Common.{◌≡◌, drop, slice_get}
-use Rattle.sb_model.specs.Plan.{edges_of}
+use Rattle.theory_plans.specs.LoopEdges.{edges_of}
 use Rattle.sb_model.proofs.loops.Loops.edge.Given as goal
 
 -- the edge that is looked for is edge `left` of the loops that are left

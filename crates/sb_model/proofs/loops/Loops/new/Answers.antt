@@ -1,4 +1,4 @@
-use Rattle.sb_model.proofs.RectangleIsLoop.{rectangle_is_loop}
+use Rattle.theory_plans.proofs.RectangleIsLoop.{rectangle_is_loop}
 use Rattle.sb_model.proofs.loops.Loops.new.Goals as goal
 
 pub invariant_of-result : goal.invariant_of-result

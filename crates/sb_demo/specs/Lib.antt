@@ -1,0 +1,5 @@
+pub mod Numbering
+pub mod Blocks
+pub mod BlockTexts
+pub mod Relations
+pub mod Demo

@@ -1,7 +1,0 @@
--- The characters of the bytes so far have been written.
-use Rattle.std.proofs.Common.{◌≡◌, take, string_bytes}
-use Rattle.sb_report.specs.Texts.{material_text}
-use Rattle.sb_report.proofs.text.written_material.Given as goal
-
-abbrev pub invariant-loop-byte : goal.invariant-loop-byte
-invariant-loop-byte l = string_bytes l.text ≡ material_text (take l.byte-index l.name)

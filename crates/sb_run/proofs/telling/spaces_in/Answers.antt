@@ -1,7 +1,0 @@
-use Rattle.std.proofs.Common.{◌∙◌, sym}
-use Rattle.sb_run.proofs.SpacesEndWhereTheyChange.{ends_here}
-use Rattle.sb_run.proofs.telling.spaces_in.Goals as goal
-
-pub turns-preserved-then-ends_space : goal.turns-preserved-then-ends_space
-turns-preserved-then-ends_space c =
-    ends_here _ _ c.in-Some.field-0-0.now _ _ c.in-Some.ensures.cases.0 (sym c.ends_space.ensures ∙ c.if-ends_space.true) c.turns.invariant

@@ -1,9 +1,0 @@
-use Rattle.std.proofs.Common.{length}
-use Rattle.sb_run.proofs.SpacesEndWhereTheyChange.{IsCounted}
-use Rattle.sb_run.proofs.telling.spaces_in.Given as goal
-
-abbrev pub invariant-turns : goal.invariant-turns
-invariant-turns l = IsCounted l.fn.boundaries l.spaces l.rest
-
-abbrev pub decreases-turns : goal.decreases-turns
-decreases-turns l = length l.rest

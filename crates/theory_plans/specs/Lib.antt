@@ -1,0 +1,5 @@
+-- What is said of plans, in reading order.
+pub mod LoopEdges
+pub mod Inside
+pub mod Loops
+pub mod Rectangles
