@@ -14,7 +14,7 @@ use Rattle.theory_joining.specs.Runs.{AreApartInside, AreRunsOver}
 use Rattle.theory_joining.specs.Joined.{IsJoinedUpTo}
 use Rattle.theory_joining.specs.Slabs.{SlabRuns, all_runs, join}
 use Rattle.theory_joining.specs.Laws.{TellsEqual}
-use Rattle.theory_joining.proofs.Examples.{number, sheet, block, three}
+use Rattle.theory_joining.proofs.Cases.Examples.{number, sheet, block, three}
 
 clash : {b : Bool} → b ≡ false → b ≡ true → ⊥
 clash none both = cc
