@@ -70,19 +70,23 @@ face_facts s n e rising kind.Top f is =
 face_facts s n e rising (kind.Side zero) f is =
     let side = first_side s n e rising in
     subst (FaceFacts s n e (kind.Side 0)) (sym side.surface ∙ same_Some _ f is)
-    (side_facts s n e 0 _ _ e.x0 e.x1 side refl (side_parts e 0 rising.z) (side_once e 0 (omega arith)))
+    (side_facts s n e 0 _ _ e.x0 e.x1 side refl
+    (side_parts e 0 rising.z) (side_once e 0 (omega arith)))
 face_facts s n e rising (kind.Side (suc zero)) f is =
     let side = second_side s n e rising in
     subst (FaceFacts s n e (kind.Side 1)) (sym side.surface ∙ same_Some _ f is)
-    (side_facts s n e 1 _ _ e.y0 e.y1 side refl (side_parts e 1 rising.z) (side_once e 1 (omega arith)))
+    (side_facts s n e 1 _ _ e.y0 e.y1 side refl
+    (side_parts e 1 rising.z) (side_once e 1 (omega arith)))
 face_facts s n e rising (kind.Side (suc (suc zero))) f is =
     let side = third_side s n e rising in
     subst (FaceFacts s n e (kind.Side 2)) (sym side.surface ∙ same_Some _ f is)
-    (side_facts s n e 2 _ _ e.x0 e.x1 side refl (side_parts e 2 rising.z) (side_once e 2 (omega arith)))
+    (side_facts s n e 2 _ _ e.x0 e.x1 side refl
+    (side_parts e 2 rising.z) (side_once e 2 (omega arith)))
 face_facts s n e rising (kind.Side (suc (suc (suc zero)))) f is =
     let side = fourth_side s n e rising in
     subst (FaceFacts s n e (kind.Side 3)) (sym side.surface ∙ same_Some _ f is)
-    (side_facts s n e 3 _ _ e.y0 e.y1 side refl (side_parts e 3 rising.z) (side_once e 3 (omega arith)))
+    (side_facts s n e 3 _ _ e.y0 e.y1 side refl
+    (side_parts e 3 rising.z) (side_once e 3 (omega arith)))
 face_facts s n e rising (kind.Side (suc (suc (suc (suc zero))))) f is =
     absurd (none-some f is)
 face_facts s n e rising (kind.Side (suc (suc (suc (suc (suc k)))))) f is =

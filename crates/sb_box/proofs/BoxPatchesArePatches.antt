@@ -41,7 +41,8 @@ whole_is_abscissa x near =
     and_from _ _
     (and_from _ _ (and_from _ _ refl (coprime-one (unsigned_abs x)))
     (and_from _ _ (at_most_trans _ greatest_coordinate greatest_num near (omega arith)) refl))
-    (and_from _ _ (at_most_trans _ greatest_coordinate greatest_abscissa_num near (omega arith)) refl)
+    (and_from _ _ (at_most_trans _ greatest_coordinate greatest_abscissa_num near (omega arith))
+    refl)
 
 -- the order of whole numbers is that of their fractions
 pub whole_is_less : (x y : ℤ) → int_lt x y ≡ true

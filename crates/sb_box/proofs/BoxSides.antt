@@ -301,7 +301,8 @@ first_side k n e rising = record {
       within_xs k n e rising p positive
       (on_edge_along_x e.x0 e.x1 e.y0 p positive (not_equal e.x0 e.x1 rising.x) on).1 none;
   on_edge = λ p plane left right.
-      edge_along_x_on e.x0 e.x1 e.y0 p (in_south p.x p.y p.z p.w e.x0 e.y0 ((Decides-int_eq _ _).0 plane))
+      edge_along_x_on e.x0 e.x1 e.y0 p
+      (in_south p.x p.y p.z p.w e.x0 e.y0 ((Decides-int_eq _ _).0 plane))
       (about_between (e.x0 *ℤ p.w) (e.x1 *ℤ p.w) p.x (rw (reads_x p) at left)
       (rw (reads_x p) at right));
   outside = λ p positive on u rational after.
@@ -326,7 +327,8 @@ second_side k n e rising = record {
       within_ys k n e rising p positive
       (on_edge_along_y e.x1 e.y0 e.y1 p positive (not_equal e.y0 e.y1 rising.y) on).1 none;
   on_edge = λ p plane left right.
-      edge_along_y_on e.x1 e.y0 e.y1 p (in_east p.x p.y p.z p.w e.x1 e.y0 ((Decides-int_eq _ _).0 plane))
+      edge_along_y_on e.x1 e.y0 e.y1 p
+      (in_east p.x p.y p.z p.w e.x1 e.y0 ((Decides-int_eq _ _).0 plane))
       (about_between (e.y0 *ℤ p.w) (e.y1 *ℤ p.w) p.y (rw (reads_y p) at left)
       (rw (reads_y p) at right));
   outside = λ p positive on u rational after.
@@ -352,7 +354,8 @@ third_side k n e rising = record {
       (about_turned (e.x1 *ℤ p.w) (e.x0 *ℤ p.w) p.x
       (on_edge_along_x e.x1 e.x0 e.y1 p positive (not_equal_back e.x0 e.x1 rising.x) on).1) none;
   on_edge = λ p plane left right.
-      edge_along_x_on e.x1 e.x0 e.y1 p (in_north p.x p.y p.z p.w e.x1 e.y1 ((Decides-int_eq _ _).0 plane))
+      edge_along_x_on e.x1 e.x0 e.y1 p
+      (in_north p.x p.y p.z p.w e.x1 e.y1 ((Decides-int_eq _ _).0 plane))
       (about_turned (e.x0 *ℤ p.w) (e.x1 *ℤ p.w) p.x
       (about_between (e.x0 *ℤ p.w) (e.x1 *ℤ p.w) p.x (rw (reads_x p) at left)
       (rw (reads_x p) at right)));
@@ -379,7 +382,8 @@ fourth_side k n e rising = record {
       (about_turned (e.y1 *ℤ p.w) (e.y0 *ℤ p.w) p.y
       (on_edge_along_y e.x0 e.y1 e.y0 p positive (not_equal_back e.y0 e.y1 rising.y) on).1) none;
   on_edge = λ p plane left right.
-      edge_along_y_on e.x0 e.y1 e.y0 p (in_west p.x p.y p.z p.w e.x0 e.y1 ((Decides-int_eq _ _).0 plane))
+      edge_along_y_on e.x0 e.y1 e.y0 p
+      (in_west p.x p.y p.z p.w e.x0 e.y1 ((Decides-int_eq _ _).0 plane))
       (about_turned (e.y0 *ℤ p.w) (e.y1 *ℤ p.w) p.y
       (about_between (e.y0 *ℤ p.w) (e.y1 *ℤ p.w) p.y (rw (reads_y p) at left)
       (rw (reads_y p) at right)));

@@ -48,8 +48,8 @@ use Rattle.sb_box.proofs.PatchesOfBoxFaces.{bottom_alone, top_alone}
 abbrev pub lies_in : FaceKind → Surface → Spot → BoxPatch → Bool
 lies_in k f p = patch_test k (times_w p f.across) (times_w p f.up) p.w
 
--- what is shown of each face: a plain point lies in one patch, a point of the plane in a patch is of
--- the face, and a plain point of a patch looks out at its end
+-- what is shown of each face: a plain point lies in one patch, a point of the plane in a patch is
+-- of the face, and a plain point of a patch looks out at its end
 pub record FaceFacts (s : Besides) (n : ℕ) (e : Extent) (k : FaceKind) (f : Surface) : Type 0 where
   pub once : (p : Spot) → IsSpot p → is_plain (box_model s n e) (prism_of e) k p ≡ true
       → ExactlyOne (lies_in k f p) (box_patches e)

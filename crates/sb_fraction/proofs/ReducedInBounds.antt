@@ -1,6 +1,7 @@
 -- A fraction divided by its greatest common divisor stays within the bounds.
 
-use Rattle.std.proofs.Common.{ℕ, ℤ, pos, ◌≤◌, ◌<ℤ◌, ◌≡◌, true, IsTrue, unsigned_abs, nat_le, le_trans}
+use Rattle.std.proofs.Common.{ℕ, ℤ, pos, ◌≤◌, ◌<ℤ◌, ◌≡◌, true, IsTrue, unsigned_abs, nat_le}
+use Rattle.std.proofs.Common.{le_trans}
 use Rattle.std.proofs.lemmas.Int.{to_z-of_z}
 use Rattle.std.proofs.lemmas.Bool.{and_from, le-leb}
 use Rattle.std.proofs.Math.Nat.{div-le_self}

@@ -2,7 +2,8 @@
 use Rattle.std.proofs.Common.{sym, Option, Some, List, [], ◌∷◌}
 use Rattle.theory_numbers.specs.Arrows.{Arrow, mirror}
 use Rattle.theory_cuttings.specs.Ends.{IsOpen, mirror_end}
-use Rattle.theory_cuttings.specs.Cuttings.{Break, HasLabel, IsCutting, IsReducedCutting, AreDifferent}
+use Rattle.theory_cuttings.specs.Cuttings.{Break, HasLabel, IsCutting, IsReducedCutting}
+use Rattle.theory_cuttings.specs.Cuttings.{AreDifferent}
 use Rattle.theory_cuttings.specs.Changes.{break_at, flip_onto, last_label}
 use Rattle.theory_cuttings.proofs.Ends.{mirror-IsFraction, mirror_open, mirror_before, mirror_after}
 

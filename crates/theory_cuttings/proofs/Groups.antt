@@ -5,9 +5,10 @@ use Rattle.std.proofs.Common.{Option, Some, List, [], ◌∷◌, ◌++◌}
 use Rattle.std.specs.List.{AllByRecursion}
 use Rattle.theory_numbers.specs.Arrows.{Arrow}
 use Rattle.theory_cuttings.specs.Ends.{IsEnd}
-use Rattle.theory_cuttings.specs.Cuttings.{Break, IsAlike, IsCutting, IsReducedCutting, HasNoOddPoint}
-use Rattle.theory_cuttings.specs.Changes.{break_at, squash, map_labels, Run, Grouped, put_before, group}
-use Rattle.theory_cuttings.specs.Changes.{run_breaks, in_runs}
+use Rattle.theory_cuttings.specs.Cuttings.{Break, IsAlike, IsCutting, IsReducedCutting}
+use Rattle.theory_cuttings.specs.Cuttings.{HasNoOddPoint}
+use Rattle.theory_cuttings.specs.Changes.{break_at, squash, map_labels, Run, Grouped, put_before}
+use Rattle.theory_cuttings.specs.Changes.{group, run_breaks, in_runs}
 use Rattle.theory_cuttings.proofs.NeedlessBreaks.{squash_is}
 
 module _ {L K : Type 0} (f : Arrow → L) (g : L → K) (high : Option Arrow) where

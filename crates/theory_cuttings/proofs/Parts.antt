@@ -7,9 +7,10 @@ use Rattle.theory_numbers.specs.Rationals.{IsRational, IsBelow, IsAtMost, is_bel
 use Rattle.theory_numbers.proofs.Signs.{less_from, not_less_from}
 use Rattle.theory_numbers.proofs.Arrows.{cross-turn}
 use Rattle.theory_cuttings.specs.Ends.{IsEnd, IsAfter, IsBefore, IsFrom, IsUpTo}
-use Rattle.theory_cuttings.specs.Cuttings.{Break, HasLabel, IsCutting, IsReducedCutting, AreDifferent}
-use Rattle.theory_cuttings.specs.Cuttings.{IsFraction}
-use Rattle.theory_cuttings.specs.Changes.{glue, last_label, label_after, breaks_after, breaks_before}
+use Rattle.theory_cuttings.specs.Cuttings.{Break, HasLabel, IsCutting, IsReducedCutting}
+use Rattle.theory_cuttings.specs.Cuttings.{AreDifferent, IsFraction}
+use Rattle.theory_cuttings.specs.Changes.{glue, last_label, label_after, breaks_after}
+use Rattle.theory_cuttings.specs.Changes.{breaks_before}
 use Rattle.theory_cuttings.proofs.Ends.{from_trans, up_to_trans}
 
 -- ---- glue

@@ -15,8 +15,8 @@ use Rattle.sb_model.specs.PlanEdges.{is_crossing, is_abscissa}
 use Rattle.sb_model.specs.OpenedPoints.{key_of}
 use Rattle.sb_model.specs.Walks.{is_rounded}
 use Rattle.theory_models.proofs.ExampleModels.{block, layered_wall, layered_wall_between_rooms}
-use Rattle.theory_models.proofs.ExampleModels.{wall_opposite_a_t_joint, crossing_slabs, slanted_sides}
-use Rattle.theory_models.proofs.ExampleModels.{half_covered_layer}
+use Rattle.theory_models.proofs.ExampleModels.{wall_opposite_a_t_joint, crossing_slabs}
+use Rattle.theory_models.proofs.ExampleModels.{slanted_sides, half_covered_layer}
 
 -- the point (x/w, y/w, z/w)
 abbrev spot_at : ℕ → ℕ → ℕ → ℕ → Spot
@@ -91,7 +91,8 @@ abscissa_along_y = refl
 
 -- ---- labels along a ray
 
--- opposite a T-joint, from Side(2) of space #20 at x = 4000: the wall, the joined wall, and behind it
+-- opposite a T-joint, from Side(2) of space #20 at x = 4000: the wall, the joined wall, and behind
+-- it
 labels_opposite_the_joint :
     map (λ depth. label_at wall_opposite_a_t_joint
     (along (spot_at 4000 3000 1000 1) axis_y (rational (pos depth) (pos 1))))
@@ -104,7 +105,8 @@ labels_opposite_the_joint = refl
 -- 200/√2 mm: twice in the wall, and past it
 labels_off_the_slant :
     map (λ depth. label_at slanted_sides
-    (along (spot_at 500 500 1000 1) (vector (pos 1) (pos 1) (pos 0)) (rational (pos depth) (pos 1))))
+    (along (spot_at 500 500 1000 1) (vector (pos 1) (pos 1) (pos 0))
+    (rational (pos depth) (pos 1))))
     (1 ∷ 199 ∷ 201 ∷ [])
     ≡ Element 30 0 ∷ Element 30 0 ∷ Void ∷ []
 unfolding cross dot

@@ -17,10 +17,13 @@ use Rattle.sb_model.specs.Building.{Building, building}
 abbrev pub plan_point : ℕ → ℕ → Point
 plan_point x y = corner (pos x) (pos y)
 
+-- the prism over one loop, from one height up to another
+abbrev pub slab : List Point → ℕ → ℕ → Upright
+slab points low high = upright (points ∷ []) (pos low) (pos high)
+
 -- the box over the rectangle [x0, x1] × [y0, y1], from 0 up to h
 abbrev pub block : ℕ → ℕ → ℕ → ℕ → ℕ → Upright
-block x0 x1 y0 y1 h =
-    upright (rectangle (pos x0) (pos x1) (pos y0) (pos y1) ∷ []) (pos 0) (pos h)
+block x0 x1 y0 y1 h = slab (rectangle (pos x0) (pos x1) (pos y0) (pos y1)) 0 h
 
 -- a space with this prism, not turned
 abbrev pub room : ℕ → Upright → Space
@@ -81,17 +84,19 @@ abbrev pub crossing_slabs : Building
 crossing_slabs =
     model
     (room 20 (block 0 10 0 10 10) ∷ [])
-    (element 30 (upright ((plan_point 0 0 ∷ plan_point 5 10 ∷ plan_point 0 10 ∷ []) ∷ []) (pos 10) (pos 11)) Plain
-    ∷ element 31 (upright ((plan_point 0 10 ∷ plan_point 10 0 ∷ plan_point 10 10 ∷ []) ∷ []) (pos 10) (pos 11)) Plain ∷ [])
+    (element 30 (slab (plan_point 0 0 ∷ plan_point 5 10 ∷ plan_point 0 10 ∷ []) 10 11) Plain
+    ∷ element 31 (slab (plan_point 0 10 ∷ plan_point 10 0 ∷ plan_point 10 10 ∷ []) 10 11) Plain
+    ∷ [])
 
 -- slanted sides, the first of its two models
 abbrev pub slanted_sides : Building
 slanted_sides =
     model
-    (room 20 (upright ((plan_point 0 0 ∷ plan_point 1000 0 ∷ plan_point 0 1000 ∷ []) ∷ []) (pos 0) (pos 2500)) ∷ [])
+    (room 20 (slab (plan_point 0 0 ∷ plan_point 1000 0 ∷ plan_point 0 1000 ∷ []) 0 2500) ∷ [])
     (element 30
-    (upright ((plan_point 0 1000 ∷ plan_point 1000 0 ∷ plan_point 1100 100 ∷ plan_point 100 1100 ∷ []) ∷ []) (pos 0) (pos 2500))
-    Plain ∷ [])
+    (slab
+    (plan_point 0 1000 ∷ plan_point 1000 0 ∷ plan_point 1100 100 ∷ plan_point 100 1100 ∷ [])
+    0 2500) Plain ∷ [])
 
 -- half-covered layer: wall #30 lies over half of the one layer of wall #31
 abbrev pub half_covered_layer : Building

@@ -1,6 +1,7 @@
 -- Products of plane vectors: how they change with their arguments.
 use Rattle.std.proofs.Common.{◌≡◌, refl, arith, ℤ, pos, ◌+ℤ◌, ◌*ℤ◌, neg_ℤ, ap₂}
-use Rattle.theory_numbers.specs.Arrows.{Arrow, arrow, cross, dot, add, scale, opposite, turned, mirror}
+use Rattle.theory_numbers.specs.Arrows.{Arrow, arrow, cross, dot, add, scale, opposite, turned}
+use Rattle.theory_numbers.specs.Arrows.{mirror}
 use Rattle.theory_numbers.proofs.Shapes.{var, num, plus, negated, times, equal, cross_is, dot_is}
 use Rattle.theory_numbers.proofs.Shapes.{cross_by, dot_by}
 

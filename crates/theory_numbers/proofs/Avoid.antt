@@ -8,7 +8,8 @@ use Rattle.theory_numbers.specs.Rationals.{IsRational, IsBelow, IsSame, mediant,
 use Rattle.theory_numbers.specs.Rationals.{IsForm}
 use Rattle.theory_numbers.specs.Intervals.{Keeps, AllKeep, clear_end, avoiding, another}
 use Rattle.theory_numbers.proofs.Arrows.{dot-turned}
-use Rattle.theory_numbers.proofs.Rationals.{mediant-IsRational, mediant_between, below_at_most_trans}
+use Rattle.theory_numbers.proofs.Rationals.{mediant-IsRational, mediant_between}
+use Rattle.theory_numbers.proofs.Rationals.{below_at_most_trans}
 use Rattle.theory_numbers.proofs.Clear.{clear_to}
 
 -- the form is not 0 at u

@@ -11,8 +11,8 @@ use Rattle.theory_numbers.specs.Rationals.{IsRational, IsBelow, IsAtMost, median
 use Rattle.theory_numbers.specs.Rationals.{IsZeroForm, IsForm, zero_of}
 use Rattle.theory_numbers.specs.Intervals.{IsPositiveOn, IsNegativeOn, Keeps, AllKeep, changes_sign}
 use Rattle.theory_numbers.specs.Intervals.{stop, clear_end, clear_start}
-use Rattle.theory_numbers.proofs.Shapes.{var, num, plus, minus, negated, times, equal, cross_is, dot_is}
-use Rattle.theory_numbers.proofs.Shapes.{cross_eq, dot_eq}
+use Rattle.theory_numbers.proofs.Shapes.{var, num, plus, minus, negated, times, equal, cross_is}
+use Rattle.theory_numbers.proofs.Shapes.{dot_is, cross_eq, dot_eq}
 use Rattle.theory_numbers.proofs.Signs.{above_or_not, less_or_not}
 use Rattle.theory_numbers.proofs.Products.{weak_negative_factor}
 use Rattle.theory_numbers.proofs.Signs.{less_from, not_less_from, test_less, test_not_less}

@@ -11,8 +11,8 @@ use Rattle.theory_numbers.specs.Rationals.{zero_of, value_at, form_of}
 use Rattle.theory_numbers.specs.Intervals.{changes_sign, clear_end, clear_start, another}
 use Rattle.theory_numbers.specs.Reduced.{IsReduced}
 use Rattle.theory_numbers.proofs.Shapes.{var, num, plus, times, equal}
-use Rattle.theory_numbers.proofs.ThreeTerms.{three_terms, three_terms_linear, cycle, cycle_x, cycle_y}
-use Rattle.theory_numbers.proofs.ThreeTerms.{frame_cross, frame_dot}
+use Rattle.theory_numbers.proofs.ThreeTerms.{three_terms, three_terms_linear, cycle, cycle_x}
+use Rattle.theory_numbers.proofs.ThreeTerms.{cycle_y, frame_cross, frame_dot}
 use Rattle.theory_numbers.proofs.Products.{scale_less, positive_factor}
 use Rattle.theory_numbers.proofs.Rationals.{between, one_zero}
 use Rattle.theory_numbers.proofs.Avoid.{IsAnother, another_is}

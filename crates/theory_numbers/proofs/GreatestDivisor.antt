@@ -1,7 +1,8 @@
 -- Euclid's remainders end at the greatest common divisor, and dividing by it leaves no common
 -- divisor.
 
-use Rattle.std.proofs.Common.{ℕ, zero, suc, ◌+◌, ◌*◌, ◌%◌, ◌/◌, ◌<◌, ◌≡◌, refl, subst, arith, sym, ap, true}
+use Rattle.std.proofs.Common.{ℕ, zero, suc, ◌+◌, ◌*◌, ◌%◌, ◌/◌, ◌<◌, ◌≡◌, refl, subst, arith, sym}
+use Rattle.std.proofs.Common.{ap, true}
 use Rattle.std.specs.Int.{IsGcd, ◌∣◌}
 use Rattle.std.proofs.lemmas.Nat.Gcd.{IsGcd-from_zero, IsGcd-from_mod, dvd_refl, dvd-zero}
 use Rattle.std.proofs.lemmas.Nat.Gcd.{same_from_IsGcd}

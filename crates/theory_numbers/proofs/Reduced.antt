@@ -1,8 +1,8 @@
 -- Reduced fractions that are equal as numbers are equal as data.
-use Rattle.std.proofs.Common.{◌≡◌, ℕ, zero, suc, ◌+◌, ◌*◌, ◌-◌, ◌<◌, ◌≤◌, ⊎_elim}
-use Rattle.std.proofs.Common.{sym, ap, ◌∙◌, subst, subst₂, arith, ℤ, pos, ◌<ℤ◌, ◌*ℤ◌, ◌-ℤ◌, unsigned_abs}
-use Rattle.std.proofs.lemmas.Int.{ints, unsigned_abs-mul}
+use Rattle.std.proofs.Common.{◌≡◌, ℕ, zero, suc, ◌+◌, ◌*◌, ◌-◌, ◌<◌, ◌≤◌, ⊎_elim, sym, ap, ◌∙◌}
+use Rattle.std.proofs.Common.{subst, subst₂, arith, ℤ, pos, ◌<ℤ◌, ◌*ℤ◌, ◌-ℤ◌, unsigned_abs}
 use Rattle.std.proofs.Common.{mul-le-mul_left, mul-le-mul_right}
+use Rattle.std.proofs.lemmas.Int.{ints, unsigned_abs-mul}
 use Rattle.std.proofs.lemmas.Bool.{cases_lt}
 use Rattle.std.proofs.Math.Nat.{dvd_refl, dvd-zero, dvd-add, eq-one_of_dvd-one, one-dvd}
 use Rattle.std.specs.Int.{◌∣◌}

@@ -9,7 +9,8 @@ use Rattle.theory_numbers.specs.Rationals.{IsBelow, IsSame, rational, is_below}
 use Rattle.theory_numbers.proofs.Signs.{test_less, less_from}
 use Rattle.theory_numbers.proofs.Rationals.{below_trans, number_cases, same_sym, same_from_at_most}
 use Rattle.theory_plane.specs.Sides.{level, clearance}
-use Rattle.theory_plane.specs.Points.{FacePoint, IsFacePoint, abscissa_of, is_above_side, is_under_side}
+use Rattle.theory_plane.specs.Points.{FacePoint, IsFacePoint, abscissa_of, is_above_side}
+use Rattle.theory_plane.specs.Points.{is_under_side}
 use Rattle.theory_plane.specs.Regions.{is_region, is_inside, is_seam}
 use Rattle.theory_lists.specs.Members.{Stands}
 use Rattle.theory_patches.specs.Marked.{MarkedPatch}
@@ -35,8 +36,8 @@ abbrev halves : List (MarkedPatch ℕ)
 halves = first ∷ second ∷ []
 
 -- the whole number n
-abbrev whole_number : ℕ → Arrow
-whole_number n = rational (pos n) (pos 1)
+abbrev integer : ℕ → Arrow
+integer n = rational (pos n) (pos 1)
 
 -- ---- the conclusion fails
 
@@ -61,7 +62,7 @@ halves_have_seam = refl
 -- though they are apart: their closures meet on the line u = 1 alone
 halves_are_apart : AreApart sheet first.region second.region
 halves_are_apart u v u_in off common =
-    off.1.0 (same_from_at_most (whole_number 1) u common.second.after common.first.before)
+    off.1.0 (same_from_at_most (integer 1) u common.second.after common.first.before)
 
 -- so they are refused
 halves_are_not_trimmed : IsTrimmedList sheet halves → ⊥
@@ -87,7 +88,7 @@ whole_is_trimmed =
 
 -- its u is not 1
 abbrev IsBeside : FacePoint → Type 0
-IsBeside point = IsSame (whole_number 1) (abscissa_of point) → ⊥
+IsBeside point = IsSame (integer 1) (abscissa_of point) → ⊥
 
 whole_is_plain : ArePlainOffCuts sheet IsBeside (whole ∷ [])
 whole_is_plain point point_in off mark marked = off.no_abscissa.1.0
@@ -115,21 +116,21 @@ both_ends : (start end inner : Bool) → (start && end) && inner ≡ true
 both_ends start end inner inside =
     and_parts start end ((and_parts (start && end) inner inside).0)
 
-zero_below_one : IsBelow (whole_number 0) (whole_number 1)
+zero_below_one : IsBelow (integer 0) (integer 1)
 unfolding cross
 zero_below_one = omega (arith, ints)
 
-one_below_two : IsBelow (whole_number 1) (whole_number 2)
+one_below_two : IsBelow (integer 1) (integer 2)
 unfolding cross
 one_below_two = omega (arith, ints)
 
 -- its u is above n
 abbrev is_beyond : ℕ → FacePoint → Bool
-is_beyond n point = is_below (whole_number n) (abscissa_of point)
+is_beyond n point = is_below (integer n) (abscissa_of point)
 
 -- its u is below n
 abbrev is_short_of : ℕ → FacePoint → Bool
-is_short_of n point = is_below (abscissa_of point) (whole_number n)
+is_short_of n point = is_below (abscissa_of point) (integer n)
 
 -- its v is between 0 and 1
 abbrev is_in_height : FacePoint → Bool
@@ -138,27 +139,27 @@ is_in_height point = is_above_side (level (pos 0)) point && is_under_side (level
 module _ (point : FacePoint) (point_in : IsFacePoint point) where
   short_of_two : is_short_of 1 point ≡ true → is_short_of 2 point ≡ true
   short_of_two less =
-      test_less (pos 0) (cross (abscissa_of point) (whole_number 2))
-      (below_trans (abscissa_of point) (whole_number 1) (whole_number 2) point_in (omega (arith, ints))
-      (omega (arith, ints)) (less_from (pos 0) (cross (abscissa_of point) (whole_number 1)) less)
+      test_less (pos 0) (cross (abscissa_of point) (integer 2))
+      (below_trans (abscissa_of point) (integer 1) (integer 2) point_in (omega (arith, ints))
+      (omega (arith, ints)) (less_from (pos 0) (cross (abscissa_of point) (integer 1)) less)
       one_below_two)
 
   beyond_zero : is_beyond 1 point ≡ true → is_beyond 0 point ≡ true
   beyond_zero more =
-      test_less (pos 0) (cross (whole_number 0) (abscissa_of point))
-      (below_trans (whole_number 0) (whole_number 1) (abscissa_of point) (omega (arith, ints))
+      test_less (pos 0) (cross (integer 0) (abscissa_of point))
+      (below_trans (integer 0) (integer 1) (abscissa_of point) (omega (arith, ints))
       (omega (arith, ints)) point_in zero_below_one
-      (less_from (pos 0) (cross (whole_number 1) (abscissa_of point)) more))
+      (less_from (pos 0) (cross (integer 1) (abscissa_of point)) more))
 
   beside_cases : IsBeside point → (is_short_of 1 point ≡ true) ⊎ (is_beyond 1 point ≡ true)
-  beside_cases beside = from (number_cases (abscissa_of point) (whole_number 1))
+  beside_cases beside = from (number_cases (abscissa_of point) (integer 1))
     where
-      from : (IsBelow (abscissa_of point) (whole_number 1) ⊎ IsSame (abscissa_of point) (whole_number 1))
-          ⊎ IsBelow (whole_number 1) (abscissa_of point)
+      from : (IsBelow (abscissa_of point) (integer 1) ⊎ IsSame (abscissa_of point) (integer 1))
+          ⊎ IsBelow (integer 1) (abscissa_of point)
           → (is_short_of 1 point ≡ true) ⊎ (is_beyond 1 point ≡ true)
-      from (inl (inl less)) = inl (test_less (pos 0) (cross (abscissa_of point) (whole_number 1)) less)
-      from (inl (inr same)) = absurd (beside (same_sym (abscissa_of point) (whole_number 1) same))
-      from (inr more) = inr (test_less (pos 0) (cross (whole_number 1) (abscissa_of point)) more)
+      from (inl (inl less)) = inl (test_less (pos 0) (cross (abscissa_of point) (integer 1)) less)
+      from (inl (inr same)) = absurd (beside (same_sym (abscissa_of point) (integer 1) same))
+      from (inr more) = inr (test_less (pos 0) (cross (integer 1) (abscissa_of point)) more)
 
   in_a_half : is_inside whole.region point ≡ true
       → (is_short_of 1 point ≡ true) ⊎ (is_beyond 1 point ≡ true)

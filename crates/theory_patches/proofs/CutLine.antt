@@ -9,15 +9,16 @@ use Rattle.theory_numbers.specs.Rationals.{IsRational, IsAtMost}
 use Rattle.theory_numbers.proofs.Avoid.{IsOther}
 use Rattle.theory_plane.specs.Sides.{LineSide, value_on, clearance_at}
 use Rattle.theory_plane.specs.Regions.{Region, IsRegion, IsInner}
-use Rattle.theory_plane.proofs.Clearance.{value_on-IsRational, higher_is, at_least_is, clearance-turn}
-use Rattle.theory_plane.proofs.Clearance.{at_most_trans}
+use Rattle.theory_plane.proofs.Clearance.{value_on-IsRational, higher_is, at_least_is}
+use Rattle.theory_plane.proofs.Clearance.{clearance-turn, at_most_trans}
 use Rattle.theory_plane.proofs.Regions.{open_between}
 use Rattle.theory_lists.specs.Members.{Stands}
 use Rattle.theory_patches.specs.Marked.{MarkedPatch, IsPatch}
 use Rattle.theory_patches.specs.Sheets.{Sheet, IsSheet, IsNoAbscissa}
 use Rattle.theory_lists.proofs.Members.{all_of_images, all_images, all_follow}
 use Rattle.theory_patches.proofs.OneLine.{AreIntervals, Covers, one_covers}
-use Rattle.theory_patches.proofs.Spaced.{IsOver, AreSpaced, IsSpacedList, patch_there}
+use Rattle.theory_patches.proofs.Spaced.{IsSpacedList, patch_there}
+use Rattle.theory_patches.specs.Trimmed.{IsOver, AreSpaced}
 use Rattle.theory_patches.proofs.SamePoints.{AreTwoCovers, exchanged}
 
 -- ---- the values at u of all cuts and sides

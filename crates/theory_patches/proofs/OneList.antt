@@ -13,7 +13,8 @@ use Rattle.theory_plane.specs.Regions.{Region}
 use Rattle.theory_lists.specs.Members.{Stands}
 use Rattle.theory_patches.specs.Marked.{MarkedPatch, IsPatch}
 use Rattle.theory_patches.specs.Sheets.{Sheet}
-use Rattle.theory_patches.specs.Laws.{CoverAlike, HaveSamePatches, HasLawOfPatches, HasOneListOfPatches}
+use Rattle.theory_patches.specs.Laws.{CoverAlike, HaveSamePatches, HasLawOfPatches}
+use Rattle.theory_patches.specs.Laws.{HasOneListOfPatches}
 use Rattle.theory_lists.proofs.SameMembers.{permuted_if_same_members}
 use Rattle.theory_patches.proofs.StandsOnce.{stands_once}
 use Rattle.theory_patches.proofs.Spaced.{patch_there}

@@ -5,9 +5,10 @@ use Rattle.theory_numbers.proofs.Ring.{mul-zero}
 use Rattle.std.proofs.lemmas.Int.{ints}
 use Rattle.theory_numbers.specs.Arrows.{Arrow, arrow, cross, dot}
 use Rattle.theory_numbers.specs.Rationals.{IsRational, IsBelow, IsAtMost, IsSame}
-use Rattle.theory_numbers.proofs.Shapes.{var, num, plus, minus, negated, times, equal, cross_by, dot_by}
-use Rattle.theory_numbers.proofs.Products.{positive_product, weak_product, positive_factor, weak_factor}
-use Rattle.theory_numbers.proofs.Products.{zero_of_positive}
+use Rattle.theory_numbers.proofs.Shapes.{var, num, plus, minus, negated, times, equal, cross_by}
+use Rattle.theory_numbers.proofs.Shapes.{dot_by}
+use Rattle.theory_numbers.proofs.Products.{positive_product, weak_product, positive_factor}
+use Rattle.theory_numbers.proofs.Products.{weak_factor, zero_of_positive}
 use Rattle.theory_numbers.proofs.Arrows.{same_arrow}
 use Rattle.theory_plane.specs.Sides.{LineSide, level, IsLineSide, value_on, clearance}
 use Rattle.theory_plane.specs.Sides.{clearance_at}

@@ -13,8 +13,8 @@ use Rattle.theory_numbers.proofs.Products.{positive_product, positive_factor, ze
 use Rattle.theory_numbers.proofs.Products.{negative_product, negative_factor}
 use Rattle.theory_numbers.proofs.Arrows.{cross-turn}
 use Rattle.theory_plane.specs.Sides.{LineSide, value_on}
-use Rattle.theory_plane.specs.Points.{FacePoint, IsFacePoint, point_at, abscissa_of, ordinate_of, rise}
-use Rattle.theory_plane.specs.Points.{is_above_side, is_under_side, is_on_side}
+use Rattle.theory_plane.specs.Points.{FacePoint, IsFacePoint, point_at, abscissa_of, ordinate_of}
+use Rattle.theory_plane.specs.Points.{rise, is_above_side, is_under_side, is_on_side}
 use Rattle.theory_plane.specs.Regions.{Region, IsInner, is_inside, is_spanned}
 
 -- ---- the tests say the sign of the rise

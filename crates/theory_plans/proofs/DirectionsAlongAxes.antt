@@ -11,7 +11,8 @@ use Rattle.theory_numbers.proofs.Signs.{same_less, test_less, test_not_less}
 use Rattle.sb_fraction.specs.Plane.{is_forward}
 use Rattle.sb_fraction.specs.Spots.{Vector, vector, opposite}
 use Rattle.sb_fraction.specs.Edges.{Edge, edge}
-use Rattle.sb_fraction.specs.Directions.{step, runs_along, direction_of, normal_over, axis_x, axis_y}
+use Rattle.sb_fraction.specs.Directions.{step, runs_along, direction_of, normal_over, axis_x}
+use Rattle.sb_fraction.specs.Directions.{axis_y}
 use Rattle.theory_plans.specs.Rectangles.{corner}
 
 -- ---- steps

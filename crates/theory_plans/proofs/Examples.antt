@@ -25,7 +25,8 @@ spot_at x y w = spot x y (pos 0) w
 -- at all
 these_are_inside :
     list_all (is_in_plan plan)
-    (spot_at (pos 3) (pos 3) (pos 1) ∷ spot_at (pos 6) (pos 6) (pos 2) ∷ spot_at (pos 1) (pos 8) (pos 2) ∷ [])
+    (spot_at (pos 3) (pos 3) (pos 1) ∷ spot_at (pos 6) (pos 6) (pos 2)
+    ∷ spot_at (pos 1) (pos 8) (pos 2) ∷ [])
     ≡ true
 unfolding cross dot
 these_are_inside = refl
@@ -33,7 +34,8 @@ these_are_inside = refl
 -- in the hole, at (3/2, 3/2), and right and left of the plan
 these_are_outside :
     list_any (is_in_plan plan)
-    (spot_at (pos 3) (pos 3) (pos 2) ∷ spot_at (pos 6) (pos 4) (pos 1) ∷ spot_at (negsuc 0) (pos 1) (pos 1) ∷ [])
+    (spot_at (pos 3) (pos 3) (pos 2) ∷ spot_at (pos 6) (pos 4) (pos 1)
+    ∷ spot_at (negsuc 0) (pos 1) (pos 1) ∷ [])
     ≡ false
 unfolding cross dot
 these_are_outside = refl
@@ -41,7 +43,8 @@ these_are_outside = refl
 -- on the slanted edge at (9/2, 9/2), on the hole's slanted edge at (5/2, 5/2), and in a corner
 points_of_edges_are_not :
     list_any (is_in_plan plan)
-    (spot_at (pos 9) (pos 9) (pos 2) ∷ spot_at (pos 5) (pos 5) (pos 2) ∷ spot_at (pos 0) (pos 0) (pos 1) ∷ [])
+    (spot_at (pos 9) (pos 9) (pos 2) ∷ spot_at (pos 5) (pos 5) (pos 2)
+    ∷ spot_at (pos 0) (pos 0) (pos 1) ∷ [])
     ≡ false
 unfolding cross dot
 points_of_edges_are_not = refl

@@ -18,7 +18,8 @@ invariant_of-result c =
     let m = building c.args.unit c.args.ground_height c.args.reach c.args.spaces c.args.elements
     c.args.openings c.args.fillings in
     let f : FitsSigned w32 c.args.ground_height = search rules in
-    rw (to_z-of_z w32 c.args.ground_height f) (one_is_building m c.requires.in_range c.requires.one_space
+    rw (to_z-of_z w32 c.args.ground_height f)
+    (one_is_building m c.requires.in_range c.requires.one_space
     (sym c.has_unnumbered.ensures ∙ c.if-has_unnumbered.false))
 
 pub returns-clause-bad_number : goal.returns-clause-bad_number
