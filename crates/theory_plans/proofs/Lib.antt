@@ -5,7 +5,11 @@ pub mod EdgesByPlace
 pub mod DirectionsAlongAxes
 mod OriginOnSegment
 pub mod OnEdgesAlongAxes
+-- which loops are plans
+pub mod RaysToTheRight
+pub mod ConvexIsPlan
 -- rectangles
-pub mod RectangleIsLoop
+pub mod RectangleIsPlan
 pub mod InsideRectangle
 mod Examples
+mod ExamplePlans
