@@ -5,6 +5,8 @@ pub mod PassagesOfRays
 -- patches and lists
 pub mod PatchesBetweenLevels
 pub mod BoundariesById
+-- solids
+pub mod BoxesAreSolid
 -- worked models
 pub mod ExampleModels
 mod ExampleLabels
