@@ -7,6 +7,7 @@ pub mod PatchesBetweenLevels
 pub mod BoundariesById
 -- solids
 pub mod BoxesAreSolid
+pub mod SpacesByFields
 -- worked models
 pub mod ExampleModels
 mod ExampleLabels

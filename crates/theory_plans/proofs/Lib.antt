@@ -5,6 +5,8 @@ pub mod EdgesByPlace
 pub mod DirectionsAlongAxes
 mod OriginOnSegment
 pub mod OnEdgesAlongAxes
+-- points
+pub mod PointsAlike
 -- which loops are plans
 pub mod RaysToTheRight
 pub mod ConvexIsPlan

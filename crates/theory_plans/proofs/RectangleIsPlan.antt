@@ -14,7 +14,7 @@ use Rattle.theory_plans.specs.Loops.{is_rectangle, are_corners, are_loops, is_be
 use Rattle.sb_fraction.specs.Plane.{is_plan_point, is_coordinate}
 use Rattle.sb_fraction.specs.Edges.{edge, seen_from, turn_at}
 use Rattle.theory_numbers.proofs.Shapes.{var, num, minus, times, equal, cross_by}
-use Rattle.theory_plans.specs.Rectangles.{corner}
+use Rattle.theory_plans.specs.Rectangles.{corner, rectangle}
 use Rattle.theory_plans.specs.Plans.{at_point, are_apart, keep_left, is_plan}
 use Rattle.theory_plans.proofs.ConvexIsPlan.{IsLeft, IsConvex, convex_is_apart, convex_keeps_left}
 
@@ -211,3 +211,14 @@ rectangle_is_plan ((a ∷ b ∷ c ∷ d ∷ []) ∷ []) is =
     (and_from (are_apart loops) (keep_left loops) (convex_is_apart a b c d convex)
     (convex_keeps_left a b c d convex))
 rectangle_is_plan _ is = absurd (false≢true is)
+
+-- two abscissae and two numbers in range, each two rising, make a rectangle
+pub sides_make_rectangle : (x0 x1 y0 y1 : ℤ) → int_lt x0 x1 ≡ true → int_lt y0 y1 ≡ true
+    → is_coordinate x0 ≡ true → is_coordinate x1 ≡ true
+    → is_coordinate y0 ≡ true → is_coordinate y1 ≡ true
+    → IsTrue (is_rectangle (rectangle x0 x1 y0 y1 ∷ []))
+sides_make_rectangle x0 x1 y0 y1 along_x along_y low_x high_x low_y high_y =
+    rw (along_x, along_y, same y0, same x1, same x0, same y1, low_x, high_x, low_y, high_y) refl
+  where
+    same : (z : ℤ) → int_eq z z ≡ true
+    same z = (Decides-int_eq z z).1 refl

@@ -2,6 +2,7 @@
 pub mod LoopEdges
 pub mod Inside
 pub mod Rays
+pub mod Alike
 pub mod Loops
 pub mod Plans
 pub mod Rectangles
