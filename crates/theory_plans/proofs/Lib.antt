@@ -3,6 +3,8 @@
 -- edges, and points on them
 pub mod EdgesByPlace
 pub mod DirectionsAlongAxes
+pub mod EdgesOfPlans
+pub mod StepsOfEdges
 mod OriginOnSegment
 pub mod OnEdgesAlongAxes
 -- points
