@@ -1,5 +1,11 @@
 -- The laws by topic.
 
+-- numbers, edges and abscissae
+pub mod NumbersApart
+pub mod EdgesOfProducts
+pub mod AbscissaeListed
+-- points
+pub mod LabelsAlike
 -- rays
 pub mod PassagesOfRays
 -- patches and lists

@@ -21,7 +21,7 @@ same_prism : (number : ℕ) (global_id : List ℕ) (frame : Frame) (p q : Uprigh
     → space_with number global_id frame p p_is ≡ space_with number global_id frame q q_is
 same_prism number global_id frame p q same p_is =
     subst (λ (r : Upright). (r_is : IsTrue (is_upright r))
-        → space_with number global_id frame p p_is ≡ space_with number global_id frame r r_is) same
+    → space_with number global_id frame p p_is ≡ space_with number global_id frame r r_is) same
     (λ r_is. ap (space_with number global_id frame p) (one_proof p_is r_is))
   where
     one_proof : IsProp (IsTrue (is_upright p))
