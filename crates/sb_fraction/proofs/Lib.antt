@@ -2,6 +2,11 @@
 mod ReducedInBounds
 mod Passing
 mod ProductsFit
+mod CoordinatesFit
+mod PointsByShares
+mod CommonPointHasShares
+mod MeetingIsCommon
+mod MeetingInRange
 mod ShortVectors
 mod SidesOfPoints
 mod FractionsInOrder

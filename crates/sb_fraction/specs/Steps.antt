@@ -20,7 +20,7 @@ share_of e f = cross (arrow (f.a.x -ℤ e.a.x) (f.a.y -ℤ e.a.y)) (span_of f)
 
 -- s/w lies from 0 to 1, both taken in, whatever the sign of w is
 abbrev pub is_share : ℤ → ℤ → Bool
-is_share w s = int_le (s *ℤ (s -ℤ w)) (pos 0)
+is_share w s = int_le (s *ℤ s) (s *ℤ w)
 
 -- the two edges have one common point
 abbrev pub meet_once : Edge → Edge → Bool

@@ -7,6 +7,7 @@
 
 mod direction;
 mod fraction;
+mod meeting;
 mod order;
 mod point;
 mod products;
@@ -17,6 +18,7 @@ mod unit;
 
 pub use direction::{Direction, Line};
 pub use fraction::{Fraction, reduce};
+pub use meeting::meet;
 pub use order::compare;
 pub use point::{HPoint, Point, Segment};
 pub use side::orient;
