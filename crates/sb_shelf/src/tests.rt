@@ -141,9 +141,8 @@ fn a_long_text_is_read_and_written(rt: HostRuntime) -> Result<(), Fail> {
     );
 
     let mut host = HostShelf::new(rt.clone()?);
-    assert_eq!(rt;
-        read_word(rt.alloc(), &mut host, b""),
-        "fault",
+    assert!(rt;
+        read_all(rt.alloc(), &mut host, "absent.ifc").is_err(),
         "no such file"
     );
     fs::write(&rt, "model.ifc", long.as_slice())?;
