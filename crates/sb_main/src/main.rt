@@ -31,8 +31,8 @@ fn words(rt: &HostRuntime, alloc: Global) -> io::Result<Vec<String>> {
     Ok(words)
 }
 
-/// The status where there are no words: 11 where there was no memory for them, as of `NoMemory`, and
-/// 2 where one of them is not UTF-8, as of `Usage`. Nothing is said.
+/// The status where there are no words: 11 where there was no memory for them, as of `NoMemory`,
+/// and 2 where one of them is not UTF-8, as of `Usage`. Nothing is said.
 fn status_without_words(error: &io::Error) -> u8
     ensures no_memory { error_kind error.now ≡ ErrorKind.OutOfMemory → result ≡ 11 }
     ensures no_text { error_kind error.now ≢ ErrorKind.OutOfMemory → result ≡ 2 }
