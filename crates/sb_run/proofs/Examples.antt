@@ -2,15 +2,20 @@
 use Rattle.std.proofs.Common.{◌≡◌, Some, None, refl, [], ◌∷◌}
 use Rattle.std.specs.Prelude.{codes}
 use Rattle.std.specs.Fmt.{digits}
-use Rattle.sb_run.specs.declared.answer.Answer.TheVariants.{Syntax, Refused}
+use Rattle.sb_run.specs.declared.answer.Answer.TheVariants.{Syntax, Refused, WriteFault}
 use Rattle.sb_run.specs.declared.answer.Code.TheVariants.{OffGrid}
-use Rattle.sb_run.specs.Command.{command}
+use Rattle.sb_run.specs.Command.{Command, command}
+use Rattle.sb_run.specs.Promises.{inputs_of, outputs_of}
+use Rattle.sb_shelf.specs.declared.shelf.Out.TheVariants.{Report}
 use Rattle.sb_run.specs.Messages.{said_line}
 
 -- the words of a command, of which these three are one
 asked : command (codes "box.ifc" ∷ codes "--report" ∷ codes "r.json" ∷ [])
     ≡ Some (record { model = codes "box.ifc"; report = codes "r.json" })
 asked = refl
+
+asked_for : Command
+asked_for = record { model = codes "box.ifc"; report = codes "r.json" }
 
 -- no other option, and no report or model that is missing, empty or an option
 other_option : command (codes "box.ifc" ∷ codes "--ifc" ∷ codes "r.json" ∷ []) ≡ None
@@ -40,3 +45,15 @@ line_of_fault = refl
 line_of_refusal : said_line (Refused 20 OffGrid) ≡ codes "refused #20: OffGrid\n"
 unfolding digits
 line_of_refusal = refl
+
+-- a run that is asked for nothing opens nothing, and one that is refused creates nothing
+nothing_is_opened : inputs_of (command []) ≡ []
+nothing_is_opened = refl
+
+nothing_is_created : outputs_of (Some asked_for) (Refused 20 OffGrid) ≡ []
+nothing_is_created = refl
+
+-- after a fault of writing the report was asked for, once
+the_report_is_asked_for : outputs_of (Some asked_for) WriteFault
+    ≡ record { out = Report; path = codes "r.json" } ∷ []
+the_report_is_asked_for = refl

@@ -40,8 +40,8 @@ use std::alloc::Global;
 /// - `NoMemory`: at any step before the report is created.
 ///
 /// What is said of the input holds where the shelf tells the bytes under the model. Where it tells
-/// what it was asked for: the model was opened once, and no other path; the report was created at most
-/// once, under its path, and nothing else.
+/// what it was asked for: the model was opened once, and no other path; the report was created at
+/// most once, under its path, and nothing else.
 pub fn run<S: Shelf>(alloc: Global, words: &[String], shelf: &mut S) -> Answer
     requires { IsUntouched (S.state shelf.old) }
 
@@ -68,7 +68,7 @@ pub fn run<S: Shelf>(alloc: Global, words: &[String], shelf: &mut S) -> Answer
     ensures write_fault { result ≡ Answer.WriteFault
         → Rose (S.state shelf.old).file_faults (S.state shelf.new).file_faults }
 
-    // Nothing is created before the input is judged, nor was it tried; nothing but the report after.
+    // Nothing is created before the input is judged, nor was it tried; after it only the report.
     ensures untouched { IsEarly result → IsUntouched (S.state shelf.new) }
     ensures untried { IsEarly result
         → (S.state shelf.new).file_faults ≡ (S.state shelf.old).file_faults }

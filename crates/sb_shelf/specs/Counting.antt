@@ -1,6 +1,6 @@
 -- How calls are numbered and failed calls are counted.
-use Rattle.std.specs.Prelude.{◌≡◌, ℕ, ◌<◌, ◌≤◌, ◌==◌, Bool, ◌||◌, nat_lt, if◌then◌else◌, List, length}
-use Rattle.std.specs.Prelude.{Option, Some, None, Result, Ok, Err, IfOk, is_ok}
+use Rattle.std.specs.Prelude.{◌≡◌, ℕ, ◌<◌, ◌≤◌, ◌==◌, nat_lt, Bool, ◌||◌, if◌then◌else◌}
+use Rattle.std.specs.Prelude.{List, length, Option, Some, None, Result, Ok, Err, IfOk, is_ok}
 use Rattle.std.specs.Result.{result_ok}
 use Rattle.std.specs.List.{list_any}
 use Rattle.sb_shelf.specs.declared.shelf.Failed.{Failed}
@@ -33,8 +33,8 @@ abbrev pub taken_by : {E : Type 0} → List ℕ → Result ℕ E → Option ℕ
 taken_by piece (Ok n) = if nat_lt 0 n || length piece == 0 then Some n else None
 taken_by piece (Err error) = None
 
--- The answer of a shelf to a write of this piece, and its count, by the answer of the system: so many
--- bytes were taken, at most the piece, or the call is counted as failed.
+-- The answer of a shelf to a write of this piece, and its count, by the answer of the system: so
+-- many bytes were taken, at most the piece, or the call is counted as failed.
 pub record IsCounted {E : Type 0} (piece : List ℕ) (answer : Result ℕ E)
     (result : Result ℕ Failed) (before now : ℕ) : Type 0 where
   pub same : result_ok result ≡ taken_by piece answer

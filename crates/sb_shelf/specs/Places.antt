@@ -1,5 +1,5 @@
 -- Which files two handles lead to, and whether they may be one.
-use Rattle.std.specs.Prelude.{ℕ, Bool, true, false, ◌&&◌, ◌==◌}
+use Rattle.std.specs.Prelude.{Bool, true, false, ◌&&◌, ◌==◌}
 use Rattle.sb_shelf.specs.declared.places.Place.{Place}
 use Rattle.sb_shelf.specs.declared.places.Place.TheVariants.{Regular, Other, Unknown}
 

@@ -90,8 +90,8 @@ pub record OnlyReads (old new : World) : Type 0 where
   pub file_faults : new.file_faults ≡ old.file_faults
   pub said_faults : new.said_faults ≡ old.said_faults
 
--- What can be read and what was asked of `open` are as they were, and so are the other outputs. Whether the bytes on this one are
--- told stays.
+-- What can be read and what was asked of `open` are as they were, and so are the other outputs.
+-- Whether the bytes on this one are told stays.
 pub record OnlyOutput (out : Out) (old new : World) : Type 0 where
   pub under : (path : List ℕ) → new.under path ≡ old.under path
   pub left : new.left ≡ old.left

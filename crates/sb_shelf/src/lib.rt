@@ -1,7 +1,7 @@
 //! The world outside the program: where it reads, where it writes, and which faults it meets there.
 //!
 //! A [`Shelf`] has four calls. Its contract says what is read and written, where the shelf tells
-//! it, and that a call fails only where a count of faults rises. [`MemoryShelf`] tells everything
+//! it, and that a call fails only where a count of faults rises. [`MemoryShelf`] tells all bytes
 //! and fails where it is told to; [`SteadyShelf`] tells what is read and never fails;
 //! [`HostShelf`] is real files and standard output. [`read_all`] and [`write_all`] move whole
 //! texts. Read `specs/World.antt` and `specs/Calls.antt` first.

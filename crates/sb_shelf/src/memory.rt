@@ -8,7 +8,7 @@ use crate::shelf::{Failed, Out, Shelf};
 use sb_list::Text;
 use std::alloc::{AllocError, Global};
 
-/// A shelf in memory, which tells everything and fails at the calls that it is told to fail.
+/// A shelf in memory, which tells all bytes and fails at the calls that it is told to fail.
 ///
 /// It holds bytes under one path; any other path has none. It numbers its calls of `open`, `read`,
 /// `create` and `write` from 1 and fails those that are listed; once the number is 2^64 - 1 it
@@ -137,7 +137,8 @@ impl Shelf for MemoryShelf {
 
     fn create(&mut self, out: Out, path: &str) -> Result<(), Failed>
         requires { (memory_state self.old).is_created out ≡ false }
-        ensures meets { Creates out path.now result (memory_state self.old) (memory_state self.new) }
+        ensures meets { Creates out path.now result
+            (memory_state self.old) (memory_state self.new) }
         ensures fails { is_err result ≡ is_listed self.old }
         ensures faults { CountsCreates result (memory_state self.old) (memory_state self.new) }
         ensures called { IsCall self.old self.new }

@@ -21,7 +21,8 @@ pub(crate) enum Place {
 
 impl Place {
     pub(crate) fn of(found: io::Result<Metadata>) -> Place
-        ensures regular { IfOk found (λ file. IsTrue (is_regular result) ↔ IsFile (file_type file)) }
+        ensures regular { IfOk found
+            (λ file. IsTrue (is_regular result) ↔ IsFile (file_type file)) }
         ensures known { IfOk found (λ _. result ≢ Place.Unknown) }
         ensures unknown { OnErr found (result ≡ Place.Unknown) }
     {

@@ -13,16 +13,17 @@ pub enum Out {
     Said,
 }
 
-/// A call of a shelf has failed. Its count of faults rose, and all else is as it was.
+/// A call of a shelf has failed. Its count of faults rose, what it was asked for is told where the
+/// shelf tells that, and all else is as it was.
 #[derive(Drop)]
 pub struct Failed;
 
 /// The world outside the program.
 ///
-/// A shelf may tell the bytes under a path, what is left to read, and the bytes on an output; which
-/// of these it tells never changes. It counts its failed calls in three counts that never fall: of
-/// `open` and `read`, of `create` and of `write` to the three files, and of `write` to `Said`. Each
-/// count stays at 2^64 - 1 once it is there.
+/// A shelf may tell the bytes under a path, what is left to read, the bytes on an output, and what
+/// was asked of `open` and of `create`; which of these it tells never changes. It counts its failed
+/// calls in three counts that never fall: of `open` and `read`, of `create` and of `write` to the
+/// three files, and of `write` to `Said`. Each count stays at 2^64 - 1 once it is there.
 pub trait Shelf {
     ghost use Rattle.sb_shelf.specs.World.{World};
     ghost use Rattle.sb_shelf.specs.Calls.{Opens, Reads, Creates, Writes};

@@ -24,9 +24,9 @@ fn shelf(alloc: Global, bytes: &[u8], failing: u64, piece: usize) -> Result<Memo
     Ok(MemoryShelf::new(alloc, path, bytes, calls, piece))
 }
 
-/// What `read_all` answers over a shelf that holds `bytes`, as a word.
-fn read_word<S: Shelf>(alloc: Global, shelf: &mut S, bytes: &[u8]) -> &'static str {
-    match read_all(alloc, shelf, "model.ifc") {
+/// What `read_all` answers of a path over a shelf that holds `bytes` under it, as a word.
+fn read_word<S: Shelf>(alloc: Global, shelf: &mut S, path: &str, bytes: &[u8]) -> &'static str {
+    match read_all(alloc, shelf, path) {
         Ok(read) => {
             if read.as_slice() == bytes {
                 "all"
@@ -46,7 +46,7 @@ fn a_text_is_read_whole_or_not_at_all(rt: HostRuntime) -> Result<(), Fail> {
     let text = b"ISO-10303-";
     for (failing, want) in [(0, "all"), (3, "fault"), (4, "fault"), (5, "all")] {
         let mut shelf = shelf(rt.alloc(), text, failing, 7)?;
-        let got = read_word(rt.alloc(), &mut shelf, text);
+        let got = read_word(rt.alloc(), &mut shelf, "model.ifc", text);
         assert_eq!(rt; got, want, "where call {failing} fails");
     }
     Ok(())
@@ -102,8 +102,8 @@ fn is_written<R: Files + Print + Drop>(rt: R, path: &str, text: &[u8]) -> bool {
     }
 }
 
-/// Which of the calls of `write_all` fail where only the call of this number does: none, for an
-/// empty text and then for a long one that a shelf takes whole.
+/// Whether an empty text is written, and then a long one that the shelf takes at once, where the
+/// call of this number fails.
 fn are_whole(alloc: Global, failing: u64) -> Result<(bool, bool), AllocError> {
     let mut shelf = shelf(alloc, b"", failing, usize::MAX)?;
     shelf.reserve(70_000)?;
@@ -135,19 +135,20 @@ fn a_long_text_is_read_and_written(rt: HostRuntime) -> Result<(), Fail> {
     let bytes = Text::of(rt.alloc(), long.as_slice())?;
     let mut steady = SteadyShelf::new(rt.alloc(), name, bytes);
     assert_eq!(rt;
-        read_word(rt.alloc(), &mut steady, long.as_slice()),
+        read_word(rt.alloc(), &mut steady, "model.ifc", long.as_slice()),
         "all",
         "steady"
     );
 
     let mut host = HostShelf::new(rt.clone()?);
-    assert!(rt;
-        read_all(rt.alloc(), &mut host, "absent.ifc").is_err(),
+    assert_eq!(rt;
+        read_word(rt.alloc(), &mut host, "absent.ifc", b""),
+        "fault",
         "no such file"
     );
-    fs::write(&rt, "model.ifc", long.as_slice())?;
+    fs::write(&rt, "long.ifc", long.as_slice())?;
     assert_eq!(rt;
-        read_word(rt.alloc(), &mut host, long.as_slice()),
+        read_word(rt.alloc(), &mut host, "long.ifc", long.as_slice()),
         "all",
         "a file"
     );
@@ -155,12 +156,14 @@ fn a_long_text_is_read_and_written(rt: HostRuntime) -> Result<(), Fail> {
         !is_written(rt.clone()?, "absent/report.json", &long),
         "no such folder"
     );
-    assert!(rt; is_written(rt.clone()?, "report.json", &long), "a new file");
-    let written = fs::read(&rt, "report.json")?;
+    assert!(rt; is_written(rt.clone()?, "long.json", &long), "a new file");
+    let written = fs::read(&rt, "long.json")?;
     assert!(rt;
         written.as_slice() == long.as_slice(),
         "the whole text stands there"
     );
+    fs::remove_file(&rt, "long.ifc")?;
+    fs::remove_file(&rt, "long.json")?;
     Ok(())
 }
 
@@ -179,36 +182,43 @@ fn are_created<R: Files + Print + Drop>(rt: R, report: &str, ifc: &str) -> bool 
 // What is in use is not emptied, whatever name it is asked for by.
 #[test]
 fn a_file_in_use_stands(rt: HostRuntime) -> Result<(), Fail> {
-    fs::write(&rt, "model.ifc", b"ISO")?;
-    fs::write(&rt, "report.json", b"before")?;
-    rt.hard_link("model.ifc", "link.json")?;
+    fs::write(&rt, "used.ifc", b"ISO")?;
+    fs::write(&rt, "free.json", b"before")?;
+    rt.hard_link("used.ifc", "link.json")?;
     for (report, want, why) in [
-        ("./model.ifc", false, "the model by another path"),
+        ("./used.ifc", false, "the model by another path"),
         ("link.json", false, "the model by another name"),
-        ("report.json", true, "a file that is in no use"),
+        ("free.json", true, "a file that is in no use"),
         ("/dev/null", true, "a device"),
     ] {
         assert_eq!(rt;
-            is_created_beside(rt.clone()?, "model.ifc", report),
+            is_created_beside(rt.clone()?, "used.ifc", report),
             want,
             "{why}"
         );
     }
     assert!(rt; are_created(rt.clone()?, "a.json", "a.ifc"), "two files");
     assert!(rt; !are_created(rt.clone()?, "a.json", "./a.json"), "one file");
-    let model = fs::read(&rt, "model.ifc")?;
-    assert!(rt; model.as_slice() == b"ISO".as_slice(), "the model stands");
-    let report = fs::read(&rt, "report.json")?;
-    assert!(rt; report.is_empty(), "the other file was emptied");
+    let used = fs::read(&rt, "used.ifc")?;
+    assert!(rt; used.as_slice() == b"ISO".as_slice(), "the model stands");
+    let free = fs::read(&rt, "free.json")?;
+    assert!(rt; free.is_empty(), "the other file was emptied");
+    for path in ["used.ifc", "link.json", "free.json", "a.json", "a.ifc"] {
+        fs::remove_file(&rt, path)?;
+    }
     Ok(())
 }
 
 // An error of the system is a fault, in reading and in writing.
 #[test]
 fn an_error_of_the_system_is_a_fault(rt: HostRuntime) -> Result<(), Fail> {
-    fs::create_dir(&rt, "model.ifc")?;
     let mut host = HostShelf::new(rt.clone()?);
-    assert_eq!(rt; read_word(rt.alloc(), &mut host, b""), "fault", "a folder");
+    assert_eq!(rt;
+        read_word(rt.alloc(), &mut host, ".", b""),
+        "fault",
+        "a folder"
+    );
+    assert!(rt; !is_written(rt.clone()?, ".", b""), "a folder");
     assert!(rt;
         is_written(rt.clone()?, "/dev/full", b""),
         "nothing to write"
@@ -217,6 +227,5 @@ fn an_error_of_the_system_is_a_fault(rt: HostRuntime) -> Result<(), Fail> {
         !is_written(rt.clone()?, "/dev/full", b"{}"),
         "a full device"
     );
-    assert!(rt; !is_written(rt.clone()?, "model.ifc", b"{}"), "a folder");
     Ok(())
 }

@@ -36,8 +36,8 @@ pub enum ReadError {
 /// - `Err(TooLong)`: exactly where more than [`LONGEST_INPUT`] bytes were taken without a fault.
 /// - `Err(NoMemory)`: there was no memory for the bytes or for the piece that they come in.
 ///
-/// In each case the outputs are as they were, and so are the other counts. The path was opened once,
-/// and no other.
+/// In each case the outputs are as they were, and so are the other counts. The path was opened
+/// once, and no other.
 pub fn read_all<S: Shelf>(alloc: Global, shelf: &mut S, path: &str) -> Result<Vec<u8>, ReadError>
     ensures keeps { OnlyReads (S.state shelf.old) (S.state shelf.new) }
     ensures asked { (S.state shelf.new).asked_inputs
