@@ -1,7 +1,7 @@
 -- What the judgement of an input says.
-use Rattle.std.specs.Prelude.{◌≡◌, ◌⊎◌, ◌<◌, ◌≤◌, ℕ, true, List, length, take, Option}
+use Rattle.std.specs.Prelude.{◌≡◌, ◌⊎◌, ◌<◌, ◌≤◌, ℕ, true, List, [], ◌∷◌, length, take, Option}
 use Rattle.std.specs.Option.{ForSome}
-use Rattle.sb_shelf.specs.World.{World, Rose}
+use Rattle.sb_shelf.specs.World.{World, Rose, also_asked}
 use Rattle.sb_shelf.specs.declared.shelf.Out.TheVariants.{Ifc, Idf, Report}
 use Rattle.sb_step.specs.IndexAnswers.{HasDoubled}
 use Rattle.sb_step.specs.Faults.{IsFaultAt}
@@ -104,9 +104,13 @@ IsFinished ready WriteFault old new =
     (λ bytes. bytes ≡ take (length bytes) ready.report.items))
 IsFinished ready _ old new = ⊥
 
--- what can be read, and the two files that are not written, are as they were
-pub record OnlyReportAndMessage (old new : World) : Type 0 where
+-- Of the outputs only the report and the message have changed, and only the report was asked for,
+-- once and under this path. What can be read is as it was.
+pub record OnlyReportAndMessage (path : List ℕ) (old new : World) : Type 0 where
   pub ifc : new.is_created Ifc ≡ old.is_created Ifc
   pub idf : new.is_created Idf ≡ old.is_created Idf
+  pub asked_inputs : new.asked_inputs ≡ old.asked_inputs
+  pub asked_outputs : new.asked_outputs
+      ≡ also_asked old.asked_outputs (record { out = Report; path = path } ∷ [])
   pub read_faults : new.read_faults ≡ old.read_faults
   pub file_faults : old.file_faults ≤ new.file_faults

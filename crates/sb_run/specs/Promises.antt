@@ -1,7 +1,8 @@
 -- What a run promises. `old` and `new` are the world before the run and after it.
-use Rattle.std.specs.Prelude.{◌≡◌, ◌≤◌, ◌++◌, ℕ, false, true, List, length, take, Some, None}
+use Rattle.std.specs.Prelude.{◌≡◌, ◌≤◌, ◌++◌, ℕ, false, true, List, [], ◌∷◌, length, take}
+use Rattle.std.specs.Prelude.{Option, Some, None}
 use Rattle.std.specs.Option.{ForSome}
-use Rattle.sb_shelf.specs.World.{World, Rose}
+use Rattle.sb_shelf.specs.World.{World, AskedOutput, Rose}
 use Rattle.sb_shelf.specs.WholeTexts.{AppendsFirstOf}
 use Rattle.sb_shelf.specs.declared.shelf.Out.TheVariants.{Ifc, Idf, Report, Said}
 use Rattle.sb_step.specs.Indexed.{Indexed}
@@ -28,6 +29,18 @@ pub record IsInput (words : List (List ℕ)) (old : World) (bytes : List ℕ) : 
   pub asked : Command
   pub is_asked : command words ≡ Some asked
   pub is_told : old.under asked.model ≡ Some bytes
+
+-- what a run asks of `open`: the model of the command, once, and nothing where there is none
+abbrev pub inputs_of : Option Command → List (List ℕ)
+inputs_of (Some asked) = asked.model ∷ []
+inputs_of None = []
+
+-- What a run with this answer asks of `create`: the report of the command, once; nothing where the
+-- words are no command, or the answer comes before anything is created.
+abbrev pub outputs_of : Option Command → Answer → List AskedOutput
+outputs_of (Some asked) (Done list) = record { out = Report; path = asked.report } ∷ []
+outputs_of (Some asked) WriteFault = record { out = Report; path = asked.report } ∷ []
+outputs_of _ _ = []
 
 -- the IFC text and the IDF are not written yet
 pub record OnlyReport (s : World) : Type 0 where

@@ -1,10 +1,10 @@
 // The judgement of an input: what is to be written for it, or why it is refused.
-ghost use Rattle.std.specs.Prelude.{◌≡◌, ◌≤◌, length, IfOk, IfErr, OnOk, string_bytes};
+ghost use Rattle.std.specs.Prelude.{◌≡◌, ◌≤◌, [], ◌∷◌, length, IfOk, IfErr, OnOk, string_bytes};
 ghost use Rattle.std.specs.Option.{ForSome};
 ghost use Rattle.sb_form.specs.FirstForm.{AreShort};
 ghost use Rattle.sb_form.specs.Meaning.{IsExtentOf, model_of};
 ghost use Rattle.sb_report.specs.Report.{report_of};
-ghost use Rattle.sb_shelf.specs.World.{OnlyReads};
+ghost use Rattle.sb_shelf.specs.World.{OnlyReads, also_asked};
 ghost use Rattle.sb_shelf.specs.WholeTexts.{longest_input};
 ghost use Rattle.sb_run.specs.Messages.{done_line};
 ghost use Rattle.sb_run.specs.Judgements.{IsReady, IsRead, IsJudged, IsRefusal, code_of};
@@ -32,6 +32,8 @@ pub(crate) struct Ready {
 /// Reads the input under a path and judges it.
 pub(crate) fn judged<S: Shelf>(alloc: Global, shelf: &mut S, path: &str) -> Result<Ready, Answer>
     ensures keeps { OnlyReads (S.state shelf.old) (S.state shelf.new) }
+    ensures asked { (S.state shelf.new).asked_inputs
+        ≡ also_asked (S.state shelf.old).asked_inputs (path.now ∷ []) }
     ensures ready { IfOk result (λ ready. ForSome ((S.state shelf.old).under path.now)
         (λ input. IsReady input ready)) }
     ensures line { IfOk result (λ ready. string_bytes ready.line ≡ done_line ready.list) }

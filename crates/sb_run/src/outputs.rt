@@ -1,7 +1,7 @@
 // The outputs of a run: it says a line, and puts the report.
-ghost use Rattle.std.specs.Prelude.{◌≡◌, ◌≤◌, false, true, length, take, OnOk, OnErr};
+ghost use Rattle.std.specs.Prelude.{◌≡◌, ◌≤◌, [], ◌∷◌, false, true, length, take, OnOk, OnErr};
 ghost use Rattle.std.specs.Option.{ForSome};
-ghost use Rattle.sb_shelf.specs.World.{OnlyOutput, OnlyWrites, Rose};
+ghost use Rattle.sb_shelf.specs.World.{OnlyOutput, OnlyWrites, Rose, also_asked};
 ghost use Rattle.sb_run.specs.Promises.{Says};
 
 use sb_shelf::{Out, Shelf, WriteFault, write_all};
@@ -22,6 +22,8 @@ pub(crate) fn say<S: Shelf>(shelf: &mut S, text: &[u8])
 pub(crate) fn put_report<S: Shelf>(shelf: &mut S, path: &str, text: &[u8]) -> Result<(), WriteFault>
     requires { (S.state shelf.old).is_created Out.Report ≡ false }
     ensures keeps { OnlyOutput Out.Report (S.state shelf.old) (S.state shelf.new) }
+    ensures asked { (S.state shelf.new).asked_outputs ≡ also_asked (S.state shelf.old).asked_outputs
+        (record { out = Out.Report; path = path.now } ∷ []) }
     ensures said_faults { (S.state shelf.new).said_faults ≡ (S.state shelf.old).said_faults }
     ensures file_faults { (S.state shelf.old).file_faults ≤ (S.state shelf.new).file_faults }
     ensures written { OnOk result

@@ -5,8 +5,8 @@ ghost use Rattle.sb_run.specs.Statuses.{HasReached, IsEarly};
 ghost use Rattle.sb_run.specs.Command.{command};
 ghost use Rattle.sb_shelf.specs.WholeTexts.{longest_input};
 ghost use Rattle.sb_run.specs.Promises.{IsInput, IsSoundForm, IsRefused, IsDoneOrNoMemory};
-ghost use Rattle.sb_run.specs.Promises.{OnlyReport, ReportStands, Says};
-ghost use Rattle.sb_shelf.specs.World.{IsUntouched, OnlyWrites, Rose};
+ghost use Rattle.sb_run.specs.Promises.{OnlyReport, ReportStands, Says, inputs_of, outputs_of};
+ghost use Rattle.sb_shelf.specs.World.{IsUntouched, OnlyWrites, Rose, also_asked};
 ghost use Rattle.sb_step.specs.Faults.{IsFaultAt};
 ghost use Rattle.sb_run.specs.Judgements.{IsSameOrNoMemory, IsFinished, OnlyReportAndMessage};
 ghost use Rattle.sb_form.specs.declared.matcher.FirstForm.{FirstForm};
@@ -39,7 +39,9 @@ use std::alloc::Global;
 /// - `Done(list)`: the report of the list stands written.
 /// - `NoMemory`: at any step before the report is created.
 ///
-/// What is said of the input holds where the shelf tells the bytes under the model.
+/// What is said of the input holds where the shelf tells the bytes under the model. Where it tells
+/// what it was asked for: the model was opened once, and no other path; the report was created at most
+/// once, under its path, and nothing else.
 pub fn run<S: Shelf>(alloc: Global, words: &[String], shelf: &mut S) -> Answer
     requires { IsUntouched (S.state shelf.old) }
 
@@ -66,9 +68,18 @@ pub fn run<S: Shelf>(alloc: Global, words: &[String], shelf: &mut S) -> Answer
     ensures write_fault { result ≡ Answer.WriteFault
         → Rose (S.state shelf.old).file_faults (S.state shelf.new).file_faults }
 
-    // Nothing is created before the input is judged, and nothing but the report after it.
+    // Nothing is created before the input is judged, nor was it tried; nothing but the report after.
     ensures untouched { IsEarly result → IsUntouched (S.state shelf.new) }
+    ensures untried { IsEarly result
+        → (S.state shelf.new).file_faults ≡ (S.state shelf.old).file_faults }
     ensures only_report { OnlyReport (S.state shelf.new) }
+
+    // Only the model is opened, and only the report is created under its path, each once.
+    ensures opens { (S.state shelf.new).asked_inputs ≡ also_asked (S.state shelf.old).asked_inputs
+        (inputs_of (command (map string_bytes words.now))) }
+    ensures creates { (S.state shelf.new).asked_outputs ≡ also_asked
+        (S.state shelf.old).asked_outputs
+        (outputs_of (command (map string_bytes words.now)) result) }
 
     // What stands on the report: after Done the whole text of the answered list.
     ensures report { (input : List ℕ)
@@ -120,7 +131,7 @@ fn said_early<S: Shelf>(alloc: Global, shelf: &mut S, answer: Answer) -> Answer
 /// Writes what is ready and says so.
 fn finished<S: Shelf>(shelf: &mut S, path: &str, ready: Ready) -> Answer
     requires { (S.state shelf.old).is_created Out.Report ≡ false }
-    ensures keeps { OnlyReportAndMessage (S.state shelf.old) (S.state shelf.new) }
+    ensures keeps { OnlyReportAndMessage path.now (S.state shelf.old) (S.state shelf.new) }
     ensures answer { IsFinished ready result (S.state shelf.old) (S.state shelf.new) }
     ensures message { string_bytes ready.line ≡ done_line ready.list
         → Says (said_line result) (S.state shelf.old) (S.state shelf.new) }

@@ -17,6 +17,7 @@ only_reads_twice first second = record {
   under = λ path. second.under path ∙ first.under path;
   tells_left = second.tells_left ∙ first.tells_left;
   outs = λ out. same_out_twice (first.outs out) (second.outs out);
+  asked_outputs = second.asked_outputs ∙ first.asked_outputs;
   read_faults = omega (arith, first.read_faults, second.read_faults);
   file_faults = second.file_faults ∙ first.file_faults;
   said_faults = second.said_faults ∙ first.said_faults;
@@ -30,6 +31,7 @@ only_output_twice first second = record {
   left = second.left ∙ first.left;
   others = λ o differs. same_out_twice (first.others o differs) (second.others o differs);
   tells_bytes = second.tells_bytes ∙ first.tells_bytes;
+  asked_inputs = second.asked_inputs ∙ first.asked_inputs;
   read_faults = second.read_faults ∙ first.read_faults;
 }
 
@@ -39,6 +41,7 @@ pub only_writes_twice : {out : Out} {a b c : World}
 only_writes_twice {out} first second = record {
   output = only_output_twice first.output second.output;
   is_created = second.is_created ∙ first.is_created;
+  asked_outputs = second.asked_outputs ∙ first.asked_outputs;
   own_faults = omega (arith, first.own_faults, second.own_faults);
   other_faults = second.other_faults ∙ first.other_faults;
 }

@@ -1,17 +1,19 @@
 -- Reading piece by piece loses nothing: what was taken and what is left is the same text all along.
-use Rattle.std.proofs.Common.{◌≡◌, ℕ, zero, suc, ◌<◌, List, [], ◌++◌, length, take, drop}
+use Rattle.std.proofs.Common.{◌≡◌, ℕ, zero, suc, ◌<◌, List, [], ◌∷◌, ◌++◌, length, take, drop}
 use Rattle.std.proofs.Common.{Option, Some, None, refl, arith, append_assoc}
 use Rattle.std.specs.Bool.{OnFalse}
 use Rattle.std.specs.Prelude.{is_some, nat_lt}
 use Rattle.std.specs.Option.{ForSome, option_map}
 use Rattle.std.proofs.lemmas.List.{take-append-drop}
-use Rattle.sb_shelf.specs.World.{World, OnlyReads}
+use Rattle.sb_shelf.specs.World.{World, OnlyReads, also_asked}
 use Rattle.sb_shelf.specs.Calls.{Moves}
 use Rattle.sb_shelf.specs.WholeTexts.{taken_and_left}
 
--- so far nothing but reading was done, and what was taken with what is left is the text of the path
+-- so far nothing but reading was done, the path was opened once, and what was taken with what is
+-- left is its text
 pub record IsReading (path : List ℕ) (start now : World) (taken : List ℕ) : Type 0 where
   pub keeps : OnlyReads start now
+  pub asked : now.asked_inputs ≡ also_asked start.asked_inputs (path ∷ [])
   pub whole : ForSome (start.under path) (λ told. taken_and_left taken now ≡ Some told)
 
 joined_where_told : (was now : Option (List ℕ)) (taken came : List ℕ) (n : ℕ)

@@ -1,15 +1,18 @@
--- What the four calls of a shelf do, each as a relation of the world before and after it.
+-- What the four calls of a shelf do, each as a relation of the world before and after it. What was
+-- asked for is told of failed calls too: it and the count are all that such a call changes.
 use Rattle.std.specs.Prelude.{◌≡◌, ◌↔◌, ℕ, ◌<◌, ◌≤◌, true, Some, Result, IfOk, OnOk, OnErr}
-use Rattle.std.specs.Prelude.{List, [], ◌++◌, length, take, drop}
+use Rattle.std.specs.Prelude.{List, [], ◌∷◌, ◌++◌, length, take, drop}
 use Rattle.std.specs.Option.{ForSome}
 use Rattle.sb_shelf.specs.declared.shelf.Out.{Out}
 use Rattle.sb_shelf.specs.declared.shelf.Failed.{Failed}
 use Rattle.sb_shelf.specs.World.{World, Rose, faults_of, OnlyReads, OnlyOutput, OnlyWrites}
+use Rattle.sb_shelf.specs.World.{also_asked}
 
 -- `open`: the bytes under the path, where they are told, are what is left to read.
 pub record Opens
     (path : List ℕ) (result : Result (Unit {0}) Failed) (old new : World) : Type 0 where
   pub keeps : OnlyReads old new
+  pub asked : new.asked_inputs ≡ also_asked old.asked_inputs (path ∷ [])
   pub ok : OnOk result (ForSome (old.under path) (λ bytes. new.left ≡ Some bytes))
   pub failed : OnErr result (Rose old.read_faults new.read_faults)
   pub as_before : OnErr result (new.left ≡ old.left)
@@ -28,6 +31,7 @@ pub record Moves (n : ℕ) (before after left : List ℕ) (new : World) : Type 0
 pub record Reads
     (before after : List ℕ) (result : Result ℕ Failed) (old new : World) : Type 0 where
   pub keeps : OnlyReads old new
+  pub asked : new.asked_inputs ≡ old.asked_inputs
   pub within : IfOk result (λ n. n ≤ length after)
   pub ok : IfOk result (λ n. ForSome old.left (λ left. Moves n before after left new))
   pub failed : OnErr result (Rose old.read_faults new.read_faults)
@@ -36,8 +40,11 @@ pub record Reads
 
 -- `create`: the output is created and, where its bytes are told, empty.
 pub record Creates
-    (out : Out) (result : Result (Unit {0}) Failed) (old new : World) : Type 0 where
+    (out : Out) (path : List ℕ) (result : Result (Unit {0}) Failed) (old new : World)
+    : Type 0 where
   pub keeps : OnlyOutput out old new
+  pub asked : new.asked_outputs
+      ≡ also_asked old.asked_outputs (record { out = out; path = path } ∷ [])
   pub file_faults : old.file_faults ≤ new.file_faults
   pub said_faults : new.said_faults ≡ old.said_faults
   pub created : OnOk result (new.is_created out ≡ true)

@@ -7,3 +7,4 @@ pub mod Input
 pub mod Memory
 pub mod Steady
 pub mod Host
+pub mod Places

@@ -1,5 +1,5 @@
 -- What a shelf in memory stands for, and what its calls do beyond those of any shelf.
-use Rattle.std.specs.Prelude.{◌≡◌, ◌≢◌, ℕ, min, Bool, true, List, [], Some}
+use Rattle.std.specs.Prelude.{◌≡◌, ◌≢◌, ℕ, min, Bool, true, List, [], Some, None}
 use Rattle.sb_shelf.specs.declared.shelf.Out.{Out}
 use Rattle.sb_shelf.specs.declared.shelf.Out.TheVariants.{Ifc, Idf, Report, Said}
 use Rattle.sb_shelf.specs.declared.page.Page.{Page}
@@ -19,13 +19,16 @@ page_of m Said = m.said
 abbrev pub room_of : MemoryShelf → Out → ℕ
 room_of m out = (page_of m out).room
 
--- a shelf in memory tells everything; a path that it does not hold has no bytes
+-- a shelf in memory tells all but what was asked for, which would take memory; a path that it does
+-- not hold has no bytes
 abbrev pub memory_state : MemoryShelf → World
 memory_state m = record {
   under = λ path. Some (told_under m.input path);
   left = Some (left_of m.input);
   is_created = λ out. (page_of m out).is_created;
   bytes = λ out. Some (page_of m out).bytes.items;
+  asked_inputs = None;
+  asked_outputs = None;
   read_faults = m.read_faults;
   file_faults = m.file_faults;
   said_faults = m.said_faults;

@@ -12,8 +12,10 @@ mod host;
 mod input;
 mod memory;
 mod page;
+mod places;
 mod shelf;
 mod steady;
+mod streams;
 #[cfg(test)]
 mod tests;
 mod whole_input;

@@ -135,9 +135,9 @@ impl Shelf for MemoryShelf {
         Ok(self.input.read(into, self.piece))
     }
 
-    fn create(&mut self, out: Out, _path: &str) -> Result<(), Failed>
+    fn create(&mut self, out: Out, path: &str) -> Result<(), Failed>
         requires { (memory_state self.old).is_created out ≡ false }
-        ensures meets { Creates out result (memory_state self.old) (memory_state self.new) }
+        ensures meets { Creates out path.now result (memory_state self.old) (memory_state self.new) }
         ensures fails { is_err result ≡ is_listed self.old }
         ensures faults { CountsCreates result (memory_state self.old) (memory_state self.new) }
         ensures called { IsCall self.old self.new }

@@ -44,7 +44,7 @@ pub trait Shelf {
     /// Makes the output created and empty.
     fn create(&mut self, out: Out, path: &str) -> Result<(), Failed>
         requires { (state self.old).is_created out ≡ false }
-        ensures { Creates out result (state self.old) (state self.new) };
+        ensures { Creates out path.now result (state self.old) (state self.new) };
 
     /// Appends the first bytes of the piece to the output, and answers how many: at least one of a
     /// piece that is not empty.

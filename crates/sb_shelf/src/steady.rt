@@ -70,9 +70,9 @@ impl Shelf for SteadyShelf {
         Ok(self.input.read(into, most))
     }
 
-    fn create(&mut self, out: Out, _path: &str) -> Result<(), Failed>
+    fn create(&mut self, out: Out, path: &str) -> Result<(), Failed>
         requires { (steady_state self.old).is_created out ≡ false }
-        ensures meets { Creates out result (steady_state self.old) (steady_state self.new) }
+        ensures meets { Creates out path.now result (steady_state self.old) (steady_state self.new) }
         ensures never_fails { IsOk result }
     {
         match out {

@@ -102,6 +102,31 @@ fn is_written<R: Files + Print + Drop>(rt: R, path: &str, text: &[u8]) -> bool {
     }
 }
 
+/// Which of the calls of `write_all` fail where only the call of this number does: none, for an
+/// empty text and then for a long one that a shelf takes whole.
+fn are_whole(alloc: Global, failing: u64) -> Result<(bool, bool), AllocError> {
+    let mut shelf = shelf(alloc, b"", failing, usize::MAX)?;
+    shelf.reserve(70_000)?;
+    let long = vec![in alloc; b'#'; 70_000]?;
+    let is_empty_whole = write_all(&mut shelf, Out::Said, b"").is_ok();
+    Ok((
+        is_empty_whole,
+        write_all(&mut shelf, Out::Said, &long).is_ok(),
+    ))
+}
+
+// No call is made for an empty text, and one for a text that is taken at once, however long.
+#[test]
+fn each_write_offers_the_whole_rest(rt: HostRuntime) -> Result<(), Fail> {
+    assert_eq!(rt; are_whole(rt.alloc(), 1)?, (true, false), "the first call");
+    assert_eq!(rt;
+        are_whole(rt.alloc(), 2)?,
+        (true, true),
+        "there is no second"
+    );
+    Ok(())
+}
+
 // A text of two pieces, over a shelf that never fails and over real files.
 #[test]
 fn a_long_text_is_read_and_written(rt: HostRuntime) -> Result<(), Fail> {
@@ -137,5 +162,62 @@ fn a_long_text_is_read_and_written(rt: HostRuntime) -> Result<(), Fail> {
         written.as_slice() == long.as_slice(),
         "the whole text stands there"
     );
+    Ok(())
+}
+
+/// Whether the report can be created under this path where the model is read.
+fn is_created_beside<R: Files + Print + Drop>(rt: R, model: &str, report: &str) -> bool {
+    let mut shelf = HostShelf::new(rt);
+    shelf.open(model).is_ok() && shelf.create(Out::Report, report).is_ok()
+}
+
+/// Whether the two files can be created under these paths.
+fn are_created<R: Files + Print + Drop>(rt: R, report: &str, ifc: &str) -> bool {
+    let mut shelf = HostShelf::new(rt);
+    shelf.create(Out::Report, report).is_ok() && shelf.create(Out::Ifc, ifc).is_ok()
+}
+
+// What is in use is not emptied, whatever name it is asked for by.
+#[test]
+fn a_file_in_use_stands(rt: HostRuntime) -> Result<(), Fail> {
+    fs::write(&rt, "model.ifc", b"ISO")?;
+    fs::write(&rt, "report.json", b"before")?;
+    rt.hard_link("model.ifc", "link.json")?;
+    for (report, want, why) in [
+        ("./model.ifc", false, "the model by another path"),
+        ("link.json", false, "the model by another name"),
+        ("report.json", true, "a file that is in no use"),
+        ("/dev/null", true, "a device"),
+    ] {
+        assert_eq!(rt;
+            is_created_beside(rt.clone()?, "model.ifc", report),
+            want,
+            "{why}"
+        );
+    }
+    assert!(rt; are_created(rt.clone()?, "a.json", "a.ifc"), "two files");
+    assert!(rt; !are_created(rt.clone()?, "a.json", "./a.json"), "one file");
+    let model = fs::read(&rt, "model.ifc")?;
+    assert!(rt; model.as_slice() == b"ISO".as_slice(), "the model stands");
+    let report = fs::read(&rt, "report.json")?;
+    assert!(rt; report.is_empty(), "the other file was emptied");
+    Ok(())
+}
+
+// An error of the system is a fault, in reading and in writing.
+#[test]
+fn an_error_of_the_system_is_a_fault(rt: HostRuntime) -> Result<(), Fail> {
+    fs::create_dir(&rt, "model.ifc")?;
+    let mut host = HostShelf::new(rt.clone()?);
+    assert_eq!(rt; read_word(rt.alloc(), &mut host, b""), "fault", "a folder");
+    assert!(rt;
+        is_written(rt.clone()?, "/dev/full", b""),
+        "nothing to write"
+    );
+    assert!(rt;
+        !is_written(rt.clone()?, "/dev/full", b"{}"),
+        "a full device"
+    );
+    assert!(rt; !is_written(rt.clone()?, "model.ifc", b"{}"), "a folder");
     Ok(())
 }

@@ -1,8 +1,8 @@
-ghost use Rattle.std.specs.Prelude.{◌≡◌, ◌<◌, ◌≤◌, ◌↔◌, [], length, vec_len};
+ghost use Rattle.std.specs.Prelude.{◌≡◌, ◌<◌, ◌≤◌, ◌↔◌, [], ◌∷◌, length, vec_len};
 ghost use Rattle.std.specs.Prelude.{IfOk, IfErr, OnOk, IsErrOf};
 ghost use Rattle.std.specs.Bool.{OnTrue, OnFalse};
 ghost use Rattle.std.specs.Option.{ForSome};
-ghost use Rattle.sb_shelf.specs.World.{OnlyReads, Rose};
+ghost use Rattle.sb_shelf.specs.World.{OnlyReads, Rose, also_asked};
 ghost use Rattle.sb_shelf.specs.WholeTexts.{IsUndisturbed, longest_input, taken_and_left};
 
 use crate::shelf::Shelf;
@@ -36,9 +36,12 @@ pub enum ReadError {
 /// - `Err(TooLong)`: exactly where more than [`LONGEST_INPUT`] bytes were taken without a fault.
 /// - `Err(NoMemory)`: there was no memory for the bytes or for the piece that they come in.
 ///
-/// In each case the outputs are as they were, and so are the other counts.
+/// In each case the outputs are as they were, and so are the other counts. The path was opened once,
+/// and no other.
 pub fn read_all<S: Shelf>(alloc: Global, shelf: &mut S, path: &str) -> Result<Vec<u8>, ReadError>
     ensures keeps { OnlyReads (S.state shelf.old) (S.state shelf.new) }
+    ensures asked { (S.state shelf.new).asked_inputs
+        ≡ also_asked (S.state shelf.old).asked_inputs (path.now ∷ []) }
     ensures bytes { IfOk result (λ bytes. ForSome ((S.state shelf.old).under path.now)
         (λ told. bytes.items ≡ told)) }
     ensures within { IfOk result (λ bytes. vec_len bytes ≤ longest_input) }
@@ -74,6 +77,7 @@ fn take_more<S: Shelf>(
     requires piece { 0 < length piece.old }
     requires within { vec_len bytes.old ≤ longest_input }
     ensures keeps { OnlyReads (S.state shelf.old) (S.state shelf.new) }
+    ensures asked { (S.state shelf.new).asked_inputs ≡ (S.state shelf.old).asked_inputs }
     ensures joined { OnOk result (taken_and_left bytes.new.items (S.state shelf.new)
         ≡ taken_and_left bytes.old.items (S.state shelf.old)) }
     ensures within { OnOk result (vec_len bytes.new ≤ longest_input) }

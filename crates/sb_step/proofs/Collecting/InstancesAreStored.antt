@@ -108,38 +108,38 @@ module _ (instances : List (ℕ × Record)) (n : ℕ) (r : Record) where
   numbers_more numbers are =
       ap (λ l. l ++ n ∷ []) are ∙ sym (map-append (λ i. i.0) instances ((n, r) ∷ []))
 
-  -- a first use is kept
-  pub stored_first : (old new : Instances) → AreStored instances old
-      → get nat_eq old.records n ≡ None → is_some (get nat_eq new.records n) ≡ true
-      → ((q : ℕ) → eqb n q ≡ false → get nat_eq new.records q ≡ get nat_eq old.records q)
-      → new.records.entries ≡ old.records.entries ++ (n, r) ∷ [] → new.doubled ≡ old.doubled
-      → Numbered old new
-      → AreStored (instances ++ (n, r) ∷ []) new
-  stored_first old new kept none there others entries doubled numbered = record {
-    numbers = numbered.numbers
-        ∙ numbers_more old.numbers.items kept.numbers;
-    greatest = subst (λ g. IsGreatest g (instances ++ (n, r) ∷ [])) (sym numbered.greatest)
-        (greatest_more old.greatest instances (n, r) kept.greatest);
-    known = known_more old new kept there others;
-    doubled = subst (λ d. IsDoubled d (instances ++ (n, r) ∷ [])) (sym doubled)
-        (first_use old.doubled (none_used old kept none) kept.doubled);
-    entries = λ apart. entries
-        ∙ ap (λ l. l ++ (n, r) ∷ []) (kept.entries (sym doubled ∙ apart));
-  }
+  -- the table before and after one instance more, whatever was used twice
+  module _ (old new : Instances) (kept : AreStored instances old)
+      (there : is_some (get nat_eq new.records n) ≡ true)
+      (others : (q : ℕ) → eqb n q ≡ false
+      → get nat_eq new.records q ≡ get nat_eq old.records q) (numbered : Numbered old new) where
+    stored_with : IsDoubled new.doubled (instances ++ (n, r) ∷ [])
+        → (new.doubled ≡ None → new.records.entries ≡ instances ++ (n, r) ∷ [])
+        → AreStored (instances ++ (n, r) ∷ []) new
+    stored_with doubled entries = record {
+      numbers = numbered.numbers ∙ numbers_more old.numbers.items kept.numbers;
+      greatest = subst (λ g. IsGreatest g (instances ++ (n, r) ∷ [])) (sym numbered.greatest)
+          (greatest_more old.greatest instances (n, r) kept.greatest);
+      known = known_more old new kept there others;
+      doubled = doubled;
+      entries = entries;
+    }
 
-  -- a further use is noted
-  pub stored_further : (old new : Instances) (x : Record) → AreStored instances old
-      → get nat_eq old.records n ≡ Some x → is_some (get nat_eq new.records n) ≡ true
-      → ((q : ℕ) → eqb n q ≡ false → get nat_eq new.records q ≡ get nat_eq old.records q)
-      → new.doubled ≡ Some (least_of old.doubled n) → Numbered old new
-      → AreStored (instances ++ (n, r) ∷ []) new
-  stored_further old new x kept found there others doubled numbered = record {
-    numbers = numbered.numbers
-        ∙ numbers_more old.numbers.items kept.numbers;
-    greatest = subst (λ g. IsGreatest g (instances ++ (n, r) ∷ [])) (sym numbered.greatest)
-        (greatest_more old.greatest instances (n, r) kept.greatest);
-    known = known_more old new kept there others;
-    doubled = subst (λ d. IsDoubled d (instances ++ (n, r) ∷ [])) (sym doubled)
-        (further_use old.doubled (one_used old x kept found) kept.doubled);
-    entries = λ apart. absurd (none-some _ (sym apart ∙ doubled));
-  }
+    -- a first use is kept
+    pub stored_first : get nat_eq old.records n ≡ None
+        → new.records.entries ≡ old.records.entries ++ (n, r) ∷ [] → new.doubled ≡ old.doubled
+        → AreStored (instances ++ (n, r) ∷ []) new
+    stored_first none entries doubled =
+        stored_with
+        (subst (λ d. IsDoubled d (instances ++ (n, r) ∷ [])) (sym doubled)
+        (first_use old.doubled (none_used old kept none) kept.doubled))
+        (λ apart. entries ∙ ap (λ l. l ++ (n, r) ∷ []) (kept.entries (sym doubled ∙ apart)))
+
+    -- a further use is noted
+    pub stored_further : (x : Record) → get nat_eq old.records n ≡ Some x
+        → new.doubled ≡ Some (least_of old.doubled n) → AreStored (instances ++ (n, r) ∷ []) new
+    stored_further x found doubled =
+        stored_with
+        (subst (λ d. IsDoubled d (instances ++ (n, r) ∷ [])) (sym doubled)
+        (further_use old.doubled (one_used old x kept found) kept.doubled))
+        (λ apart. absurd (none-some _ (sym apart ∙ doubled)))

@@ -22,7 +22,7 @@ use Rattle.sb_step.specs.Records.Schema.{is_schema, IsString, OneString, HasOneS
 use Rattle.sb_step.specs.Records.SchemaReading.{only_of, first_of, behind_first, opens, closes, both_open, both_close, inside_of, inside, text_in}
 use Rattle.sb_step.specs.Faults.{IsFile}
 use Rattle.sb_step.proofs.Records.OnlyOnePasses.{passes_among, only_of-says}
-use Rattle.sb_step.proofs.KindsSay.{open_says, close_says, choice}
+use Rattle.sb_step.proofs.KindsSay.{mark_says, choice}
 use Rattle.sb_step.proofs.Records.RecordsStand.{entity_stands, tokens_behind, reads_on}
 
 -- between two apostrophes
@@ -70,12 +70,12 @@ module _ (input : List ℕ) where
   opens_one : (tokens : List Token) → opens (first_of tokens) ≡ true
       → One (IsMark mark.Open) (lexemes input tokens) (lexemes input (behind_first tokens))
   opens_one [] e = absurd (false≢true e)
-  opens_one (t ∷ later) e = (open_says t.kind e, refl)
+  opens_one (t ∷ later) e = (mark_says mark.Open t.kind e, refl)
 
   closes_one : (tokens : List Token) → closes (first_of tokens) ≡ true
       → One (IsMark mark.Close) (lexemes input tokens) (lexemes input (behind_first tokens))
   closes_one [] e = absurd (false≢true e)
-  closes_one (t ∷ later) e = (close_says t.kind e, refl)
+  closes_one (t ∷ later) e = (mark_says mark.Close t.kind e, refl)
 
   string_one : (text : List ℕ) (tokens : List Token) → AreSome tokens
       → inside input (first_of tokens) ≡ Some text
@@ -245,6 +245,7 @@ module _ (indexed : Indexed) (is : IsFile indexed.input indexed.file) (r : Recor
       let one = subst (λ e. HasOneString indexed.input e text) same h.string in
       stands_as_found one.before one.from one.rest one.are one.stands
 
+  -- a text is found exactly where it is the schema
   pub found_exactly : (found ≡ Some text) ↔ IsSchema indexed text
   found_exactly = (found_is_schema, schema_is_found)
 

@@ -33,18 +33,23 @@ stops_at xs x ran is none = record {
 
 -- lexemes
 
+-- a parenthesis that opens
 abbrev pub opening : Lexeme
 opening = mark_of mark.Open
 
+-- one that closes
 abbrev pub closing : Lexeme
 closing = mark_of mark.Close
 
+-- a semicolon
 abbrev pub semicolon : Lexeme
 semicolon = mark_of mark.Semicolon
 
+-- a value, `$`
 abbrev pub value : Lexeme
 value = mark_of mark.Dollar
 
+-- a keyword, `A`
 abbrev pub keyword : Lexeme
 keyword = keyword_of (codes "A")
 
@@ -133,6 +138,7 @@ one_typed = stops_at in_typed (mark_of mark.Comma) _ refl refl
 
 -- the greatest number
 
+-- a record with nothing in it
 abbrev pub at_start : Record
 at_start = record { start = 0; end = 0; form = form.Complex }
 
@@ -160,6 +166,7 @@ none_is_zero n is = is
 abbrev pub ifc4 : Lexeme
 ifc4 = lexeme_of kind.Str (codes "'IFC4'")
 
+-- a record that begins at the first byte
 abbrev pub begins_here : Record
 begins_here = record { start = 0; end = 0; form = form.Simple 0 }
 

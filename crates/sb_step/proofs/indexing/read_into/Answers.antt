@@ -1,11 +1,20 @@
-use Rattle.std.proofs.Common.{◌≡◌, Ok, Err, Some, None, sym, ap, ◌∙◌, subst}
-use Rattle.sb_lex.specs.Tokens.{IsTokenAnswer, IsNext, moved}
+use Rattle.std.proofs.Common.{◌≡◌, ℕ, List, Option, Ok, Err, Some, None, sym, ap, ◌∙◌, subst}
+use Rattle.sb_lex.specs.declared.kinds.Token.{Token}
+use Rattle.sb_lex.specs.Tokens.{IsTokenAnswer, IsNext, Reading, moved}
 use Rattle.sb_step.specs.IndexAnswers.{IsAnswer}
 use Rattle.sb_step.specs.Index.Turns.{start}
 use Rattle.sb_step.specs.Index.Machines.{state_of}
 use Rattle.sb_step.specs.Index.Progress.{Progress, finished}
 use Rattle.sb_step.proofs.Collecting.ReadingGoesOn.{nothing_read, one_more, fault_at_bad, answer_at_end, numbers_at_end, error_answers}
 use Rattle.sb_step.proofs.indexing.read_into.Goals as goal
+
+-- the token that was answered is the next one of the input
+next_is : (input : List ℕ) (at : Reading) (answer : Option Token) (t : Token)
+    → answer ≡ Some t → at.input ≡ input → IsTokenAnswer at (Ok answer)
+    → IsNext input at.place t
+next_is input at answer t is same answered =
+    subst (λ i. IsNext i at.place t) same
+    (subst (λ o. IsTokenAnswer at (Ok o)) is answered)
 
 pub tokens-init : goal.tokens-init
 tokens-init c = record {
@@ -23,10 +32,8 @@ tokens-preserved c =
     let input = c.args.bytes.now in
     let place = c.tokens.lexer.place in
     let invariant = c.tokens.invariant in
-    let next : IsNext input place c.in-Ok-Some.token =
-    subst (λ i. IsNext i place c.in-Ok-Some.token) invariant.input_is
-    (subst (λ o. IsTokenAnswer c.tokens.lexer (Ok o)) c.in-Ok-Some.field-0-is
-    c.in-Ok-Some.ensures.answer) in
+    let next = next_is input c.tokens.lexer _ c.in-Ok-Some.token c.in-Ok-Some.field-0-is
+    invariant.input_is c.in-Ok-Some.ensures.answer in
     let behind : c.next.new.self ≡ moved c.tokens.lexer (Ok (Some c.in-Ok-Some.token)) =
     subst (λ o. c.next.new.self ≡ moved c.tokens.lexer (Ok o)) c.in-Ok-Some.field-0-is
     c.in-Ok-Some.ensures.moved in
@@ -45,10 +52,8 @@ returns-in-Err-accept c =
     let input = c.args.bytes.now in
     let place = c.tokens.lexer.place in
     let invariant = c.tokens.invariant in
-    let next : IsNext input place c.in-Ok-Some.token =
-    subst (λ i. IsNext i place c.in-Ok-Some.token) invariant.input_is
-    (subst (λ o. IsTokenAnswer c.tokens.lexer (Ok o)) c.in-Ok-Some.field-0-is
-    c.in-Ok-Some.ensures.answer) in
+    let next = next_is input c.tokens.lexer _ c.in-Ok-Some.token c.in-Ok-Some.field-0-is
+    invariant.input_is c.in-Ok-Some.ensures.answer in
     error_answers c.tokens_are_one_list.ensures.exist_from input place c.in-Ok-Some.token
     (state_of c.tokens.machine)
     (state_of c.accept.new.machine) c.tokens.collected c.accept.new.collected

@@ -25,9 +25,9 @@ returns-then-is_some c = λ instances kept.
       numbers = c.push.new.self;
       greatest = c.greater-self.result;
       doubled = Some c.least.result;
-    }) known.0 kept (sym e.old ∙ known.1) (ap is_some e.updates.1) (λ q apart. e.updates.2 q apart)
-    (ap Some c.least.ensures)
-    (record { numbers = c.in_ok-push.ensures.items; greatest = c.greater-self.ensures })
+    }) kept (ap is_some e.updates.1) (λ q apart. e.updates.2 q apart)
+    (record { numbers = c.in_ok-push.ensures.items; greatest = c.greater-self.ensures }) known.0
+    (sym e.old ∙ known.1) (ap Some c.least.ensures)
 
 pub returns-else-is_some : goal.returns-else-is_some
 returns-else-is_some c = λ instances kept.
@@ -40,7 +40,7 @@ returns-else-is_some c = λ instances kept.
       numbers = c.push.new.self;
       greatest = c.greater-self.result;
       doubled = c.args.self.now.doubled;
-    }) kept none
-    (ap is_some e.updates.1) (λ q apart. e.updates.2 q apart)
+    }) kept (ap is_some e.updates.1) (λ q apart. e.updates.2 q apart)
+    (record { numbers = c.in_ok-push.ensures.items; greatest = c.greater-self.ensures }) none
     (e.entries ∙ insert_entry-new nat_eq c.args.self.now.records c.args.number c.args.body none)
-    refl (record { numbers = c.in_ok-push.ensures.items; greatest = c.greater-self.ensures })
+    refl

@@ -50,11 +50,13 @@ unfolding cross
 first_slab =
     record { begins = inl refl; end_in = omega (arith, ints); wide = omega (arith, ints) }
 
+-- the second begins where the first ends
 pub second_slab : IsSlab sheet (number 1) (number 2)
 unfolding cross
 second_slab =
     record { begins = inr (inl refl); end_in = omega (arith, ints); wide = omega (arith, ints) }
 
+-- and the third where the second ends
 pub third_slab : IsSlab sheet (number 2) (number 3)
 unfolding cross
 third_slab =

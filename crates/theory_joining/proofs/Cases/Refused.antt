@@ -9,12 +9,12 @@ use Rattle.theory_plane.specs.Points.{FacePoint, IsFacePoint, face_point, abscis
 use Rattle.theory_plane.specs.Regions.{is_inside, is_seam}
 use Rattle.theory_patches.specs.Marked.{MarkedPatch}
 use Rattle.theory_patches.specs.Sheets.{IsNoAbscissa, IsOffCuts, IsMarkedAt}
-use Rattle.theory_patches.proofs.Spaced.{IsOver}
+use Rattle.theory_patches.specs.Trimmed.{IsOver}
 use Rattle.theory_joining.specs.Runs.{AreApartInside, AreRunsOver}
 use Rattle.theory_joining.specs.Joined.{IsJoinedUpTo}
 use Rattle.theory_joining.specs.Slabs.{SlabRuns, all_runs, join}
 use Rattle.theory_joining.specs.Laws.{TellsEqual}
-use Rattle.theory_joining.proofs.Examples.{number, sheet, block, three}
+use Rattle.theory_joining.proofs.Cases.Examples.{number, sheet, block, three}
 
 clash : {b : Bool} → b ≡ false → b ≡ true → ⊥
 clash none both = cc
