@@ -1,12 +1,12 @@
 -- The label at a depth of a ray does not depend on how the depth is written.
 
-use Rattle.std.proofs.Common.{◌≡◌, ap, ap₂, sym, ◌∙◌, arith, ℤ, pos, ◌+ℤ◌, ◌-ℤ◌, ◌*ℤ◌, ◌<ℤ◌}
+use Rattle.std.proofs.Common.{◌≡◌, ap, ap₂, sym, ◌∙◌, arith, ℤ, pos, ◌+ℤ◌, ◌*ℤ◌, ◌<ℤ◌}
 use Rattle.std.proofs.lemmas.Int.{ints}
-use Rattle.theory_numbers.specs.Arrows.{Arrow, cross}
+use Rattle.theory_numbers.specs.Arrows.{Arrow}
 use Rattle.theory_numbers.specs.Rationals.{IsRational, IsSame}
 use Rattle.theory_numbers.proofs.Products.{positive_product}
 use Rattle.theory_numbers.proofs.Ring.{mul_comm, mul-add}
-use Rattle.theory_numbers.proofs.Shapes.{var, plus, times, equal, cross_eq}
+use Rattle.theory_numbers.proofs.Shapes.{var, times, equal, cross_eq}
 use Rattle.theory_cuttings.specs.Cuttings.{IsAlike}
 use Rattle.sb_fraction.specs.Spots.{Spot, IsSpot, Vector, inner, along}
 use Rattle.theory_plans.specs.Alike.{AreAlike}
