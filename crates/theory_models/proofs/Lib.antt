@@ -6,6 +6,7 @@ pub mod EdgesOfProducts
 pub mod AbscissaeListed
 -- points
 pub mod LabelsAlike
+pub mod RaysAlike
 -- rays
 pub mod PassagesOfRays
 -- patches and lists

@@ -11,16 +11,16 @@ use Rattle.theory_lists.specs.Parity.{differ}
 use Rattle.theory_numbers.proofs.Products.{positive_product}
 use Rattle.theory_numbers.proofs.Signs.{test_not_less}
 use Rattle.sb_fraction.specs.declared.point.Point.{Point}
-use Rattle.sb_fraction.specs.Spots.{Spot, spot}
+use Rattle.sb_fraction.specs.Spots.{Spot, spot, spot_at}
 use Rattle.sb_fraction.specs.Edges.{Edge, edge, turn_at, reach_at, is_on}
 use Rattle.theory_plans.specs.Rays.{is_struck}
-use Rattle.theory_plans.specs.Plans.{at_point, is_same_point, do_touch, is_parted, are_apart}
+use Rattle.theory_plans.specs.Plans.{is_same_point, do_touch, is_parted, are_apart}
 use Rattle.theory_plans.specs.Plans.{is_consecutive, is_solid_left_of, keep_left, middle_of, right_of}
 use Rattle.theory_plans.proofs.RaysToTheRight.{left_is_not_struck, start_on_line, end_on_line}
 
 -- the corner p lies left of the way from a to b
 abbrev pub IsLeft : Point → Point → Point → Type 0
-IsLeft a b p = pos 0 <ℤ turn_at (edge a b) (at_point p)
+IsLeft a b p = pos 0 <ℤ turn_at (edge a b) (spot_at p)
 
 -- each two corners of a quadrilateral lie left of the edge between the two others
 pub record IsConvex (a b c d : Point) : Type 0 where
@@ -41,21 +41,21 @@ same_self p =
     ((Decides-int_eq p.y p.y).1 refl)
 
 -- a point on the line of an edge is none beside it
-apart_by : (e : Edge) (p q : Point) → turn_at e (at_point p) ≡ pos 0
-    → pos 0 <ℤ turn_at e (at_point q) → is_same_point p q ≡ false
+apart_by : (e : Edge) (p q : Point) → turn_at e (spot_at p) ≡ pos 0
+    → pos 0 <ℤ turn_at e (spot_at q) → is_same_point p q ≡ false
 apart_by e p q on beside = false_from_ne_true (is_same_point p q) (λ same.
     let parts = and_parts (int_eq p.x q.x) (int_eq p.y q.y) same in
-    let moved : turn_at e (at_point p) ≡ turn_at e (at_point q) =
+    let moved : turn_at e (spot_at p) ≡ turn_at e (spot_at q) =
     ap₂ (λ x y. turn_at e (spot x y (pos 0) (pos 1)))
     ((Decides-int_eq p.x q.x).0 parts.0) ((Decides-int_eq p.y q.y).0 parts.1) in
     omega (arith, ints))
 
 -- nor is a point beside it one on the line
-apart_from : (e : Edge) (p q : Point) → turn_at e (at_point q) ≡ pos 0
-    → pos 0 <ℤ turn_at e (at_point p) → is_same_point p q ≡ false
+apart_from : (e : Edge) (p q : Point) → turn_at e (spot_at q) ≡ pos 0
+    → pos 0 <ℤ turn_at e (spot_at p) → is_same_point p q ≡ false
 apart_from e p q on beside = false_from_ne_true (is_same_point p q) (λ same.
     let parts = and_parts (int_eq p.x q.x) (int_eq p.y q.y) same in
-    let moved : turn_at e (at_point p) ≡ turn_at e (at_point q) =
+    let moved : turn_at e (spot_at p) ≡ turn_at e (spot_at q) =
     ap₂ (λ x y. turn_at e (spot x y (pos 0) (pos 1)))
     ((Decides-int_eq p.x q.x).0 parts.0) ((Decides-int_eq p.y q.y).0 parts.1) in
     omega (arith, ints))
@@ -74,16 +74,16 @@ no_touch p q r s t u ep eq er es et = rw (ep, eq, er, es, et) refl
 
 -- each of the two has the ends of the other on its left
 pub beside_do_not_touch : (e f : Edge)
-    → pos 0 <ℤ turn_at f (at_point e.a) → pos 0 <ℤ turn_at f (at_point e.b)
-    → pos 0 <ℤ turn_at e (at_point f.a) → pos 0 <ℤ turn_at e (at_point f.b)
+    → pos 0 <ℤ turn_at f (spot_at e.a) → pos 0 <ℤ turn_at f (spot_at e.b)
+    → pos 0 <ℤ turn_at e (spot_at f.a) → pos 0 <ℤ turn_at e (spot_at f.b)
     → do_touch e f ≡ false
 beside_do_not_touch e f ea eb fa fb =
-    let product = positive_product (turn_at e (at_point f.a)) (turn_at e (at_point f.b)) fa fb in
-    no_touch (is_on (at_point e.a) f) (is_on (at_point e.b) f) (is_on (at_point f.a) e)
-    (is_on (at_point f.b) e) (is_parted e f) (is_parted f e)
-    (beside_is_not_on f (at_point e.a) ea) (beside_is_not_on f (at_point e.b) eb)
-    (beside_is_not_on e (at_point f.a) fa) (beside_is_not_on e (at_point f.b) fb)
-    (test_not_less (turn_at e (at_point f.a) *ℤ turn_at e (at_point f.b)) (pos 0)
+    let product = positive_product (turn_at e (spot_at f.a)) (turn_at e (spot_at f.b)) fa fb in
+    no_touch (is_on (spot_at e.a) f) (is_on (spot_at e.b) f) (is_on (spot_at f.a) e)
+    (is_on (spot_at f.b) e) (is_parted e f) (is_parted f e)
+    (beside_is_not_on f (spot_at e.a) ea) (beside_is_not_on f (spot_at e.b) eb)
+    (beside_is_not_on e (spot_at f.a) fa) (beside_is_not_on e (spot_at f.b) fb)
+    (test_not_less (turn_at e (spot_at f.a) *ℤ turn_at e (spot_at f.b)) (pos 0)
     (omega (arith, ints)))
 
 -- ---- the quadrilateral
@@ -151,10 +151,10 @@ convex_is_apart a b c d convex =
 
 -- the corners of four edges do not lie right of an edge
 record AreLeft (e : Edge) (a b c d : Point) : Type 0 where
-  at_a : pos 0 ≤ℤ turn_at e (at_point a)
-  at_b : pos 0 ≤ℤ turn_at e (at_point b)
-  at_c : pos 0 ≤ℤ turn_at e (at_point c)
-  at_d : pos 0 ≤ℤ turn_at e (at_point d)
+  at_a : pos 0 ≤ℤ turn_at e (spot_at a)
+  at_b : pos 0 ≤ℤ turn_at e (spot_at b)
+  at_c : pos 0 ≤ℤ turn_at e (spot_at c)
+  at_d : pos 0 ≤ℤ turn_at e (spot_at d)
 
 solid_is_left : (e : Edge) (a b c d : Point) → AreLeft e a b c d
     → is_solid_left_of e (edge a b ∷ edge b c ∷ edge c d ∷ edge d a ∷ []) ≡ true

@@ -9,7 +9,7 @@ use Rattle.std.proofs.lemmas.Bool.Decides.{Decides-int_eq}
 use Rattle.theory_numbers.proofs.Shapes.{var, num, minus, times, equal}
 use Rattle.sb_fraction.specs.declared.point.Point.{Point}
 use Rattle.sb_fraction.specs.Plane.{is_plan_point}
-use Rattle.sb_fraction.specs.Edges.{Edge, edge}
+use Rattle.sb_fraction.specs.Edges.{Edge, edge, is_in_range, has_length}
 use Rattle.theory_plans.specs.LoopEdges.{edges_back, edges_of_loop, edges_of}
 use Rattle.theory_plans.specs.Loops.{bend, is_bent, are_bent, is_bent_loop, is_loop, are_loops}
 use Rattle.theory_plans.specs.Loops.{is_least_first}
@@ -17,8 +17,7 @@ use Rattle.theory_plans.specs.Plans.{is_same_point, are_apart, keep_left, is_pla
 
 -- the edge runs between two points in range that differ
 abbrev pub is_proper_edge : Edge → Bool
-is_proper_edge e =
-    is_plan_point e.a && is_plan_point e.b && not (is_same_point e.a e.b)
+is_proper_edge e = is_in_range e && has_length e
 
 -- ---- ways that are bent go from one point to another
 

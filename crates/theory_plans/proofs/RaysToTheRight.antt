@@ -14,10 +14,10 @@ use Rattle.theory_numbers.proofs.Signs.{test_not_less, less_from, not_less_from}
 use Rattle.theory_numbers.proofs.Ring.{mul_comm}
 use Rattle.theory_numbers.proofs.ThreeTerms.{frame_cross, frame_dot}
 use Rattle.sb_fraction.specs.declared.point.Point.{Point}
-use Rattle.sb_fraction.specs.Spots.{Spot}
+use Rattle.sb_fraction.specs.Spots.{Spot, spot_at}
 use Rattle.sb_fraction.specs.Edges.{Edge, seen_from, turn_at}
 use Rattle.theory_plans.specs.Rays.{is_struck}
-use Rattle.theory_plans.specs.Plans.{at_point, middle_of, right_of}
+use Rattle.theory_plans.specs.Plans.{middle_of, right_of}
 
 -- a vector that has another on its left is not 0
 long_where_left : (r b : Arrow) → pos 0 <ℤ cross r b → pos 0 <ℤ dot r r
@@ -80,40 +80,40 @@ behind_is_not_struck r p e behind_a behind_b =
 
 -- what lies on the left of an edge lies behind the ray to its right
 pub left_is_behind : (e : Edge) (p : Point)
-    → dot (right_of e) (seen_from (middle_of e) p) ≡ neg_ℤ (pos 2 *ℤ turn_at e (at_point p))
+    → dot (right_of e) (seen_from (middle_of e) p) ≡ neg_ℤ (pos 2 *ℤ turn_at e (spot_at p))
 left_is_behind e p =
     equal
     (dot_by (right_of e) (seen_from (middle_of e) p)
     (minus (var e.b.y) (var e.a.y)) (negated (minus (var e.b.x) (var e.a.x)))
     (minus (times (var p.x) (num 2)) (plus (var e.a.x) (var e.b.x)))
     (minus (times (var p.y) (num 2)) (plus (var e.a.y) (var e.b.y))))
-    (negated (times (num 2) (cross_by (seen_from (at_point p) e.a) (seen_from (at_point p) e.b)
+    (negated (times (num 2) (cross_by (seen_from (spot_at p) e.a) (seen_from (spot_at p) e.b)
     (minus (times (var e.a.x) (num 1)) (var p.x)) (minus (times (var e.a.y) (num 1)) (var p.y))
     (minus (times (var e.b.x) (num 1)) (var p.x)) (minus (times (var e.b.y) (num 1)) (var p.y)))))
     (omega arith)
 
 -- so the ray strikes no edge with both its ends on the left or on the line
-pub left_is_not_struck : (e f : Edge) → pos 0 ≤ℤ turn_at e (at_point f.a)
-    → pos 0 ≤ℤ turn_at e (at_point f.b) → is_struck (right_of e) (middle_of e) f ≡ false
+pub left_is_not_struck : (e f : Edge) → pos 0 ≤ℤ turn_at e (spot_at f.a)
+    → pos 0 ≤ℤ turn_at e (spot_at f.b) → is_struck (right_of e) (middle_of e) f ≡ false
 left_is_not_struck e f left_a left_b =
     let a = left_is_behind e f.a in
     let b = left_is_behind e f.b in
     behind_is_not_struck (right_of e) (middle_of e) f (omega (arith, ints)) (omega (arith, ints))
 
 -- an end of an edge lies on its line
-pub start_on_line : (e : Edge) → turn_at e (at_point e.a) ≡ pos 0
+pub start_on_line : (e : Edge) → turn_at e (spot_at e.a) ≡ pos 0
 start_on_line e =
     equal
-    (cross_by (seen_from (at_point e.a) e.a) (seen_from (at_point e.a) e.b)
+    (cross_by (seen_from (spot_at e.a) e.a) (seen_from (spot_at e.a) e.b)
     (minus (times (var e.a.x) (num 1)) (var e.a.x)) (minus (times (var e.a.y) (num 1)) (var e.a.y))
     (minus (times (var e.b.x) (num 1)) (var e.a.x)) (minus (times (var e.b.y) (num 1)) (var e.a.y)))
     (num 0) (omega arith)
 
 -- the other one too
-pub end_on_line : (e : Edge) → turn_at e (at_point e.b) ≡ pos 0
+pub end_on_line : (e : Edge) → turn_at e (spot_at e.b) ≡ pos 0
 end_on_line e =
     equal
-    (cross_by (seen_from (at_point e.b) e.a) (seen_from (at_point e.b) e.b)
+    (cross_by (seen_from (spot_at e.b) e.a) (seen_from (spot_at e.b) e.b)
     (minus (times (var e.a.x) (num 1)) (var e.b.x)) (minus (times (var e.a.y) (num 1)) (var e.b.y))
     (minus (times (var e.b.x) (num 1)) (var e.b.x)) (minus (times (var e.b.y) (num 1)) (var e.b.y)))
     (num 0) (omega arith)

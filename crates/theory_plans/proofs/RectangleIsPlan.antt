@@ -8,6 +8,7 @@ use Rattle.std.proofs.lemmas.Bool.{and_from, and_parts, or_right, false≢true, 
 use Rattle.std.proofs.lemmas.Bool.Decides.{Decides-int_eq}
 use Rattle.std.proofs.Math.IntN.{zero-*ℤ, *ℤ_comm}
 use Rattle.sb_fraction.specs.declared.point.Point.{Point}
+use Rattle.sb_fraction.specs.Spots.{spot_at}
 use Rattle.theory_numbers.proofs.Products.{positive_product, negative_product, product_of_negatives}
 use Rattle.theory_numbers.proofs.Signs.{less_from, test_less}
 use Rattle.theory_plans.specs.Loops.{is_rectangle, are_corners, are_loops, is_bent, comes_before}
@@ -15,7 +16,7 @@ use Rattle.sb_fraction.specs.Plane.{is_plan_point, is_coordinate}
 use Rattle.sb_fraction.specs.Edges.{edge, seen_from, turn_at}
 use Rattle.theory_numbers.proofs.Shapes.{var, num, minus, times, equal, cross_by}
 use Rattle.theory_plans.specs.Rectangles.{corner, rectangle}
-use Rattle.theory_plans.specs.Plans.{at_point, are_apart, keep_left, is_plan}
+use Rattle.theory_plans.specs.Plans.{are_apart, keep_left, is_plan}
 use Rattle.theory_plans.proofs.ConvexIsPlan.{IsLeft, IsConvex, convex_is_apart, convex_keeps_left}
 
 -- a number that is not 0 is told apart from it
@@ -139,11 +140,11 @@ rectangle_is_loop _ is = absurd (false≢true is)
 
 -- how far a point lies left of an edge along x
 beside_level : (a b p : Point) → b.y ≡ a.y
-    → turn_at (edge a b) (at_point p) ≡ (b.x -ℤ a.x) *ℤ (p.y -ℤ a.y)
+    → turn_at (edge a b) (spot_at p) ≡ (b.x -ℤ a.x) *ℤ (p.y -ℤ a.y)
 beside_level a b p level =
-    ap (λ y. turn_at (edge a (corner b.x y)) (at_point p)) level
+    ap (λ y. turn_at (edge a (corner b.x y)) (spot_at p)) level
     ∙ equal
-    (cross_by (seen_from (at_point p) a) (seen_from (at_point p) (corner b.x a.y))
+    (cross_by (seen_from (spot_at p) a) (seen_from (spot_at p) (corner b.x a.y))
     (minus (times (var a.x) (num 1)) (var p.x)) (minus (times (var a.y) (num 1)) (var p.y))
     (minus (times (var b.x) (num 1)) (var p.x)) (minus (times (var a.y) (num 1)) (var p.y)))
     (times (minus (var b.x) (var a.x)) (minus (var p.y) (var a.y)))
@@ -151,11 +152,11 @@ beside_level a b p level =
 
 -- and of one along y
 beside_upright : (a b p : Point) → b.x ≡ a.x
-    → turn_at (edge a b) (at_point p) ≡ (b.y -ℤ a.y) *ℤ (a.x -ℤ p.x)
+    → turn_at (edge a b) (spot_at p) ≡ (b.y -ℤ a.y) *ℤ (a.x -ℤ p.x)
 beside_upright a b p upright =
-    ap (λ x. turn_at (edge a (corner x b.y)) (at_point p)) upright
+    ap (λ x. turn_at (edge a (corner x b.y)) (spot_at p)) upright
     ∙ equal
-    (cross_by (seen_from (at_point p) a) (seen_from (at_point p) (corner a.x b.y))
+    (cross_by (seen_from (spot_at p) a) (seen_from (spot_at p) (corner a.x b.y))
     (minus (times (var a.x) (num 1)) (var p.x)) (minus (times (var a.y) (num 1)) (var p.y))
     (minus (times (var a.x) (num 1)) (var p.x)) (minus (times (var b.y) (num 1)) (var p.y)))
     (times (minus (var b.y) (var a.y)) (minus (var a.x) (var p.x)))

@@ -7,7 +7,7 @@ use Rattle.std.specs.List.{list_all}
 use Rattle.theory_lists.specs.Parity.{is_odd_number}
 use Rattle.theory_numbers.specs.Arrows.{Arrow, arrow}
 use Rattle.sb_fraction.specs.declared.point.Point.{Point}
-use Rattle.sb_fraction.specs.Spots.{Spot, spot}
+use Rattle.sb_fraction.specs.Spots.{Spot, spot, spot_at}
 use Rattle.sb_fraction.specs.Edges.{Edge, span_of, turn_at, is_on}
 use Rattle.theory_plans.specs.LoopEdges.{edges_of}
 use Rattle.theory_plans.specs.Loops.{are_loops}
@@ -15,23 +15,19 @@ use Rattle.theory_plans.specs.Rays.{is_struck}
 
 -- ---- the edges are apart
 
--- a plan point as a point
-abbrev pub at_point : Point → Spot
-at_point a = spot a.x a.y (pos 0) (pos 1)
-
 -- two plan points are one
 abbrev pub is_same_point : Point → Point → Bool
 is_same_point a b = int_eq a.x b.x && int_eq a.y b.y
 
 -- the ends of f lie on different sides of the line of e, neither on it
 abbrev pub is_parted : Edge → Edge → Bool
-is_parted e f = int_lt (turn_at e (at_point f.a) *ℤ turn_at e (at_point f.b)) (pos 0)
+is_parted e f = int_lt (turn_at e (spot_at f.a) *ℤ turn_at e (spot_at f.b)) (pos 0)
 
 -- two edges touch: an end of one lies on the other, or the line of each parts the ends of the other
 abbrev pub do_touch : Edge → Edge → Bool
 do_touch e f =
-    is_on (at_point e.a) f || (is_on (at_point e.b) f || (is_on (at_point f.a) e
-    || (is_on (at_point f.b) e || (is_parted e f && is_parted f e))))
+    is_on (spot_at e.a) f || (is_on (spot_at e.b) f || (is_on (spot_at f.a) e
+    || (is_on (spot_at f.b) e || (is_parted e f && is_parted f e))))
 
 -- one of the two begins where the other ends
 abbrev pub is_consecutive : Edge → Edge → Bool

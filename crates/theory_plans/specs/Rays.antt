@@ -6,13 +6,14 @@ use Rattle.sb_fraction.specs.declared.point.Point.{Point}
 use Rattle.sb_fraction.specs.Spots.{Spot}
 use Rattle.sb_fraction.specs.Edges.{Edge, seen_from, turn_at}
 
--- the plan point lies left of the ray from p along r, or of the line on which the ray runs
+-- the plan point lies left of the line on which the ray from p along r runs
 abbrev pub is_left_of : Arrow → Spot → Point → Bool
 is_left_of r p a = int_lt (pos 0) (cross r (seen_from p a))
 
--- the ray from p along r strikes the edge: exactly one of its ends lies left of the ray, and p lies
--- on the side from which the ray comes. That is so where p lies left of an edge that goes over to
--- the left of the ray, or right of one that comes from there. A point on the edge strikes it never
+-- the ray from p along r strikes the edge: exactly one of its ends lies left of the line of the ray,
+-- and the edge meets this line ahead of p. That is so where p lies left of an edge that goes over to
+-- the left side, or right of one that comes from there. A ray never strikes an edge on which it
+-- begins
 abbrev pub is_struck : Arrow → Spot → Edge → Bool
 is_struck r p e =
     if is_left_of r p e.b

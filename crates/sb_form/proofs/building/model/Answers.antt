@@ -10,8 +10,6 @@ new-requires-clause-in_range c =
       c.new-spaces.ensures,
       c.in_ok-space.ensures,
       c.new-elements.ensures,
-      c.new-openings.ensures,
-      c.new-fillings.ensures,
     )
     (form_is_in_range c.args.form.now c.args.extent.now c.requires.short)
 
