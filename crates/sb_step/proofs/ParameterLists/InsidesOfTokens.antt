@@ -1,6 +1,6 @@
 -- What the inside of a string, an enumeration or a binary says is what its token says.
 use Rattle.std.proofs.Common.{◌≡◌, ℕ, ◌≤◌, List, [], ◌∷◌, ◌++◌, length, refl, sym, ap, ◌∙◌, subst, length-append, arith}
-use Rattle.std.specs.Prelude.{codes, slice_range}
+use Rattle.std.specs.Prelude.{slice_range}
 use Rattle.sb_lex.specs.Bytes as byte
 use Rattle.sb_lex.specs.declared.kinds.Token.{Token}
 use Rattle.sb_lex.specs.declared.kinds.Kind.{Kind}
