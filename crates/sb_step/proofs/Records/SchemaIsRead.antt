@@ -19,9 +19,9 @@ use Rattle.sb_step.specs.Rules.{One, ◌⋅◌}
 use Rattle.sb_step.specs.Grammar.{File}
 use Rattle.sb_step.specs.Indexed.{Indexed}
 use Rattle.sb_step.specs.Records.Schema.{is_schema, IsString, OneString, HasOneString, IsSchema, HasNoSchema}
-use Rattle.sb_step.specs.Records.SchemaReading.{only_of, first_of, behind_first, opens, closes, both_open, both_close, inside_of, inside, text_in}
+use Rattle.sb_step.specs.Records.SchemaReading.{first_of, behind_first, opens, closes, both_open, both_close, inside_of, inside, text_in}
 use Rattle.sb_step.specs.Faults.{IsFile}
-use Rattle.sb_step.proofs.Records.OnlyOnePasses.{passes_among, only_of-says}
+use Rattle.sb_step.proofs.Records.OnlyOnePasses.{passes_among}
 use Rattle.sb_step.proofs.KindsSay.{mark_says, choice}
 use Rattle.sb_step.proofs.Records.RecordsStand.{entity_stands, tokens_behind, reads_on}
 
@@ -178,14 +178,6 @@ module _ (input : List ℕ) where
       ap (λ b. cond b (inside input (first_of string)) None) passed ∙ string_is.0
 
 -- the schema
-
--- the one that is found is the only one
-pub only_found : (input : List ℕ) (header entities : List Record) (found : Option Record)
-    (r : Record) → found ≡ only_of (filter (is_schema input) entities) → found ≡ Some r
-    → entities ≡ header → filter (is_schema input) header ≡ r ∷ []
-only_found input header entities found r is was same =
-    subst (λ l. filter (is_schema input) l ≡ r ∷ []) same
-    (only_of-says (filter (is_schema input) entities) r (sym is ∙ was))
 
 -- the keyword of the only one ends in the input
 pub entity_reads_on : (input : List ℕ) (file : File) → IsFile input file → (r : Record) (end : ℕ)

@@ -1,12 +1,11 @@
 use Rattle.std.proofs.Common.{◌≡◌, ℕ, List, Option, Ok, Err, Some, None, sym, ap, ◌∙◌, subst}
 use Rattle.sb_lex.specs.declared.kinds.Token.{Token}
 use Rattle.sb_lex.specs.Tokens.{IsTokenAnswer, IsNext, Reading, moved}
-use Rattle.sb_step.specs.IndexAnswers.{IsAnswer}
 use Rattle.sb_step.specs.Index.Turns.{start}
 use Rattle.sb_step.specs.Index.Machines.{state_of}
-use Rattle.sb_step.specs.Index.Progress.{Progress, finished}
-use Rattle.sb_step.proofs.Collecting.ReadingGoesOn.{nothing_read, one_more, fault_at_bad, answer_at_end, numbers_at_end, error_answers}
-use Rattle.sb_step.proofs.indexing.read_into.Goals as goal
+use Rattle.sb_step.specs.Index.Progress.{Progress, IsRead}
+use Rattle.sb_step.proofs.Collecting.ReadingGoesOn.{nothing_read, one_more, fault_at_bad, read_at_end, error_answers}
+use Rattle.sb_step.proofs.indexing.read.Goals as goal
 
 -- the token that was answered is the next one of the input
 next_is : (input : List ℕ) (at : Reading) (answer : Option Token) (t : Token)
@@ -20,11 +19,11 @@ pub tokens-init : goal.tokens-init
 tokens-init c = record {
   input_is = ap (λ r. r.input) c.new-lexer.ensures;
   progress = subst
-      (λ s. Progress c.args.bytes.now c.new-lexer.result.place s c.args.empty)
+      (λ s. Progress c.args.bytes.now c.new-lexer.result.place s c.new-collected.result)
       (sym c.new-machine.ensures)
-      (subst (λ k. Progress c.args.bytes.now k start c.args.empty)
+      (subst (λ k. Progress c.args.bytes.now k start c.new-collected.result)
       (sym (ap (λ r. r.place) c.new-lexer.ensures))
-      (nothing_read c.args.bytes.now c.args.empty c.requires));
+      (nothing_read c.args.bytes.now c.new-collected.result (c.new-collected.ensures c.args.bytes.now)));
 }
 
 pub tokens-preserved : goal.tokens-preserved
@@ -59,12 +58,8 @@ returns-in-Err-accept c =
     (state_of c.accept.new.machine) c.tokens.collected c.accept.new.collected
     c.in-Err-accept.error invariant.progress next c.in-Err-accept.ensures
 
-pub finish-requires-clause-numbers : goal.finish-requires-clause-numbers
-finish-requires-clause-numbers c = numbers_at_end c.args.bytes.now c.tokens.lexer.place
-    (state_of c.tokens.machine) c.tokens.collected c.tokens.invariant.progress
-
-pub finish-requires-clause-answer : goal.finish-requires-clause-answer
-finish-requires-clause-answer c =
+pub finish-requires : goal.finish-requires
+finish-requires c =
     let input = c.args.bytes.now in
     let place = c.tokens.lexer.place in
     let invariant = c.tokens.invariant in
@@ -72,8 +67,8 @@ finish-requires-clause-answer c =
     invariant.input_is
     (subst (λ o. IsTokenAnswer c.tokens.lexer (Ok o)) c.in-Ok-None.field-0-is
     c.in-Ok-None.ensures.answer) in
-    subst (λ e. IsAnswer input (finished input e c.tokens.collected)) (sym c.end.ensures)
-    (answer_at_end input place (state_of c.tokens.machine) c.tokens.collected
+    subst (λ e. IsRead input e c.tokens.collected) (sym c.end.ensures)
+    (read_at_end input place (state_of c.tokens.machine) c.tokens.collected
     invariant.progress ends)
 
 pub returns-in-Err : goal.returns-in-Err
