@@ -12,6 +12,7 @@ pub mod PointsAlike
 -- which loops are plans
 pub mod RaysToTheRight
 pub mod ConvexIsPlan
+pub mod TouchingEdges
 -- rectangles
 pub mod RectangleIsPlan
 pub mod InsideRectangle
