@@ -13,6 +13,7 @@ pub record Completed (input : List ℕ) (counted : ℕ) (rest : List Token) (fau
   pub are : AreTokens input tokens fault
   pub number : length tokens ≡ counted + length rest
 
+-- so many tokens stand before the place
 pub record SoFar (input : List ℕ) (counted place : ℕ) : Type 0 where
   pub completes : (rest : List Token) (fault : Option BadToken) → AreTokensFrom input place rest
       fault → Completed input counted rest fault

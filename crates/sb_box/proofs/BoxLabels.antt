@@ -11,11 +11,12 @@ use Rattle.sb_model.specs.declared.products.Space.{Space}
 use Rattle.sb_fraction.specs.Spots.{Spot}
 use Rattle.theory_plans.specs.Inside.{is_in_plan}
 use Rattle.sb_model.specs.Solids.{is_in_solid}
+use Rattle.theory_models.proofs.SpacesByFields.{same_space}
 use Rattle.sb_model.specs.Building.{Building, building}
 use Rattle.sb_model.specs.Labels.{label_at, open_label}
 use Rattle.theory_plans.specs.Rectangles.{rectangle}
 use Rattle.sb_box.specs.declared.extent.Extent.{Extent}
-use Rattle.sb_box.specs.BoxModel.{prism_of, IsBoxModel}
+use Rattle.sb_box.specs.BoxModel.{prism_of, prism_is_solid, IsBoxModel}
 
 -- what a model of a box has beside the box
 pub record Besides : Type 0 where
@@ -30,8 +31,8 @@ box_space k n e = record {
   number = n;
   global_id = k.global_id;
   prism = prism_of e;
-  frame =
-      k.frame;
+  frame = k.frame;
+  is_solid = prism_is_solid e;
 }
 
 -- and the model
@@ -59,8 +60,7 @@ is_box_model n e m is =
   where
     whole : (s : Space) → s.number ≡ n → s.prism ≡ prism_of e → s ≡ box_space (besides_of m s) n e
     whole s number_is prism_is =
-        ap (λ number. record s { number = number }) number_is
-        ∙ ap (λ prism. record (box_space (besides_of m s) n e) { prism = prism }) prism_is
+        same_space s (box_space (besides_of m s) n e) number_is refl prism_is refl
 
 -- a point outside the box has the label of the open
 pub label_outside : (k : Besides) (n : ℕ) (e : Extent) (q : Spot)

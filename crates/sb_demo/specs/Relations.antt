@@ -1,4 +1,4 @@
--- What stands behind the boxes: a window for each opening, and what the walls and slabs are made of.
+-- What stands behind the boxes: a window for each opening, and what walls and slabs are made of.
 use Rattle.std.specs.Prelude.{ℕ, ◌+◌, List, [], ◌∷◌, codes, map}
 use Rattle.std.specs.List.{concat, range_with_len}
 use Rattle.sb_texts.specs.Numerals.{reference, references}

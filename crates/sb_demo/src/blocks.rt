@@ -3,7 +3,8 @@ ghost use Rattle.std.specs.Prelude.{◌≡◌, ◌≤◌, ◌<◌, ◌+◌, ◌+
 ghost use Rattle.std.specs.List.{range_with_len};
 ghost use Rattle.sb_demo.specs.Numbering.{most_rooms};
 ghost use Rattle.sb_demo.specs.Blocks.{blocks, middle, row_length, room_middle};
-ghost use Rattle.sb_demo.specs.Blocks.{lower_slab, upper_slab, near_wall, far_wall, cross_wall, room, opening};
+ghost use Rattle.sb_demo.specs.Blocks.{lower_slab, upper_slab, near_wall, far_wall};
+ghost use Rattle.sb_demo.specs.Blocks.{cross_wall, room, opening};
 
 use sb_list::Listed;
 use std::alloc::{AllocError, Global};

@@ -5,6 +5,7 @@ mod FormHasOneReading
 mod Examples
 mod Passing
 mod NearIsInRange
+mod FormsAreInRange
 mod TokensAtTheFront
 mod NumbersAreReals
 mod RisingNumbersAreApart

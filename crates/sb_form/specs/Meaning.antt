@@ -2,16 +2,14 @@
 use Rattle.std.specs.Prelude.{◌≡◌, ◌+ℤ◌, ◌-ℤ◌, ◌*◌, ◌*ℤ◌, ◌/◌, ◌%◌, ◌==◌, ℕ, ℤ, pos, Bool, ◌&&◌, List}
 use Rattle.std.specs.Prelude.{[], ◌∷◌, codes, int_lt, nat_le, unsigned_abs, Option, Some, None}
 use Rattle.std.specs.Prelude.{if◌then◌else◌}
-use Rattle.sb_fraction.specs.declared.point.Point.{Point}
 use Rattle.sb_fraction.specs.declared.unit.Unit.TheVariants.{Millimetre}
 use Rattle.sb_model.specs.Building.{Building, building}
 use Rattle.sb_fraction.specs.Plane.{greatest_coordinate}
-use Rattle.sb_model.specs.Solids.{upright}
 use Rattle.sb_fraction.specs.Spots.{vector}
 use Rattle.sb_model.specs.Turns.{Quarter}
 use Rattle.sb_model.specs.declared.frame.Frame.{Frame}
 use Rattle.sb_model.specs.declared.products.Space.{Space}
-use Rattle.theory_plans.specs.Rectangles.{rectangle}
+use Rattle.sb_box.specs.BoxModel.{prism_of, prism_is_solid}
 use Rattle.sb_box.specs.declared.extent.Extent.{Extent}
 use Rattle.sb_form.specs.declared.matcher.FirstForm.{FirstForm}
 use Rattle.sb_form.specs.declared.meaning.Defect.{Defect}
@@ -70,12 +68,6 @@ pub record IsExtentOf (f : FirstForm) (e : Extent) : Type 0 where
   pub z0 : e.z0 ≡ f.z
   pub z1 : e.z1 ≡ f.z +ℤ f.height
 
--- the corners of the box in plan
-abbrev pub plan_of : FirstForm → List Point
-plan_of f =
-    rectangle (f.x -ℤ half f.size_x) (f.x +ℤ half f.size_x)
-    (f.y -ℤ half f.size_y) (f.y +ℤ half f.size_y)
-
 -- no turn
 abbrev pub unturned : Quarter
 unturned = record { x = vector (pos 1) (pos 0) (pos 0); z = vector (pos 0) (pos 0) (pos 1) }
@@ -93,19 +85,20 @@ abbrev pub frame_of : FirstForm → Frame
 frame_of f =
     record { turn = unturned; shift = nanometres f.x ∷ nanometres f.y ∷ nanometres f.z ∷ [] }
 
--- the one space
-abbrev pub space_of : FirstForm → Space
-space_of f = record {
+-- the one space: the box, in the frame of the form
+abbrev pub space_of : FirstForm → Extent → Space
+space_of f e = record {
   number = space_number;
   global_id = codes "0000000000000000000020";
-  prism = upright (plan_of f ∷ []) f.z (f.z +ℤ f.height);
+  prism = prism_of e;
   frame = frame_of f;
+  is_solid = prism_is_solid e;
 }
 
 -- the reach of walks, in millimetres
 abbrev pub reach_of_walks : ℕ
 reach_of_walks = 1000
 
--- the model: the one space in millimetres, and the ground at height 0
-abbrev pub model_of : FirstForm → Building
-model_of f = building Millimetre (pos 0) reach_of_walks (space_of f ∷ []) [] [] []
+-- the model of a form with this box: the one space in millimetres, and the ground at height 0
+abbrev pub model_of : FirstForm → Extent → Building
+model_of f e = building Millimetre (pos 0) reach_of_walks (space_of f e ∷ []) [] [] []

@@ -25,7 +25,7 @@ const REACH: u32 = 1_000;
 pub fn model(alloc: Global, form: &FirstForm, extent: &Extent) -> Result<Model, AllocError>
     requires short { AreShort form.now }
     requires extent { IsExtentOf form.now extent.now }
-    ensures { IfOk result (λ model. model ≡ model_of form.now) }
+    ensures { IfOk result (λ model. model ≡ model_of form.now extent.now) }
 {
     let mut spaces = Spaces::new(alloc);
     spaces.push(space(alloc, form, extent)?)?;
@@ -52,7 +52,7 @@ pub fn model(alloc: Global, form: &FirstForm, extent: &Extent) -> Result<Model, 
 fn space(alloc: Global, form: &FirstForm, extent: &Extent) -> Result<Space, AllocError>
     requires short { AreShort form.now }
     requires extent { IsExtentOf form.now extent.now }
-    ensures { IfOk result (λ space. space ≡ space_of form.now) }
+    ensures { IfOk result (λ space. space ≡ space_of form.now extent.now) }
 {
     let global_id = Text::of(alloc, b"0000000000000000000020")?;
     let loops = plan(alloc, extent)?;

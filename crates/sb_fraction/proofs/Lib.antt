@@ -1,4 +1,14 @@
 -- The laws that the calls cite.
 mod ReducedInBounds
+mod Passing
+mod ProductsFit
+mod CoordinatesFit
+mod PointsByShares
+mod CommonPointHasShares
+mod MeetingIsCommon
+mod MeetingInRange
+mod ShortVectors
+mod SidesOfPoints
+mod FractionsInOrder
 -- and what the ranges are
 mod Examples

@@ -4,4 +4,8 @@ pub mod Spots
 pub mod Edges
 pub mod Crossings
 pub mod Directions
+pub mod Numbers
 pub mod Bounds
+pub mod Meetings
+pub mod Lines
+pub mod Steps

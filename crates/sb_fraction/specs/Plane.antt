@@ -3,6 +3,7 @@
 use Rattle.std.specs.Prelude.{ℕ, ℤ, pos, Bool, not, ◌&&◌, ◌||◌, int_lt, nat_le, unsigned_abs}
 use Rattle.std.specs.Ordering.{int_eq}
 use Rattle.theory_numbers.specs.Divisors.{are_coprime}
+use Rattle.theory_numbers.specs.Arrows.{Arrow}
 use Rattle.sb_fraction.specs.declared.point.Point.{Point}
 
 -- the greatest size of a world coordinate, in millimetres
@@ -24,6 +25,10 @@ are_two_points ax ay bx by = not (int_eq ax bx && int_eq ay by)
 -- the greatest size of a number of a direction
 abbrev pub longest_step : ℕ
 longest_step = 1000000
+
+-- both numbers of a vector are at most 10^6 in size
+abbrev pub is_short : Arrow → Bool
+is_short a = nat_le (unsigned_abs a.x) longest_step && nat_le (unsigned_abs a.y) longest_step
 
 -- the first number is positive, or the direction is (0, 1)
 abbrev pub is_forward : ℤ → ℤ → Bool

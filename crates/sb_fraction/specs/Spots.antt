@@ -1,6 +1,8 @@
 -- Points and vectors in space, and the points of a ray.
 
 use Rattle.std.specs.Prelude.{ℤ, pos, neg_ℤ, ◌+ℤ◌, ◌*ℤ◌, ◌<ℤ◌}
+use Rattle.sb_fraction.specs.declared.point.Point.{Point}
+use Rattle.sb_fraction.specs.declared.point.HPoint.{HPoint}
 use Rattle.theory_numbers.specs.Arrows.{Arrow}
 use Rattle.theory_numbers.specs.Rationals.{rational}
 
@@ -34,6 +36,14 @@ IsSpot p = pos 0 <ℤ p.w
 
 abbrev pub spot : ℤ → ℤ → ℤ → ℤ → Spot
 spot x y z w = record { x = x; y = y; z = z; w = w }
+
+-- a plan point, at height 0
+abbrev pub spot_at : Point → Spot
+spot_at p = spot p.x p.y (pos 0) (pos 1)
+
+-- a homogeneous point of the plan, at height 0
+abbrev pub spot_of : HPoint → Spot
+spot_of p = spot p.x p.y (pos 0) p.w
 
 -- the inner product of a point and a vector, w times
 abbrev pub times_w : Spot → Vector → ℤ

@@ -7,6 +7,7 @@ ghost use Rattle.theory_numbers.specs.Divisors.{greatest_divisor};
 ghost use Rattle.sb_fraction.specs.Bounds.{is_fraction, greatest_num};
 ghost use Rattle.theory_numbers.specs.Fractions.{reduced, divided as quotient};
 ghost use Rattle.sb_fraction.specs.Bounds.{greatest_den};
+ghost use Rattle.sb_fraction.specs.Numbers.{ratio};
 
 use std::marker::Model;
 
@@ -36,7 +37,6 @@ impl Model for Fraction {
 
 impl Fraction {
     /// The number `num/den` in lowest terms.
-    #[tactic(auto, using(crate::proofs::ReducedInBounds::lowest), unfolding(theory_numbers::specs::Fractions::reduced))]
     pub fn new(num: i128, den: i128) -> Fraction
         requires positive { pos 0 <ℤ den }
         requires num_size { unsigned_abs num ≤ greatest_num }
@@ -45,12 +45,8 @@ impl Fraction {
         ensures same_number { result.num *ℤ den ≡ num *ℤ result.den }
         ensures in_lowest_terms { IsTrue (is_fraction result) }
     {
-        let size = num.unsigned_abs();
-        let common = common_divisor(size, den.unsigned_abs());
-        Fraction {
-            num: divided(num, common),
-            den: divided(den, common),
-        }
+        let (num, den) = reduce(num, den);
+        Fraction { num, den }
     }
 
     /// The numerator, which has the sign of the number.
@@ -69,6 +65,21 @@ impl Fraction {
     {
         self.den
     }
+}
+
+/// Numerator and denominator of the number `num/den` in lowest terms.
+#[tactic(auto, using(crate::proofs::ReducedInBounds::lowest), unfolding(theory_numbers::specs::Fractions::reduced))]
+pub fn reduce(num: i128, den: i128) -> (i128, i128)
+    requires positive { pos 0 <ℤ den }
+    requires num_size { unsigned_abs num ≤ greatest_num }
+    requires den_size { unsigned_abs den ≤ greatest_den }
+    ensures value { ratio result.0 result.1 ≡ reduced num den }
+    ensures same_number { result.0 *ℤ den ≡ num *ℤ result.1 }
+    ensures in_lowest_terms { IsTrue (is_fraction (ratio result.0 result.1)) }
+{
+    let size = num.unsigned_abs();
+    let common = common_divisor(size, den.unsigned_abs());
+    (divided(num, common), divided(den, common))
 }
 
 /// The greatest common divisor of two numbers, by Euclid's remainders.

@@ -7,10 +7,20 @@
 
 mod direction;
 mod fraction;
+mod meeting;
+mod order;
 mod point;
+mod products;
+mod side;
+mod span;
+mod steps;
 mod unit;
 
 pub use direction::{Direction, Line};
-pub use fraction::Fraction;
+pub use fraction::{Fraction, reduce};
+pub use meeting::meet;
+pub use order::compare;
 pub use point::{HPoint, Point, Segment};
+pub use side::orient;
+pub use steps::Steps;
 pub use unit::Unit;

@@ -1,6 +1,6 @@
 -- Single inputs: the tokens that the definition has there, and places where it has none. Each is
 -- found by computing what is at the front.
-use Rattle.std.proofs.Common.{◌≡◌, ◌≢◌, ℕ, List, [], ◌∷◌, Some, None, refl, inl, arith}
+use Rattle.std.proofs.Common.{◌≡◌, ◌≢◌, ℕ, List, [], ◌∷◌, Some, None, refl, ap, map, inl, arith}
 use Rattle.std.specs.Prelude.{codes}
 use Rattle.std.specs.List.{AllByRecursion}
 use Rattle.sb_lex.specs.declared.kinds.Kind.{Kind}
@@ -12,8 +12,17 @@ use Rattle.theory_lists.proofs.Members.{all_follow}
 use Rattle.theory_bytes.specs.Sets.{Begins}
 use Rattle.sb_lex.specs.Kinds.{BlankPiece}
 use Rattle.sb_lex.specs.Tokens.{IsCandidate, IsToken}
-use Rattle.sb_lex.specs.Scanning.{scan, scan_letters, scan_exclamation, scan_name, scan_unsigned, scan_enclosed, exponent_len, comment_len, piece_len}
+use Rattle.sb_lex.specs.Scanning.{Scanned, scan, scan_letters, scan_exclamation, scan_name, scan_unsigned, scan_enclosed, exponent_len, comment_len, piece_len}
 use Rattle.sb_lex.proofs.OneAnswer.{token_of, found_token, no_token_found, no_blank_found}
+
+-- two functions with the same values on a list have them item by item
+all_from_maps : {X Y : Type 0} (f g : X → Y) (xs : List X) → map f xs ≡ map g xs
+    → AllByRecursion (λ x. f x ≡ g x) xs
+all_from_maps f g [] same = tt
+all_from_maps f g (x ∷ xs) same =
+    let first : f x ≡ g x = cc in
+    let later : map f xs ≡ map g xs = cc in
+    (first, all_from_maps f g xs later)
 
 -- a text with the kind and the length of the token at its front
 abbrev Row : Type 0
@@ -63,62 +72,21 @@ rows =
     (39 ∷ 10 ∷ 128 ∷ 255 ∷ 39 ∷ [], kind.Str, 5) ∷
     []
 
-found : AllByRecursion (λ row. scan row.0 ≡ Some (row.1, row.2)) rows
+-- each is found by computing
+found : map (λ row. scan row.0) rows ≡ map (λ row. Some (row.1, row.2)) rows
 unfolding rows scan_letters scan_exclamation scan_name scan_unsigned exponent_len scan_enclosed
-found = (
-  refl,
-  (
-    refl,
-    (
-      refl,
-      (
-        refl,
-        (
-          refl,
-          (
-            refl,
-            (
-              refl,
-              (
-                refl,
-                (
-                  refl,
-                  (
-                    refl,
-                    (
-                      refl,
-                      (
-                        refl,
-                        (
-                          refl,
-                          (refl, (refl, (refl, (refl, (refl, tt))))),
-                        ),
-                      ),
-                    ),
-                  ),
-                ),
-              ),
-            ),
-          ),
-        ),
-      ),
-    ),
-  ),
-)
+found = refl
 
 -- each has its token
 tokens_at_the_front : AllByRecursion HasToken rows
 tokens_at_the_front =
-    all_follow (λ row is. found_token row.0 0 (row.1, row.2) (omega arith) is) rows found
+    all_follow (λ row is. found_token row.0 0 (row.1, row.2) (omega arith) is) rows
+    (all_from_maps (λ row. scan row.0) (λ row. Some (row.1, row.2)) rows found)
 
 -- nothing begins at the front of a text
 record IsBad (text : List ℕ) : Type 0 where
   no_token : (t : Token) → IsCandidate text t → t.start ≢ 0
   no_blank : Begins BlankPiece text → ⊥
-
--- nothing is found at the front
-abbrev FindsNothing : List ℕ → Type 0
-FindsNothing text = (scan text ≡ None) × (piece_len text ≡ 0)
 
 bad_texts : List (List ℕ)
 bad_texts =
@@ -154,51 +122,28 @@ bad_texts =
     (255 ∷ []) ∷
     []
 
-nothing_found : AllByRecursion FindsNothing bad_texts
-unfolding bad_texts comment_len scan_letters scan_exclamation scan_name scan_unsigned exponent_len
+-- what is found at the front: a token, and so many bytes of a piece
+abbrev front : List ℕ → Scanned × ℕ
+front text = (scan text, piece_len text)
+
+abbrev nothing : List ℕ → Scanned × ℕ
+nothing text = (None, 0)
+
+-- no token and no piece is found there
+nothing_found : map front bad_texts ≡ map nothing bad_texts
+unfolding
+    bad_texts comment_len scan_letters scan_exclamation scan_name scan_unsigned exponent_len
     scan_enclosed
-nothing_found = (
-  (refl, refl),
-  (
-    (refl, refl),
-    (
-      (refl, refl),
-      (
-        (refl, refl),
-        (
-          (refl, refl),
-          (
-            (refl, refl),
-            (
-              (refl, refl),
-              (
-                (refl, refl),
-                (
-                  (refl, refl),
-                  (
-                    (refl, refl),
-                    (
-                      (refl, refl),
-                      ((refl, refl), ((refl, refl), ((refl, refl), ((refl, refl), tt)))),
-                    ),
-                  ),
-                ),
-              ),
-            ),
-          ),
-        ),
-      ),
-    ),
-  ),
-)
+nothing_found = refl
 
 -- at each of them nothing begins
 nothing_at_the_front : AllByRecursion IsBad bad_texts
 nothing_at_the_front =
-    all_follow (λ text nothing. record {
-      no_token = no_token_found text 0 nothing.0;
-      no_blank = no_blank_found text nothing.1;
-    }) bad_texts nothing_found
+    all_follow (λ text is. record {
+      no_token = no_token_found text 0 (ap (λ p. p.0) is);
+      no_blank = no_blank_found text (ap (λ p. p.1) is);
+    }) bad_texts
+    (all_from_maps front nothing bad_texts nothing_found)
 
 -- byte 11 is white space
 byte_11 : BlankPiece (11 ∷ [])

@@ -3,7 +3,7 @@
 use Rattle.std.specs.Prelude.{ℤ, Bool, ◌*ℤ◌, ◌&&◌, List, int_lt}
 use Rattle.sb_fraction.specs.declared.point.Point.{Point}
 use Rattle.sb_fraction.specs.Spots.{Spot}
-use Rattle.theory_plans.specs.Loops.{are_loops}
+use Rattle.theory_plans.specs.Plans.{is_plan}
 use Rattle.sb_fraction.specs.Plane.{is_coordinate}
 use Rattle.theory_plans.specs.Inside.{is_in_plan}
 
@@ -20,9 +20,9 @@ upright loops z0 z1 = record { loops = loops; z0 = z0; z1 = z1 }
 abbrev pub is_height : ℤ → Bool
 is_height z = is_coordinate z
 
--- normalised loops, and the lower height below the upper one
+-- what holds of every prism: its loops are a plan, and the lower height is below the upper one
 abbrev pub is_upright : Upright → Bool
-is_upright s = are_loops s.loops && int_lt s.z0 s.z1 && is_height s.z0 && is_height s.z1
+is_upright s = is_plan s.loops && int_lt s.z0 s.z1 && is_height s.z0 && is_height s.z1
 
 -- p lies strictly between two heights
 abbrev pub is_between_heights : ℤ → ℤ → Spot → Bool

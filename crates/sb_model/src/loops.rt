@@ -3,7 +3,8 @@
 ghost use Rattle.std.specs.Prelude.{◌≡◌, ◌<◌, ◌&&◌, length, slice_get, IfSome, IsTrue, Ok, Some};
 ghost use Rattle.std.specs.List.{list_all};
 ghost use Rattle.std.specs.Option.{option_map};
-ghost use Rattle.theory_plans.specs.Loops.{are_loops, is_rectangle};
+ghost use Rattle.theory_plans.specs.Loops.{is_rectangle};
+ghost use Rattle.theory_plans.specs.Plans.{is_plan};
 ghost use Rattle.sb_fraction.specs.Plane.{is_plan_point};
 ghost use Rattle.theory_plans.specs.LoopEdges.{edges_of, edges_of_loop, next_in_loop};
 ghost use Rattle.sb_fraction.specs.Edges.{edge};
@@ -20,8 +21,11 @@ pub type Points = Listed<Point>;
 /// Lists of plan points: the loops of a plan.
 pub type PointLists = Listed<Points>;
 
-/// Normalised loops: at least one, each of three points or more, no three neighbours on one line,
-/// all coordinates within 500,000 mm.
+/// The plan of a solid: normalised loops, of which two edges meet only where they are consecutive,
+/// with the solid on the left of every edge.
+///
+/// There is at least one loop; each has three points or more and begins at the least of them, by x
+/// and then by y; no three neighbours lie on one line; all coordinates are within 500,000 mm.
 #[derive(Drop)]
 pub struct Loops {
     points: PointLists,
@@ -30,13 +34,13 @@ pub struct Loops {
 impl Model for Loops {
     ghost use Rattle.std.specs.Prelude.{List, IsTrue};
     ghost use Rattle.sb_fraction.specs.declared.point.Point.{Point};
-    ghost use Rattle.theory_plans.specs.Loops.{are_loops};
+    ghost use Rattle.theory_plans.specs.Plans.{is_plan};
 
     ghost Value = { List (List Point) };
 
     ghost view = { λ l. l.points };
 
-    ghost invariant = { λ l. IsTrue (are_loops l.points) };
+    ghost invariant = { λ l. IsTrue (is_plan l.points) };
 }
 
 /// Why loops are no plan.
@@ -65,7 +69,7 @@ impl Loops {
     /// The normalised loops.
     pub fn points(&self) -> &PointLists
         ensures value { result.now ≡ self.now }
-        ensures are_loops { IsTrue (are_loops self.now) }
+        ensures is_plan { IsTrue (is_plan self.now) }
     {
         &self.points
     }

@@ -31,7 +31,8 @@ impl Prism {
         requires order { z0 <ℤ z1 }
         requires low_in_range { IsTrue (is_height z0) }
         requires high_in_range { IsTrue (is_height z1) }
-        ensures { result ≡ upright loops z0 z1 }
+        ensures value { result ≡ upright loops z0 z1 }
+        ensures is_solid { IsTrue (is_upright result) }
     {
         Prism { loops, z0, z1 }
     }

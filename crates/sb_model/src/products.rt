@@ -1,4 +1,7 @@
-//! The products of a model, each under its instance number.
+//! The products of a model, each under its instance number. The prism of each is a solid.
+
+ghost use Rattle.std.specs.Prelude.{IsTrue};
+ghost use Rattle.sb_model.specs.Solids.{is_upright};
 
 use crate::frame::Frame;
 use crate::layers::Layering;
@@ -14,6 +17,7 @@ pub struct Space {
     pub prism: Prism,
     /// From the space's own coordinates to the building's.
     pub frame: Frame,
+    pub ghost is_solid: { IsTrue (is_upright prism) },
 }
 
 /// The spaces of a model, by rising numbers.
@@ -25,6 +29,7 @@ pub struct Element {
     pub number: u32,
     pub prism: Prism,
     pub layering: Layering,
+    pub ghost is_solid: { IsTrue (is_upright prism) },
 }
 
 /// The elements of a model, by rising numbers.
@@ -37,6 +42,7 @@ pub struct Opening {
     /// The number of the element that it is an opening of.
     pub element: u32,
     pub prism: Prism,
+    pub ghost is_solid: { IsTrue (is_upright prism) },
 }
 
 /// The openings of a model, by rising numbers.

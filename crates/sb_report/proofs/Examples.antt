@@ -7,6 +7,7 @@ use Rattle.serde_json.specs.Written.{compact_text}
 use Rattle.serde_json.proofs.OnLiterals.{serde_json_on_literals}
 use Rattle.std.specs.Fmt.{digits}
 use lib.Utf8.{encode}
+use Rattle.theory_numbers.specs.Arrows.{cross, dot}
 use Rattle.theory_numbers.specs.Divisors.{divisor_within, greatest_divisor}
 use Rattle.theory_numbers.specs.Fractions.{Ratio, reduced}
 use Rattle.sb_fraction.specs.declared.direction.Direction.{Direction}
@@ -24,7 +25,7 @@ use Rattle.sb_model.specs.declared.walk.End.TheVariants as end
 use Rattle.sb_model.specs.Building.{Building, building}
 use Rattle.sb_model.specs.Corners.{corners_of, level_corner}
 use Rattle.sb_model.specs.Sides.{is_patch}
-use Rattle.sb_model.specs.Solids.{upright}
+use Rattle.sb_model.specs.Solids.{Upright, upright, is_upright}
 use Rattle.sb_fraction.specs.Spots.{vector}
 use Rattle.sb_report.specs.Strings.{fraction_text, material_text}
 use Rattle.sb_report.specs.Entries.{three, four, fraction_data, corners_data, item_data}
@@ -57,17 +58,25 @@ unfolding encode
 accent = refl
 
 -- the box [0, 4000], [0, 3000], [0, 2500] in millimetres
+box_prism : Upright
+box_prism = upright
+    ((point (pos 0) (pos 0) ∷ point (pos 4000) (pos 0) ∷ point (pos 4000) (pos 3000) ∷ point (pos 0) (pos 3000) ∷ []) ∷ [])
+    (pos 0) (pos 2500)
+
+box_is_solid : IsTrue (is_upright box_prism)
+unfolding point box_prism cross dot
+box_is_solid = refl
+
 space : Space
 space = record {
   number = 20;
   global_id = [];
-  prism = upright
-      ((point (pos 0) (pos 0) ∷ point (pos 4000) (pos 0) ∷ point (pos 4000) (pos 3000) ∷ point (pos 0) (pos 3000) ∷ []) ∷ [])
-      (pos 0) (pos 2500);
+  prism = box_prism;
   frame = record {
     turn = record { x = vector (pos 1) (pos 0) (pos 0); z = vector (pos 0) (pos 0) (pos 1) };
     shift = pos 0 ∷ pos 0 ∷ pos 0 ∷ [];
   };
+  is_solid = box_is_solid;
 }
 
 box : Building
@@ -118,13 +127,13 @@ corner_of_box x y =
 corners_of_bottom : (fact : IsBottom) → corners_data (corners_of box (bottom fact).patch)
     ≡ four (corner_of_box (pos 4000) (pos 3000)) (corner_of_box (pos 4000) (pos 0))
     (corner_of_box (pos 0) (pos 0)) (corner_of_box (pos 0) (pos 3000))
-unfolding ratio point space box east level_at whole_bottom bottom_with bottom corner_of_box divisor_within greatest_divisor reduced level_corner
+unfolding ratio point box_prism space box east level_at whole_bottom bottom_with bottom corner_of_box divisor_within greatest_divisor reduced level_corner
 corners_of_bottom fact = refl
 
 -- the first entry of the box
 entry_of_bottom : (fact : IsBottom) → compact_text (boundary_data box 1 (bottom fact))
     ≡ codes "{\"corners\":[[\"4000\",\"3000\",\"0\"],[\"4000\",\"0\",\"0\"],[\"0\",\"0\",\"0\"],[\"0\",\"3000\",\"0\"]],\"depth\":0,\"end\":\"earth\",\"face\":\"bottom\",\"id\":1,\"items\":[],\"key\":null,\"normal\":[0,0,-1],\"pair\":null,\"parent\":null,\"space\":20,\"target\":null,\"unit\":1}"
-unfolding serde_json_on_literals digits ratio point space box east level_at whole_bottom bottom_with bottom boundary_data divisor_within greatest_divisor reduced level_corner
+unfolding serde_json_on_literals digits ratio point box_prism space box east level_at whole_bottom bottom_with bottom boundary_data divisor_within greatest_divisor reduced level_corner
 entry_of_bottom fact = refl
 
 -- the report of a building without spaces
@@ -137,8 +146,9 @@ report_of_nothing = refl
 wall : Element
 wall = record {
   number = 30;
-  prism = upright [] (pos 0) (pos 2500);
+  prism = box_prism;
   layering = Single (67 ∷ 97 ∷ 102 ∷ 233 ∷ []);
+  is_solid = box_is_solid;
 }
 
 walled : Building
@@ -161,7 +171,7 @@ entry_of_unnamed = refl
 ties : (fact : IsBottom)
     → compact_text (boundary_data box 4 (bottom_with fact (Some 2) (Some 3) (Some 50)))
     ≡ codes "{\"corners\":[[\"4000\",\"3000\",\"0\"],[\"4000\",\"0\",\"0\"],[\"0\",\"0\",\"0\"],[\"0\",\"3000\",\"0\"]],\"depth\":0,\"end\":\"earth\",\"face\":\"bottom\",\"id\":4,\"items\":[],\"key\":50,\"normal\":[0,0,-1],\"pair\":2,\"parent\":3,\"space\":20,\"target\":null,\"unit\":1}"
-unfolding serde_json_on_literals digits ratio point space box east level_at whole_bottom bottom_with boundary_data divisor_within greatest_divisor reduced level_corner
+unfolding serde_json_on_literals digits ratio point box_prism space box east level_at whole_bottom bottom_with boundary_data divisor_within greatest_divisor reduced level_corner
 ties fact = refl
 
 -- a list that names what is there is accepted

@@ -165,13 +165,16 @@ pub report_stands : (ready : Ready) (result : Answer) (old new : World) (input :
     → IsFinished ready result old new → IsReady input ready → ReportStands input new result
 report_stands ready (Done list) old new input finished is = record {
   form = is.form;
+  extent = is.extent;
   sound = is.sound;
-  list_is = subst (IsListOf is.form) (sym finished.0) is.list_is;
+  list_is = subst (IsListOf is.form is.extent) (sym finished.0) is.list_is;
   written = λ bytes told.
-      finished.1 bytes told ∙ (is.report_is ∙ ap (report_of (model_of is.form)) (sym finished.0));
+      finished.1 bytes told
+      ∙ (is.report_is ∙ ap (report_of (model_of is.form is.extent)) (sym finished.0));
 }
 report_stands ready WriteFault old new input finished is = record {
   form = is.form;
+  extent = is.extent;
   sound = is.sound;
   list = ready.list;
   list_is = is.list_is;

@@ -16,7 +16,7 @@ use Rattle.sb_box.specs.BoxList.{BoxPatch, IsBoxBoundary, IsBoxList, box_patches
 use Rattle.sb_box.proofs.PatchesOfBoxFaces.{IsOpen, all_open, all_by_kind}
 use Rattle.sb_box.proofs.BoundariesArePatches.{all_lift}
 use Rattle.sb_box.proofs.BoxListIsSound.{rising_box}
-use Rattle.sb_form.specs.Meaning.{model_of, half, space_number, IsExtentOf}
+use Rattle.sb_form.specs.Meaning.{model_of, space_number}
 use Rattle.sb_form.specs.declared.matcher.FirstForm.{FirstForm}
 use Rattle.sb_report.specs.Conditions.{is_boundary_of, is_list_of, have_corners, is_end_of}
 
@@ -36,33 +36,33 @@ both_hold P Q (p ∷ ps) first second =
 -- ---- each boundary names what is the model's
 
 -- the face is one of the model
-abbrev IsThere : FirstForm → FaceKind → Type 0
-IsThere f k = has_face (space_numbered (model_of f) space_number) k ≡ true
+abbrev IsThere : FirstForm → Extent → FaceKind → Type 0
+IsThere f e k = has_face (space_numbered (model_of f e) space_number) k ≡ true
 
 faces_are_there : (f : FirstForm) (e : Extent)
-    → AllByRecursion (λ p. IsThere f p.kind) (box_patches e)
-faces_are_there f e = all_by_kind (IsThere f) e refl refl refl refl refl refl
+    → AllByRecursion (λ p. IsThere f e p.kind) (box_patches e)
+faces_are_there f e = all_by_kind (IsThere f e) e refl refl refl refl refl refl
 
 -- an end in the open needs nothing of the model
 open_end_is_there : (m : Building) (found : End) → IsOpen found → is_end_of m found ≡ true
 open_end_is_there m found = ⊎_elim (λ earth. rw earth refl) (λ outside. rw outside refl)
 
-boundary_is_there : (f : FirstForm) (count : ℕ) (p : BoxPatch) (b : Boundary)
-    → IsBoxBoundary space_number p b → IsThere f p.kind × IsOpen p.end
-    → is_boundary_of (model_of f) count b ≡ true
-boundary_is_there f count p b is there =
+boundary_is_there : (f : FirstForm) (e : Extent) (count : ℕ) (p : BoxPatch) (b : Boundary)
+    → IsBoxBoundary space_number p b → IsThere f e p.kind × IsOpen p.end
+    → is_boundary_of (model_of f e) count b ≡ true
+boundary_is_there f e count p b is there =
     rw (is.of_space, is.of_face, is.items, is.end, is.parent, is.key, is.pair)
-    (rw (there.0, open_end_is_there (model_of f) p.end there.1) refl)
+    (rw (there.0, open_end_is_there (model_of f e) p.end there.1) refl)
 
 -- the list of a box is one of its model
 pub box_list_is_of_model : (f : FirstForm) (e : Extent) (bs : List Boundary)
-    → IsBoxList space_number e bs → is_list_of (model_of f) bs ≡ true
+    → IsBoxList space_number e bs → is_list_of (model_of f e) bs ≡ true
 box_list_is_of_model f e bs is =
-    let test = is_boundary_of (model_of f) (length bs) in
+    let test = is_boundary_of (model_of f e) (length bs) in
     all_pass test bs
-    (all_lift space_number (λ p. IsThere f p.kind × IsOpen p.end) (λ b. test b ≡ true)
-    (boundary_is_there f (length bs)) (box_patches e) bs is
-    (both_hold (λ p. IsThere f p.kind) (λ p. IsOpen p.end) (box_patches e) (faces_are_there f e)
+    (all_lift space_number (λ p. IsThere f e p.kind × IsOpen p.end) (λ b. test b ≡ true)
+    (boundary_is_there f e (length bs)) (box_patches e) bs is
+    (both_hold (λ p. IsThere f e p.kind) (λ p. IsOpen p.end) (box_patches e) (faces_are_there f e)
     (all_open e)))
 
 -- ---- and its corners can be told
@@ -76,39 +76,31 @@ apart_down a b below = grind (arith, ints)
 same_number : (a : ℤ) → int_eq a a ≡ true
 same_number a = grind (arith, ints)
 
--- the box has a width and a depth
-record HasPlan (f : FirstForm) : Type 0 where
-  wide : (f.x -ℤ half f.size_x) <ℤ (f.x +ℤ half f.size_x)
-  deep : (f.y -ℤ half f.size_y) <ℤ (f.y +ℤ half f.size_y)
-
-extent_has_plan : (f : FirstForm) (e : Extent) → IsExtentOf f e → HasPlan f
-extent_has_plan f e is =
-    let rising = rising_box e in
-    record { wide = rw (is.x0, is.x1) at rising.x; deep = rw (is.y0, is.y1) at rising.y }
-
 -- the face is Bottom or Top, or over an edge along x or y
-abbrev IsStraight : FirstForm → FaceKind → Type 0
-IsStraight f k = is_straight_face (space_numbered (model_of f) space_number) k ≡ true
+abbrev IsStraight : FirstForm → Extent → FaceKind → Type 0
+IsStraight f e k = is_straight_face (space_numbered (model_of f e) space_number) k ≡ true
 
-faces_are_straight : (f : FirstForm) → HasPlan f → (e : Extent)
-    → AllByRecursion (λ p. IsStraight f p.kind) (box_patches e)
-faces_are_straight f plan e =
-    all_by_kind (IsStraight f) e refl refl
-    (rw (apart_up _ _ plan.wide, same_number (f.y -ℤ half f.size_y)) refl)
-    (rw (apart_up _ _ plan.deep, same_number (f.x +ℤ half f.size_x)) refl)
-    (rw (apart_down _ _ plan.wide, same_number (f.y +ℤ half f.size_y)) refl)
-    (rw (apart_down _ _ plan.deep, same_number (f.x -ℤ half f.size_x)) refl)
+faces_are_straight : (f : FirstForm) (e : Extent)
+    → AllByRecursion (λ p. IsStraight f e p.kind) (box_patches e)
+faces_are_straight f e =
+    let rising = rising_box e in
+    all_by_kind (IsStraight f e) e refl refl
+    (rw (apart_up _ _ rising.x, same_number e.y0) refl)
+    (rw (apart_up _ _ rising.y, same_number e.x1) refl)
+    (rw (apart_down _ _ rising.x, same_number e.y1) refl)
+    (rw (apart_down _ _ rising.y, same_number e.x0) refl)
 
-boundary_is_straight : (f : FirstForm) (p : BoxPatch) (b : Boundary)
-    → IsBoxBoundary space_number p b → IsStraight f p.kind → is_straight (model_of f) b.patch ≡ true
-boundary_is_straight f p b is straight =
+boundary_is_straight : (f : FirstForm) (e : Extent) (p : BoxPatch) (b : Boundary)
+    → IsBoxBoundary space_number p b → IsStraight f e p.kind
+    → is_straight (model_of f e) b.patch ≡ true
+boundary_is_straight f e p b is straight =
     rw (is.lower, is.upper, is.of_space, is.of_face) (rw straight refl)
 
 -- each patch of the list is one whose corners can be told
-pub box_list_has_corners : (f : FirstForm) (e : Extent) (bs : List Boundary) → IsExtentOf f e
-    → IsBoxList space_number e bs → have_corners (model_of f) bs ≡ true
-box_list_has_corners f e bs extent is =
-    let test = λ (b : Boundary). is_straight (model_of f) b.patch in
+pub box_list_has_corners : (f : FirstForm) (e : Extent) (bs : List Boundary)
+    → IsBoxList space_number e bs → have_corners (model_of f e) bs ≡ true
+box_list_has_corners f e bs is =
+    let test = λ (b : Boundary). is_straight (model_of f e) b.patch in
     all_pass test bs
-    (all_lift space_number (λ p. IsStraight f p.kind) (λ b. test b ≡ true) (boundary_is_straight f)
-    (box_patches e) bs is (faces_are_straight f (extent_has_plan f e extent) e))
+    (all_lift space_number (λ p. IsStraight f e p.kind) (λ b. test b ≡ true)
+    (boundary_is_straight f e) (box_patches e) bs is (faces_are_straight f e))

@@ -7,6 +7,7 @@ use Rattle.sb_step.specs.IndexAnswers.{HasDoubled}
 use Rattle.sb_step.specs.Faults.{IsFaultAt}
 use Rattle.sb_step.specs.declared.error.StepError.{StepError}
 use Rattle.sb_step.specs.declared.error.StepError.TheVariants as step_error
+use Rattle.sb_box.specs.declared.extent.Extent.{Extent}
 use Rattle.sb_form.specs.FirstForm.{IsFormOf}
 use Rattle.sb_form.specs.Meaning.{model_of}
 use Rattle.sb_form.specs.declared.matcher.FirstForm.{FirstForm}
@@ -67,10 +68,11 @@ pub record IsReady (input : List ℕ) (ready : Ready) : Type 0 where
   pub within : length input ≤ longest_input
   pub read : IsRead input
   pub form : FirstForm
+  pub extent : Extent
   pub sound : IsSoundForm form input
   pub sole : IsSole form input
-  pub list_is : IsListOf form ready.list
-  pub report_is : ready.report.items ≡ report_of (model_of form) ready.list
+  pub list_is : IsListOf form extent ready.list
+  pub report_is : ready.report.items ≡ report_of (model_of form extent) ready.list
 
 -- an input that was read has this fault or is refused for this reason, or there was no memory
 abbrev pub IsJudged : List ℕ → Answer → Type 0

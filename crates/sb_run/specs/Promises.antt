@@ -70,32 +70,33 @@ IsRefused input n code.OffGrid = (n ≡ space_number) × HasDefect input defect.
 IsRefused input n code.Unbuilt =
     (n ≡ 0) × IsExchangeText input × ((form : FirstForm) → IsFormOf form input → ⊥)
 
--- the list of the model that the form means: it is sound for this model and in order, and has the
--- boundaries of the form's box
-pub record IsListOf (form : FirstForm) (list : List Boundary) : Type 0 where
-  pub sound : model.IsSound (model_of form) list
-  pub in_order : IsInOrder list
-  pub extent : Extent
+-- the list of the model that the form means, whose box this is: it is sound for this model and in
+-- order, and has the boundaries of the box
+pub record IsListOf (form : FirstForm) (extent : Extent) (list : List Boundary) : Type 0 where
   pub is_extent : IsExtentOf form extent
+  pub sound : model.IsSound (model_of form extent) list
+  pub in_order : IsInOrder list
   pub is_list : IsBoxList space_number extent list
 
 -- After Done: the input is a form without defect, the list is that of its box, and on the report
 -- stands the text of the list for the model of the input.
 pub record Reports (input : List ℕ) (list : List Boundary) (new : World) : Type 0 where
   pub form : FirstForm
+  pub extent : Extent
   pub sound : IsSoundForm form input
-  pub list_is : IsListOf form list
-  pub written : ForSome (new.bytes Report) (λ bytes. bytes ≡ report_of (model_of form) list)
+  pub list_is : IsListOf form extent list
+  pub written : ForSome (new.bytes Report) (λ bytes. bytes ≡ report_of (model_of form extent) list)
 
 -- After a fault of writing: where the report was created, a first part of that text stands on it.
 pub record ReportsInPart (input : List ℕ) (new : World) : Type 0 where
   pub form : FirstForm
+  pub extent : Extent
   pub sound : IsSoundForm form input
   pub list : List Boundary
-  pub list_is : IsListOf form list
+  pub list_is : IsListOf form extent list
   pub written : new.is_created Report ≡ true
       → ForSome (new.bytes Report)
-      (λ bytes. bytes ≡ take (length bytes) (report_of (model_of form) list))
+      (λ bytes. bytes ≡ take (length bytes) (report_of (model_of form extent) list))
 
 -- what stands on the report after an answer, for an input
 abbrev pub ReportStands : List ℕ → World → Answer → Type 0

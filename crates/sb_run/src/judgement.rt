@@ -116,9 +116,9 @@ fn code_of(defect: Defect) -> Code
 fn made_ready(alloc: Global, form: &FirstForm, extent: &Extent) -> Result<Ready, AllocError>
     requires short { AreShort form.now }
     requires extent { IsExtentOf form.now extent.now }
-    ensures list { IfOk result (λ ready. IsListOf form.now ready.list) }
+    ensures list { IfOk result (λ ready. IsListOf form.now extent.now ready.list) }
     ensures report { IfOk result (λ ready.
-        ready.report.items ≡ report_of (model_of form.now) ready.list) }
+        ready.report.items ≡ report_of (model_of form.now extent.now) ready.list) }
     ensures line { IfOk result (λ ready. string_bytes ready.line ≡ done_line ready.list) }
 {
     let model = model(alloc, form, extent)?;

@@ -1,7 +1,7 @@
 -- What was found is collected, and the answer is the one of the input.
 pub mod BracketsAreBits
-pub mod OneUseMore
 pub mod InstancesAreStored
 pub mod EventsAreCollected
 pub mod ReadingGoesOn
+pub mod FilesAreHeld
 pub mod OneAnswerToAnInput

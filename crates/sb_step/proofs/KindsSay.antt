@@ -1,46 +1,58 @@
 -- What the tests of kinds say.
-use Rattle.std.proofs.Common.{◌≡◌, ℕ, List, true, false, Option, Some, refl, ap, ◌⊎◌, inl, inr, Bool, cond}
-use Rattle.std.proofs.lemmas.Bool.{false≢true, and_parts, and_from}
+use Rattle.std.proofs.Common.{◌≡◌, ℕ, List, true, false, Option, Some, refl, ap, ◌⊎◌, inl, inr, Bool, cond, eqb, sym, ◌∙◌}
+use Rattle.std.proofs.lemmas.Bool.{false≢true, and_parts, and_from, eqb-true}
 use Rattle.std.proofs.lemmas.Slice.Eq.{bytes_eq-Decides}
 use Rattle.sb_lex.specs.declared.kinds.Kind.{Kind}
 use Rattle.sb_lex.specs.declared.kinds.Kind.TheVariants as kind
+use Rattle.sb_lex.specs.declared.kinds.Mark.{Mark}
 use Rattle.sb_lex.specs.declared.kinds.Mark.TheVariants as mark
 use Rattle.sb_lex.specs.declared.kinds.Word.TheVariants as word
-use Rattle.sb_step.specs.Lexemes.{Lexeme, IsThe, is_open, is_close}
-use Rattle.sb_step.specs.KindTests.{is_semicolon, is_comma, is_equals, is_first, is_last, is_keyword, number_of, is_the}
+use Rattle.sb_lex.specs.Bytes as byte
+use Rattle.sb_lex.specs.Kinds.{mark_byte}
+use Rattle.sb_step.specs.Lexemes.{Lexeme, IsThe, is_mark}
+use Rattle.sb_step.specs.KindTests.{is_first, is_last, is_keyword, number_of, is_the}
 
-pub open_says : (k : Kind) → is_open k ≡ true → k ≡ kind.Mark mark.Open
-open_says (kind.Mark mark.Open) e = refl
-open_says _ e = absurd (false≢true e)
+-- the mark of a byte
+mark_of : ℕ → Mark
+mark_of b =
+    cond (eqb b byte.dollar) mark.Dollar (cond (eqb b byte.asterisk) mark.Asterisk
+    (cond (eqb b byte.open_parenthesis) mark.Open (cond (eqb b byte.close_parenthesis) mark.Close
+    (cond (eqb b byte.comma) mark.Comma (cond (eqb b byte.semicolon) mark.Semicolon
+    mark.Equals)))))
 
-pub close_says : (k : Kind) → is_close k ≡ true → k ≡ kind.Mark mark.Close
-close_says (kind.Mark mark.Close) e = refl
-close_says _ e = absurd (false≢true e)
+mark_of-byte : (m : Mark) → mark_of (mark_byte m) ≡ m
+unfolding mark_of
+mark_of-byte mark.Dollar = refl
+mark_of-byte mark.Asterisk = refl
+mark_of-byte mark.Open = refl
+mark_of-byte mark.Close = refl
+mark_of-byte mark.Comma = refl
+mark_of-byte mark.Semicolon = refl
+mark_of-byte mark.Equals = refl
 
-pub semicolon_says : (k : Kind) → is_semicolon k ≡ true → k ≡ kind.Mark mark.Semicolon
-semicolon_says (kind.Mark mark.Semicolon) e = refl
-semicolon_says _ e = absurd (false≢true e)
+-- a kind that passes the test of a mark is this mark
+pub mark_says : (m : Mark) (k : Kind) → is_mark m k ≡ true → k ≡ kind.Mark m
+mark_says m (kind.Mark n) e =
+    ap (λ i. kind.Mark i)
+    (sym (mark_of-byte n) ∙ ap mark_of (eqb-true (mark_byte n) (mark_byte m) e) ∙ mark_of-byte m)
+mark_says m _ e = absurd (false≢true e)
 
-pub comma_says : (k : Kind) → is_comma k ≡ true → k ≡ kind.Mark mark.Comma
-comma_says (kind.Mark mark.Comma) e = refl
-comma_says _ e = absurd (false≢true e)
-
-pub equals_says : (k : Kind) → is_equals k ≡ true → k ≡ kind.Mark mark.Equals
-equals_says (kind.Mark mark.Equals) e = refl
-equals_says _ e = absurd (false≢true e)
-
+-- the first word
 pub first_says : (k : Kind) → is_first k ≡ true → k ≡ kind.Word word.First
 first_says (kind.Word word.First) e = refl
 first_says _ e = absurd (false≢true e)
 
+-- the last word
 pub last_says : (k : Kind) → is_last k ≡ true → k ≡ kind.Word word.Last
 last_says (kind.Word word.Last) e = refl
 last_says _ e = absurd (false≢true e)
 
+-- a keyword
 pub keyword_says : (k : Kind) → is_keyword k ≡ true → k ≡ kind.Keyword
 keyword_says kind.Keyword e = refl
 keyword_says _ e = absurd (false≢true e)
 
+-- a name with its number
 pub number_says : (k : Kind) (n : ℕ) → number_of k ≡ Some n → k ≡ kind.Name n
 number_says (kind.Name m) n e = let same : m ≡ n = cc in ap (λ i. kind.Name i) same
 number_says _ n e = absurd (cc)
@@ -54,6 +66,7 @@ the_says letters x e =
       spelled = (bytes_eq-Decides x.text letters).0 parts.1;
     }
 
+-- and the other way round
 pub said_the : (letters : List ℕ) (x : Lexeme) → IsThe letters x → is_the letters x ≡ true
 said_the letters x the =
     and_from (is_keyword x.token.kind) _ (ap is_keyword the.keyword)

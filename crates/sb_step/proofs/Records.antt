@@ -2,5 +2,10 @@
 pub mod BehindRules
 pub mod RecordsLie
 pub mod OnlyOnePasses
+pub mod PlacesOfItems
+pub mod RowsAreSearched
+pub mod InstancesByNumber
+pub mod PlacesTell
+pub mod OneSchema
 pub mod RecordsStand
 pub mod SchemaIsRead

@@ -3,7 +3,6 @@ pub mod SectionMoves
 pub mod ListMoves
 pub mod Turns
 pub mod Machines
-pub mod Hashing
 pub mod StoredInstances
 pub mod Collects
 pub mod Progress

@@ -5,32 +5,36 @@ use Rattle.sb_lex.specs.declared.kinds.Kind.{Kind}
 use Rattle.sb_lex.specs.declared.kinds.Kind.TheVariants as kind
 use Rattle.sb_lex.specs.declared.kinds.Mark.TheVariants as mark
 use Rattle.sb_lex.specs.declared.kinds.Word.TheVariants as word
-use Rattle.sb_step.specs.Lexemes.{Lexeme}
+use Rattle.sb_step.specs.Lexemes.{Lexeme, is_mark}
 
+-- `;`
 abbrev pub is_semicolon : Kind → Bool
-is_semicolon (kind.Mark mark.Semicolon) = true
-is_semicolon _ = false
+is_semicolon = is_mark mark.Semicolon
 
+-- `,`
 abbrev pub is_comma : Kind → Bool
-is_comma (kind.Mark mark.Comma) = true
-is_comma _ = false
+is_comma = is_mark mark.Comma
 
+-- `=`
 abbrev pub is_equals : Kind → Bool
-is_equals (kind.Mark mark.Equals) = true
-is_equals _ = false
+is_equals = is_mark mark.Equals
 
+-- the first word of a text
 abbrev pub is_first : Kind → Bool
 is_first (kind.Word word.First) = true
 is_first _ = false
 
+-- its last word
 abbrev pub is_last : Kind → Bool
 is_last (kind.Word word.Last) = true
 is_last _ = false
 
+-- a keyword of any letters
 abbrev pub is_keyword : Kind → Bool
 is_keyword kind.Keyword = true
 is_keyword _ = false
 
+-- the number of a name
 abbrev pub number_of : Kind → Option ℕ
 number_of (kind.Name n) = Some n
 number_of _ = None

@@ -1,11 +1,12 @@
 -- What the grammar of exchange texts reads: tokens, each with the bytes that stand there.
-use Rattle.std.specs.Prelude.{◌≡◌, ℕ, Bool, true, false, IsTrue, List, slice_range, map, count_by}
+use Rattle.std.specs.Prelude.{◌≡◌, ℕ, Bool, true, false, IsTrue, ◌==◌, List, slice_range, map, count_by}
 use Rattle.sb_lex.specs.declared.kinds.Kind.{Kind}
 use Rattle.sb_lex.specs.declared.kinds.Kind.TheVariants as kind
 use Rattle.sb_lex.specs.declared.kinds.Mark.{Mark}
 use Rattle.sb_lex.specs.declared.kinds.Mark.TheVariants as mark
 use Rattle.sb_lex.specs.declared.kinds.Word.{Word}
 use Rattle.sb_lex.specs.declared.kinds.Token.{Token}
+use Rattle.sb_lex.specs.Kinds.{mark_byte}
 
 -- a token and its bytes
 pub record Lexeme : Type 0 where
@@ -57,15 +58,18 @@ is_value _ = false
 abbrev pub IsValue : Lexeme → Type 0
 IsValue x = IsTrue (is_value x.token.kind)
 
+-- this mark: marks are told apart by their bytes
+abbrev pub is_mark : Mark → Kind → Bool
+is_mark m (kind.Mark n) = mark_byte n == mark_byte m
+is_mark m _ = false
+
 -- an opening parenthesis
 abbrev pub is_open : Kind → Bool
-is_open (kind.Mark mark.Open) = true
-is_open _ = false
+is_open = is_mark mark.Open
 
 -- a closing parenthesis
 abbrev pub is_close : Kind → Bool
-is_close (kind.Mark mark.Close) = true
-is_close _ = false
+is_close = is_mark mark.Close
 
 -- how many parentheses open
 abbrev pub opened : List Lexeme → ℕ

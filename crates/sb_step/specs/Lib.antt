@@ -5,6 +5,7 @@ pub mod Grammar
 pub mod Faults
 pub mod Numbers
 pub mod Indexed
+pub mod Described
 pub mod IndexAnswers
 pub mod KindTests
 -- what the private functions of `index` promise

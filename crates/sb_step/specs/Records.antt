@@ -2,3 +2,5 @@
 pub mod Spans
 pub mod Schema
 pub mod SchemaReading
+pub mod Table
+pub mod Rows

@@ -3,15 +3,12 @@ ghost use Rattle.std.specs.Prelude.{◌≡◌, ◌↔◌, ℕ, [], Ok, Err};
 ghost use Rattle.sb_step.specs.IndexAnswers.{IsAnswer, IsInTime, IsIndexed, HasDoubled};
 ghost use Rattle.sb_step.specs.Faults.{IsFaultAt};
 ghost use Rattle.sb_step.specs.Indexed.{Indexed};
-ghost use Rattle.sb_step.specs.Index.StoredInstances.{NumbersAreStored};
-ghost use Rattle.sb_step.specs.Index.Collects.{AreCollected};
 ghost use Rattle.sb_step.specs.Index.Machines.{state_of};
 ghost use Rattle.sb_step.specs.Index.Progress as spec;
 
 use crate::indexing::collected::Collected;
 
 mod collected;
-mod hashing;
 pub(crate) mod instances;
 mod lists;
 mod machine;
@@ -23,12 +20,10 @@ use crate::indexing::instances::Instances;
 use crate::indexing::machine::Machine;
 use crate::laws::one_file_or_one_fault;
 use crate::step_file::StepFile;
+use crate::step_file::table::{least_doubled, table};
+use crate::step_file::text::file_text;
 use sb_lex::{BadToken, Lexer, Token, tokens_are_one_list};
 use std::alloc::Global;
-
-/// How many bytes an instance mostly has at least. So much room is made at first that the table of
-/// most texts never grows.
-const INSTANCE_LEN: usize = 48;
 
 /// The exchange text that the input is, with its instances by number.
 ///
@@ -57,46 +52,37 @@ pub fn index<'a>(alloc: Global, bytes: &'a [u8]) -> Result<StepFile<'a>, StepErr
 fn read<'a>(alloc: Global, bytes: &'a [u8]) -> Result<StepFile<'a>, StepError>
     ensures { IsAnswer bytes.now result }
 {
-    match Collected::with_capacity(alloc, bytes.len() / INSTANCE_LEN) {
-        Ok(collected) => read_into(bytes, collected),
-        Err(_) => Err(StepError::NoMemory),
-    }
-}
-
-fn read_into<'a>(bytes: &'a [u8], empty: Collected) -> Result<StepFile<'a>, StepError>
-    requires { AreCollected [] empty }
-    ensures { IsAnswer bytes.now result }
-{
     tokens_are_one_list();
     let mut lexer = Lexer::new(bytes);
     let mut machine = Machine::new();
-    let mut collected = empty;
+    let mut collected = Collected::new(alloc);
     'tokens: loop {
         match lexer.next() {
             Ok(Some(token)) => {
                 let text = &bytes[token.start..token.end];
-                match accept(&mut machine, &mut collected, token, text) {
+                match accept(bytes, &mut machine, &mut collected, token, text) {
                     Ok(()) => {}
                     Err(error) => return Err(error),
                 }
             }
-            Ok(None) => return finish(bytes, machine.end(), collected),
+            Ok(None) => return finish(alloc, bytes, machine.end(), collected),
             Err(BadToken(place)) => return Err(StepError::Syntax(place)),
         }
     }
 }
 
 fn accept(
+    bytes: &[u8],
     machine: &mut Machine,
     collected: &mut Collected,
     token: Token,
     text: &[u8],
 ) -> Result<(), StepError>
-    ensures { spec.Accepts (state_of machine.old) (state_of machine.new)
+    ensures { spec.Accepts bytes.now (state_of machine.old) (state_of machine.new)
         (record { token = token; text = text.now }) collected.old collected.new result }
 {
     match machine.advance(token, text) {
-        Some(event) => match collected.add(event) {
+        Some(event) => match collected.add(bytes, event) {
             Ok(()) => Ok(()),
             Err(_) => Err(StepError::NoMemory),
         },
@@ -105,33 +91,45 @@ fn accept(
 }
 
 fn finish<'a>(
+    alloc: Global,
     bytes: &'a [u8],
     end: Option<usize>,
     collected: Collected,
 ) -> Result<StepFile<'a>, StepError>
-    requires answer { IsAnswer bytes.now (spec.finished bytes.now end collected) }
-    requires numbers { NumbersAreStored collected.instances }
+    requires { spec.IsRead bytes.now end collected }
     ensures { IsAnswer bytes.now result }
 {
-    let Collected { header, instances } = collected;
-    let Instances {
-        records,
-        numbers,
-        greatest,
-        doubled,
-    } = instances;
     match end {
-        Some(data_end) => match doubled {
-            Some(number) => Err(StepError::Duplicate(number)),
-            None => Ok(StepFile {
-                bytes,
-                header,
-                instances: records,
-                numbers,
-                greatest,
-                data_end,
-            }),
-        },
+        Some(data_end) => found(alloc, bytes, data_end, collected),
         None => Err(StepError::Syntax(bytes.len())),
+    }
+}
+
+fn found<'a>(
+    alloc: Global,
+    bytes: &'a [u8],
+    data_end: usize,
+    collected: Collected,
+) -> Result<StepFile<'a>, StepError>
+    requires { spec.IsFound bytes.now data_end collected }
+    ensures { IsAnswer bytes.now result }
+{
+    one_file_or_one_fault();
+    let text = file_text(bytes);
+    let Collected { schema, instances } = collected;
+    let Instances { numbers, places } = instances;
+    let Ok(rows) = table(alloc, &numbers) else {
+        return Err(StepError::NoMemory);
+    };
+    match least_doubled(&rows) {
+        Some(number) => Err(StepError::Duplicate(number)),
+        None => Ok(StepFile {
+            text,
+            schema,
+            numbers,
+            places,
+            rows,
+            data_end,
+        }),
     }
 }

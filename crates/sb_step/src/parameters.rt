@@ -15,6 +15,7 @@ use crate::parameters::param::Params;
 use crate::parameters::reading::{list, next};
 use crate::step_file::StepFile;
 use crate::step_file::records::Form;
+use crate::step_file::table::form;
 use sb_lex::Lexer;
 use sqlite_items::Items;
 use std::alloc::{AllocError, Global};
@@ -41,8 +42,8 @@ pub fn params(alloc: Global, file: &StepFile<'_>, number: u32) -> Result<Params,
 fn find(alloc: Global, file: &StepFile<'_>, number: u32) -> Result<Params, ParamsError>
     ensures { IsParamsAnswer file.now number result }
 {
-    match file.instances.get(&number) {
-        Some(place) => by_form(alloc, file.bytes, place.form),
+    match file.find(number) {
+        Some(place) => by_form(alloc, file.text.bytes, form(place)),
         None => Err(ParamsError::Missing(number)),
     }
 }

@@ -1,55 +1,47 @@
 ghost use Rattle.std.specs.Prelude.{◌≡◌, length};
 ghost use Rattle.std.specs.Option.{option_copied};
 ghost use Rattle.sb_step.specs.Records.Spans as spec;
+ghost use Rattle.sb_step.specs.Records.Table.{form_of, PlaceLies};
 
 pub(crate) mod records;
-mod schema;
+pub(crate) mod schema;
+pub(crate) mod table;
+pub(crate) mod text;
 
-use crate::indexing::instances::Records;
-use crate::step_file::records::{Form, Record};
-use crate::step_file::schema::{one_string, only_schema};
+use crate::step_file::records::Form;
+use crate::step_file::schema::{Schema, one_string};
+use crate::step_file::table::{Place, Row, find, form, last_number};
+use crate::step_file::text::Text;
 use std::marker::Model;
 
 /// An exchange text whose instances are found by their numbers. It borrows the text.
 #[derive(Drop)]
 pub struct StepFile<'a> {
-    pub(crate) bytes: &'a [u8],
-    pub(crate) header: Vec<Record>,
-    pub(crate) instances: Records,
+    pub(crate) text: Text<'a>,
+    pub(crate) schema: Schema,
     pub(crate) numbers: Vec<u32>,
-    pub(crate) greatest: u32,
+    pub(crate) places: Vec<Place>,
+    pub(crate) rows: Vec<Row>,
     pub(crate) data_end: usize,
 }
 
 impl<'a> Model for StepFile<'a> {
     ghost use Rattle.sb_step.specs.Indexed.{Indexed};
-    ghost use Rattle.sb_step.specs.IndexAnswers.{IsStored};
+    ghost use Rattle.sb_step.specs.IndexAnswers.{IsHeld};
 
     ghost Value = { Indexed };
 
-    ghost view = { λ s. record {
-      input = s.bytes.now;
-      file = record {
-        header = s.header.items;
-        instances = s.instances.entries;
-        data_end = s.data_end;
-      };
-    } };
+    ghost view = { λ s. record { input = s.text.bytes.now; file = s.text.described.0 } };
 
-    ghost invariant = { λ s. IsStored s.numbers.items s.greatest (record {
-      input = s.bytes.now;
-      file = record {
-        header = s.header.items;
-        instances = s.instances.entries;
-        data_end = s.data_end;
-      };
-    }) };
+    ghost invariant = { λ s. IsHeld s.schema s.numbers.items s.places.items s.rows.items s.data_end
+        (record { input = s.text.bytes.now; file = s.text.described.0 }) };
 }
 
 impl<'a> StepFile<'a> {
     ghost use Rattle.std.specs.Prelude.{◌↔◌, ℕ, List, Some, None};
     ghost use Rattle.sb_step.specs.Numbers.{numbers_of, IsGreatest};
     ghost use Rattle.sb_step.specs.Records.Schema.{IsSchema, HasNoSchema};
+    ghost use Rattle.sb_step.specs.Records.Table.{place_at};
 
     /// The numbers of the instances in file order.
     pub fn numbers(&self) -> &[u32]
@@ -62,16 +54,24 @@ impl<'a> StepFile<'a> {
     pub fn greatest(&self) -> u32
         ensures { IsGreatest result self.now.file.instances }
     {
-        self.greatest
+        last_number(&self.rows)
     }
 
-    /// The keyword of the instance of this number, found in constant time: `None` exactly where
+    /// The keyword of the instance of this number, found in logarithmic time: `None` exactly where
     /// there is no such instance, or its record is complex.
     pub fn keyword(&self, number: u32) -> Option<&[u8]>
         ensures { option_copied result ≡ spec.keyword_of self.now number }
     {
-        let record = self.instances.get(&number)?;
-        keyword_at(self.bytes, *record)
+        let place = self.find(number)?;
+        keyword_at(self.text.bytes, place)
+    }
+
+    /// Where the keyword of the instance of this number stands.
+    pub(crate) fn find(&self, number: u32) -> Option<Place>
+        ensures { result ≡ place_at self.now.file.instances number }
+    {
+        let at = find(&self.rows, number)?;
+        Some(self.places[at as usize])
     }
 
     /// The schema that the header names, as it stands between its apostrophes: the one string of
@@ -92,10 +92,9 @@ impl<'a> StepFile<'a> {
         ensures { (text : List ℕ) → (option_copied result ≡ Some text)
             ↔ IsSchema self.now text }
     {
-        let entity = only_schema(self.bytes, self.header.as_slice())?;
-        match entity.form {
-            Form::Simple(end) => one_string(self.bytes, end),
-            Form::Complex => None,
+        match self.schema {
+            Schema::One(end) => one_string(self.text.bytes, end),
+            _ => None,
         }
     }
 
@@ -107,11 +106,11 @@ impl<'a> StepFile<'a> {
     }
 }
 
-fn keyword_at(bytes: &[u8], place: Record) -> Option<&[u8]>
-    requires { spec.RecordLies (length bytes.now) place }
-    ensures { option_copied result ≡ spec.keyword_by bytes.now place.start place.form }
+fn keyword_at(bytes: &[u8], place: Place) -> Option<&[u8]>
+    requires { PlaceLies (length bytes.now) place }
+    ensures { option_copied result ≡ spec.keyword_by bytes.now place.start (form_of place) }
 {
-    match place.form {
+    match form(place) {
         Form::Simple(end) => Some(&bytes[place.start..end]),
         Form::Complex => None,
     }

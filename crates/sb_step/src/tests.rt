@@ -1,5 +1,6 @@
 mod parameters;
 
+use crate::step_file::table::form;
 use crate::{Form, StepError, StepFile, index};
 use std::alloc::{AllocError, Global};
 use std::test::Fail;
@@ -75,10 +76,10 @@ const INPUTS: [(&[u8], &str); 24] = [
 
 // What stands in the data section, whose first byte is byte 36, with the answer.
 const INSTANCES: [(&[u8], &str); 27] = [
-    (b"#1=A();", "#1 simple 39 42 40, end 43"),
-    (b"#1 = A ( ) ;", "#1 simple 41 47 42, end 48"),
-    (b"#1=(A());", "#1 complex 39 44, end 45"),
-    (b"#1=(A()B(1)_C($));", "#1 complex 39 53, end 54"),
+    (b"#1=A();", "#1 simple 39 40, end 43"),
+    (b"#1 = A ( ) ;", "#1 simple 41 42, end 48"),
+    (b"#1=(A());", "#1 complex, end 45"),
+    (b"#1=(A()B(1)_C($));", "#1 complex, end 54"),
     (b"#1=();", "syntax 40"),
     (b"#1=(A);", "syntax 41"),
     (b"#1=(A(),B());", "syntax 43"),
@@ -94,15 +95,15 @@ const INSTANCES: [(&[u8], &str); 27] = [
     (b"#1=A(1 2);", "syntax 43"),
     (
         b"#1=A(());#2=B((),(()));",
-        "#1 simple 39 44 40, #2 simple 48 58 49, end 59",
+        "#1 simple 39 40, #2 simple 48 49, end 59",
     ),
     (
         b"#1=A($,*,1,-1.,'a''b',.T.,\"0F\",#9);",
-        "#1 simple 39 70 40, end 71",
+        "#1 simple 39 40, end 71",
     ),
     (
         b"#1=A(B(1),C(($,*)),D(E(F(()))));",
-        "#1 simple 39 67 40, end 68",
+        "#1 simple 39 40, end 68",
     ),
     (b"#1=A(B());", "syntax 43"),
     (b"#1=A(B(1,2));", "syntax 44"),
@@ -123,17 +124,14 @@ fn joined(alloc: Global, parts: &[&[u8]]) -> Result<Vec<u8>, AllocError> {
 
 fn file_shown(alloc: Global, file: &StepFile<'_>) -> Result<String, AllocError> {
     let mut text = String::new(alloc);
-    for (number, record) in file.instances.iter() {
-        let (start, end) = (record.start, record.end);
-        match record.form {
+    for at in 0..file.numbers.len() {
+        let (number, place) = (file.numbers[at], file.places[at]);
+        match form(place) {
             Form::Simple(keyword_end) => {
-                text.push_str(&format!(in alloc;
-                    "#{number} simple {start} {end} {keyword_end}, "
-                )?)?;
+                let start = place.start;
+                text.push_str(&format!(in alloc; "#{number} simple {start} {keyword_end}, ")?)?;
             }
-            Form::Complex => {
-                text.push_str(&format!(in alloc; "#{number} complex {start} {end}, ")?)?;
-            }
+            Form::Complex => text.push_str(&format!(in alloc; "#{number} complex, ")?)?,
         }
     }
     let end = file.data_end();
@@ -208,10 +206,7 @@ fn closed_parentheses_do_not_count(rt: HostRuntime) -> Result<(), Fail> {
     }
     text.extend_from_slice(b");")?;
     text.extend_from_slice(TAIL)?;
-    assert_eq!(rt;
-        shown(alloc, &text)?.as_str(),
-        "#1 simple 39 3044 40, end 3045"
-    );
+    assert_eq!(rt; shown(alloc, &text)?.as_str(), "#1 simple 39 40, end 3045");
     Ok(())
 }
 

@@ -1,5 +1,5 @@
-//! What writers of texts share. A line of a text is a list of pieces: [`append_all`] appends them in
-//! one call, whose contract is the line as it stands in a definition.
+//! What writers of texts share. A line of a text is a list of pieces: [`append_all`] appends them
+//! in one call, whose contract is the line as it stands in a definition.
 //!
 //! `specs/Pieces.antt` says how each piece is written.
 #![tactic(auto)]

@@ -19,9 +19,11 @@ fn each_call_appends(rt: HostRuntime) -> Result<(), Fail> {
     append_whole(&mut text, -100)?;
     append_references(&mut text, &[])?;
     append_references(&mut text, &[109, 119, 129])?;
+    let want =
+        b"wall 18446744073709551615 -9223372036854775808$$$00042123456#101-100.#109,#119,#129";
     assert_eq!(rt;
         text.bytes(),
-        b"wall 18446744073709551615 -9223372036854775808$$$00042123456#101-100.#109,#119,#129".as_slice(),
+        want.as_slice(),
         "each call appends at the end"
     );
     Ok(())

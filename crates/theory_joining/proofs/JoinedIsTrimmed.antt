@@ -16,7 +16,7 @@ use Rattle.theory_lists.proofs.Members.{all_stands, all_follow, all_both}
 use Rattle.theory_patches.specs.Marked.{MarkedPatch, IsPatch}
 use Rattle.theory_patches.specs.Sheets.{Sheet, IsNoAbscissa}
 use Rattle.theory_patches.specs.Trimmed.{AreApart, IsTrimmed, IsTrimmedList}
-use Rattle.theory_patches.proofs.Spaced.{IsOver, AreSpaced}
+use Rattle.theory_patches.specs.Trimmed.{IsOver, AreSpaced}
 use Rattle.theory_joining.specs.Joined.{IsPatchUpTo, AreSpacedIfAlike, IsJoinedUpTo}
 use Rattle.theory_joining.specs.Laws.{Passes, HasTrimmedEnd}
 

@@ -26,5 +26,5 @@ pub mod RunsKeepMarks
 pub mod RunsOfCells
 -- slab after slab, from the first to the last
 pub mod JoinOfSlabs
-mod Examples
-mod Refused
+-- worked cases
+mod Cases

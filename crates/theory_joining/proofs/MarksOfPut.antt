@@ -46,6 +46,7 @@ pub record IsInsideBy (p : Region) (point : FacePoint) : Type 0 where
   pub before : IsBelow (abscissa_of point) p.high
   pub sides : is_between_sides p point ≡ true
 
+-- a point inside a region lies between its ends and between its sides
 pub inside_parts : (p : Region) (point : FacePoint) → is_inside p point ≡ true
     → IsInsideBy p point
 inside_parts p point answer =

@@ -20,7 +20,7 @@ use Rattle.theory_lists.proofs.SameMembers.{stands_between}
 use Rattle.theory_patches.specs.Marked.{MarkedPatch, IsPatch}
 use Rattle.theory_patches.specs.Sheets.{Sheet, IsSheet}
 use Rattle.theory_patches.proofs.NoneBetween.{at_most_from_same}
-use Rattle.theory_patches.proofs.Spaced.{IsOver}
+use Rattle.theory_patches.specs.Trimmed.{IsOver}
 use Rattle.theory_joining.specs.Joined.{AreSpacedIfAlike}
 use Rattle.theory_joining.specs.Put.{goes_on, carried_on, put}
 use Rattle.theory_joining.specs.Laws.{TellsEqual}

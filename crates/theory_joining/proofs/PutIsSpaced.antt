@@ -19,7 +19,8 @@ use Rattle.theory_lists.proofs.Members.{all_stands, all_follow, all_both}
 use Rattle.theory_patches.specs.Marked.{MarkedPatch}
 use Rattle.theory_patches.specs.Sheets.{Sheet, IsNoAbscissa}
 use Rattle.theory_patches.proofs.NoneBetween.{at_most_from_same}
-use Rattle.theory_patches.proofs.Spaced.{IsOver, spaced_sym}
+use Rattle.theory_patches.proofs.Spaced.{spaced_sym}
+use Rattle.theory_patches.specs.Trimmed.{IsOver}
 use Rattle.theory_joining.specs.Runs.{IsSlab, IsRunOver, AreApartIfAlike}
 use Rattle.theory_joining.specs.Joined.{IsPatchUpTo, AreSpacedIfAlike}
 use Rattle.theory_joining.specs.Put.{ends_where_begins, goes_on, carried_on, put, ArePutTo}

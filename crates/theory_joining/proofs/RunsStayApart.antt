@@ -225,6 +225,7 @@ module _ (cur next : Arrow) where
             ss (all_both _ _ ss runs.1 rising.0),
       )
 
+      -- runs that rise and of which no neighbours could be one stay apart where they are alike
       pub runs_are_apart : (rs : List (MarkedPatch M))
           → AllByRecursion (λ s. IsRunOver cur next s.region) rs → AllOfTwo (IsUnder cur next) rs
           → AreSettled same rs → AllOfTwo (AreApartIfAlike sheet) rs

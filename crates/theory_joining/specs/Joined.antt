@@ -8,7 +8,7 @@ use Rattle.theory_plane.specs.Regions.{Region}
 use Rattle.theory_lists.specs.Members.{Stands, AllOfTwo}
 use Rattle.theory_patches.specs.Marked.{MarkedPatch, IsPatch}
 use Rattle.theory_patches.specs.Sheets.{Sheet, IsOffCuts}
-use Rattle.theory_patches.proofs.Spaced.{AreSpaced}
+use Rattle.theory_patches.specs.Trimmed.{AreSpaced}
 use Rattle.theory_joining.specs.Runs.{HasItsMarks}
 
 -- a patch up to cur: it begins at an abscissa, and ends at one or at cur, but not beyond cur

@@ -10,7 +10,7 @@ use Rattle.theory_plane.specs.Regions.{Region}
 use Rattle.theory_lists.specs.Members.{Stands, AllOfTwo}
 use Rattle.theory_patches.specs.Marked.{MarkedPatch, IsPatch}
 use Rattle.theory_patches.specs.Sheets.{Sheet, IsNoAbscissa, IsOffCuts, IsMarkedAt}
-use Rattle.theory_patches.proofs.Spaced.{IsOver}
+use Rattle.theory_patches.specs.Trimmed.{IsOver}
 
 -- a slab: it begins at an abscissa and ends at a greater number. Nothing is asked of its end
 pub record IsSlab (sheet : Sheet) (cur next : Arrow) : Type 0 where

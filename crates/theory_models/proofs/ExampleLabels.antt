@@ -14,6 +14,7 @@ use Rattle.sb_model.specs.Labels.{label_at, layer_at}
 use Rattle.sb_model.specs.PlanEdges.{is_crossing, is_abscissa}
 use Rattle.sb_model.specs.OpenedPoints.{key_of}
 use Rattle.sb_model.specs.Walks.{is_rounded}
+use Rattle.theory_models.proofs.BoxesAreSolid.{box_is_solid}
 use Rattle.theory_models.proofs.ExampleModels.{block, layered_wall, layered_wall_between_rooms}
 use Rattle.theory_models.proofs.ExampleModels.{wall_opposite_a_t_joint, crossing_slabs}
 use Rattle.theory_models.proofs.ExampleModels.{slanted_sides, half_covered_layer}
@@ -134,8 +135,8 @@ abbrev opening : ℕ → ℕ → Opening
 opening number element = record {
   number = number;
   element = element;
-  prism =
-      block 1000 2000 2900 3300 2100;
+  prism = block 1000 2000 2900 3300 2100;
+  is_solid = box_is_solid (block 1000 2000 2900 3300 2100) refl;
 }
 
 abbrev filling : ℕ → ℕ → Filling

@@ -31,7 +31,7 @@ use Rattle.sb_model.specs.Covers.{Covers}
 use Rattle.sb_model.specs.Trimmed.{AreTopsTrimmed}
 use Rattle.sb_model.specs.Mirrors.{Mirrors}
 use Rattle.sb_model.specs.Nested.{IsInParent}
-use Rattle.theory_models.proofs.ExampleModels.{block, room, box}
+use Rattle.theory_models.proofs.ExampleModels.{block, box_room, box}
 
 one_is_positive : pos 0 <ℤ pos 1
 one_is_positive = omega (arith, ints)
@@ -116,7 +116,7 @@ all_but_bottom = top ∷ long_side 0 ∷ short_side 1 ∷ long_side 2 ∷ short_
 one_too_few : Covers box all_but_bottom → ⊥
 unfolding cross dot
 one_too_few c =
-    (c.faces (room 20 (block 0 4000 0 3000 2500)) (inl refl) kind.Bottom
+    (c.faces (box_room 20 0 4000 0 3000 2500 refl) (inl refl) kind.Bottom
     (bottom_of (block 0 4000 0 3000 2500)) refl).once
     (spot (pos 1000) (pos 1000) (pos 0) (pos 1)) one_is_positive refl
 
@@ -125,7 +125,7 @@ one_twice : Covers box (bottom ∷ bottom ∷ all_but_bottom) → ⊥
 unfolding cross dot
 one_twice c =
     true≢false
-    ((c.faces (room 20 (block 0 4000 0 3000 2500)) (inl refl) kind.Bottom
+    ((c.faces (box_room 20 0 4000 0 3000 2500 refl) (inl refl) kind.Bottom
     (bottom_of (block 0 4000 0 3000 2500)) refl).once
     (spot (pos 1000) (pos 1000) (pos 0) (pos 1)) one_is_positive refl)
 

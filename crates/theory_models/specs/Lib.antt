@@ -1,1 +1,2 @@
--- Nothing of its own: the laws are in proofs/.
+-- What the laws speak of.
+pub mod Abscissae

@@ -39,9 +39,10 @@ at_most_from a b answer = omega (arith, ints)
 pub not_at_most_from : (a b : ℤ) → int_le a b ≡ false → b <ℤ a
 not_at_most_from a b answer = omega (arith, ints)
 
--- ---- two tests give one answer where one holds exactly where the other does
+-- ---- two tests that give one answer
 
-same_tests : (s t : Bool) → (s ≡ true → t ≡ true) → (t ≡ true → s ≡ true) → s ≡ t
+-- they do where one holds exactly where the other does
+pub same_tests : (s t : Bool) → (s ≡ true → t ≡ true) → (t ≡ true → s ≡ true) → s ≡ t
 same_tests true t to from = sym (to refl)
 same_tests false true to from = from refl
 same_tests false false to from = refl

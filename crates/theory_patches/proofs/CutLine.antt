@@ -17,7 +17,8 @@ use Rattle.theory_patches.specs.Marked.{MarkedPatch, IsPatch}
 use Rattle.theory_patches.specs.Sheets.{Sheet, IsSheet, IsNoAbscissa}
 use Rattle.theory_lists.proofs.Members.{all_of_images, all_images, all_follow}
 use Rattle.theory_patches.proofs.OneLine.{AreIntervals, Covers, one_covers}
-use Rattle.theory_patches.proofs.Spaced.{IsOver, AreSpaced, IsSpacedList, patch_there}
+use Rattle.theory_patches.proofs.Spaced.{IsSpacedList, patch_there}
+use Rattle.theory_patches.specs.Trimmed.{IsOver, AreSpaced}
 use Rattle.theory_patches.proofs.SamePoints.{AreTwoCovers, exchanged}
 
 -- ---- the values at u of all cuts and sides

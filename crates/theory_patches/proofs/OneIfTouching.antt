@@ -21,7 +21,8 @@ use Rattle.theory_plane.proofs.Regions.{open_between}
 use Rattle.theory_lists.specs.Members.{Stands}
 use Rattle.theory_patches.specs.Marked.{MarkedPatch}
 use Rattle.theory_patches.specs.Sheets.{Sheet, IsSheet}
-use Rattle.theory_patches.proofs.Spaced.{IsOver, AreSpaced, IsSpacedList, patch_there}
+use Rattle.theory_patches.proofs.Spaced.{IsSpacedList, patch_there}
+use Rattle.theory_patches.specs.Trimmed.{IsOver, AreSpaced}
 
 -- the region reaches from r to t
 record ReachesOver (p : Region) (r t : Arrow) : Type 0 where

@@ -13,20 +13,9 @@ use Rattle.theory_plane.proofs.Closures.{common_from_test}
 use Rattle.theory_lists.specs.Members.{Stands}
 use Rattle.theory_patches.specs.Marked.{MarkedPatch, IsPatch}
 use Rattle.theory_patches.specs.Sheets.{Sheet, IsNoAbscissa}
-use Rattle.theory_patches.specs.Trimmed.{AreApart, HaveNoSeam, AreTrimmed, IsTrimmedList}
+use Rattle.theory_patches.specs.Trimmed.{AreApart, HaveNoSeam, IsOver, AreSpaced, AreTrimmed}
+use Rattle.theory_patches.specs.Trimmed.{IsTrimmedList}
 use Rattle.theory_lists.proofs.Members.{all_stands, one_or_two}
-
--- u lies strictly between the ends of the region
-pub record IsOver (p : Region) (u : Arrow) : Type 0 where
-  pub after : IsBelow p.low u
-  pub before : IsBelow u p.high
-
--- all that the law needs of two patches: at no u that is no abscissa and strictly inside both is
--- each lower side at most the other's upper side, and they have no seam
-pub record AreSpaced (sheet : Sheet) (p q : Region) : Type 0 where
-  pub apart : (u : Arrow) → IsRational u → IsNoAbscissa sheet u → IsOver p u → IsOver q u
-      → pos 0 ≤ℤ clearance_at p.lower q.upper u → pos 0 ≤ℤ clearance_at q.lower p.upper u → ⊥
-  pub no_seam : HaveNoSeam p q
 
 -- the same, seen from the other
 pub spaced_sym : (sheet : Sheet) (p q : Region) → AreSpaced sheet p q → AreSpaced sheet q p

@@ -1,9 +1,10 @@
 -- Worked sides, points and regions, and wrong ones that are refused.
-use Rattle.std.proofs.Common.{◌≡◌, refl, true, false, ℕ, pos, negsuc}
+use Rattle.std.proofs.Common.{◌≡◌, refl, true, false, ℕ, pos, negsuc, Less, Equal, Greater}
 use Rattle.theory_numbers.specs.Arrows.{Arrow, arrow, cross, dot}
 use Rattle.theory_numbers.specs.Rationals.{rational}
 use Rattle.theory_plane.specs.Sides.{LineSide, line, level, value_on, clearance, clearance_at}
 use Rattle.theory_plane.specs.Sides.{is_same_side}
+use Rattle.theory_plane.specs.Leads.{leads, order_on, order_past}
 use Rattle.theory_plane.specs.Points.{face_point, is_above_side, is_under_side, is_on_side}
 use Rattle.theory_plane.specs.Regions.{Region, is_region, is_inside, closures_meet, is_seam}
 
@@ -51,6 +52,32 @@ value_at_half = refl
 levels : clearance (level (pos 1)) (level (pos 3)) ≡ arrow (pos 2) (pos 0)
 unfolding clearance
 levels = refl
+
+-- ---- which line leads
+
+-- at 0, where they meet, the diagonal leads the height 0 though their values are one there
+leads_from_meeting : leads zero (level (pos 0)) diagonal ≡ true
+unfolding clearance dot
+leads_from_meeting = refl
+
+equal_at_meeting : order_on (level (pos 0)) diagonal zero ≡ Equal
+unfolding clearance dot
+equal_at_meeting = refl
+
+less_past_meeting : order_past zero (level (pos 0)) diagonal ≡ Less
+unfolding clearance dot
+less_past_meeting = refl
+
+-- before they meet, at -1, the diagonal is the lower one
+greater_before_meeting :
+    order_past (rational (negsuc 0) (pos 1)) (level (pos 0)) diagonal ≡ Greater
+unfolding clearance dot
+greater_before_meeting = refl
+
+-- two records of one line are in no order
+one_line : order_past zero diagonal (line (pos 2) (pos 2) (pos 0)) ≡ Equal
+unfolding clearance dot
+one_line = refl
 
 -- ---- points and the line 2v = u + 3
 

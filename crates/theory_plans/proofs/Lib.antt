@@ -3,9 +3,17 @@
 -- edges, and points on them
 pub mod EdgesByPlace
 pub mod DirectionsAlongAxes
+pub mod EdgesOfPlans
+pub mod StepsOfEdges
 mod OriginOnSegment
 pub mod OnEdgesAlongAxes
+-- points
+pub mod PointsAlike
+-- which loops are plans
+pub mod RaysToTheRight
+pub mod ConvexIsPlan
 -- rectangles
-pub mod RectangleIsLoop
+pub mod RectangleIsPlan
 pub mod InsideRectangle
 mod Examples
+mod ExamplePlans

@@ -1,6 +1,6 @@
 -- Which lists of points are the loops of a plan.
 
-use Rattle.std.specs.Prelude.{ℤ, pos, Bool, false, not, ◌&&◌, ◌-ℤ◌, ◌*ℤ◌, List, [], ◌∷◌, length}
+use Rattle.std.specs.Prelude.{ℤ, pos, Bool, true, false, not, ◌&&◌, ◌||◌, ◌-ℤ◌, ◌*ℤ◌, List, [], ◌∷◌, length}
 use Rattle.std.specs.Prelude.{nat_le, int_lt}
 use Rattle.std.specs.Ordering.{int_eq}
 use Rattle.std.specs.List.{list_all}
@@ -26,12 +26,22 @@ is_bent_loop [] = false
 is_bent_loop (a ∷ []) = false
 is_bent_loop (a ∷ b ∷ rest) = are_bent a b rest a b
 
--- a loop of at least three points in range, no three neighbours on one line
+-- a comes before b: it has the lesser x, or the same x and the lesser y
+abbrev pub comes_before : Point → Point → Bool
+comes_before a b = int_lt a.x b.x || (int_eq a.x b.x && int_lt a.y b.y)
+
+-- the loop begins at its least point
+abbrev pub is_least_first : List Point → Bool
+is_least_first [] = true
+is_least_first (a ∷ points) = list_all (comes_before a) points
+
+-- a loop of at least three points in range, from its least point on, no three neighbours on one
+-- line
 abbrev pub is_loop : List Point → Bool
 is_loop points =
     nat_le 3 (length points)
-    && list_all is_plan_point points
-    && is_bent_loop points
+    && (list_all is_plan_point points
+    && (is_bent_loop points && is_least_first points))
 
 -- at least one loop, and each is one
 abbrev pub are_loops : List (List Point) → Bool

@@ -7,6 +7,8 @@ use Rattle.sb_step.specs.declared.indexing.collected.Collected.{Collected}
 use Rattle.sb_step.specs.Index.Turns.{entities_of, instances_of}
 use Rattle.sb_step.specs.Index.StoredInstances.{AreStored}
 use Rattle.sb_step.specs.Index.Collects.{AreCollected}
+use Rattle.sb_step.specs.Records.SchemaReading.{with_entity, SchemaSays}
+use Rattle.sb_step.proofs.Records.OneSchema.{says_more}
 
 entities_of-more : (events : List Event) (g : Event) → entities_of (events ++ g ∷ [])
     ≡ entities_of events ++ entities_of (g ∷ [])
@@ -23,38 +25,43 @@ instances_of-more (event.Entity r ∷ events) g = instances_of-more events g
 instances_of-more (event.Instance n r ∷ events) g =
     ap (λ l. (n, r) ∷ l) (instances_of-more events g)
 
--- nothing more
-pub collected_nothing : (events : List Event) (c : Collected) → AreCollected events c
-    → AreCollected (events ++ event.Nothing ∷ []) c
-collected_nothing events c are = record {
-  header = are.header ∙ sym (append-nil (entities_of events))
-      ∙ sym (entities_of-more events event.Nothing);
-  instances = subst (λ l. AreStored l c.instances)
-      (sym (append-nil (instances_of events)) ∙ sym (instances_of-more events event.Nothing))
-      are.instances;
-}
+module _ (input : List ℕ) (events : List Event) where
+  -- nothing more
+  pub collected_nothing : (c : Collected) → AreCollected input events c
+      → AreCollected input (events ++ event.Nothing ∷ []) c
+  collected_nothing c are = record {
+    schema = subst (λ l. SchemaSays input l c.schema)
+        (sym (append-nil (entities_of events)) ∙ sym (entities_of-more events event.Nothing))
+        are.schema;
+    instances = subst (λ l. AreStored l c.instances)
+        (sym (append-nil (instances_of events)) ∙ sym (instances_of-more events event.Nothing))
+        are.instances;
+  }
 
--- an entity more
-pub collected_entity : (events : List Event) (r : Record) (old new : Collected)
-    → AreCollected events old → new.header.items ≡ old.header.items ++ r ∷ []
-    → new.instances ≡ old.instances → AreCollected (events ++ event.Entity r ∷ []) new
-collected_entity events r old new are header same = record {
-  header = header ∙ ap (λ l. l ++ r ∷ []) are.header
-      ∙ sym (entities_of-more events (event.Entity r));
-  instances = subst (λ l. AreStored l new.instances)
-      (sym (append-nil (instances_of events)) ∙ sym (instances_of-more events (event.Entity r)))
-      (subst (AreStored (instances_of events)) (sym same) are.instances);
-}
+  -- an entity more
+  pub collected_entity : (r : Record) (c : Collected) → AreCollected input events c
+      → AreCollected input (events ++ event.Entity r ∷ [])
+      (record { schema = with_entity input c.schema r; instances = c.instances })
+  collected_entity r c are = record {
+    schema = subst (λ l. SchemaSays input l (with_entity input c.schema r))
+        (sym (entities_of-more events (event.Entity r)))
+        (says_more input (entities_of events) c.schema r are.schema);
+    instances = subst (λ l. AreStored l c.instances)
+        (sym (append-nil (instances_of events)) ∙ sym (instances_of-more events (event.Entity r)))
+        are.instances;
+  }
 
--- an instance more
-pub collected_instance : (events : List Event) (n : ℕ) (r : Record) (old new : Collected)
-    → AreCollected events old → new.header ≡ old.header
-    → (AreStored (instances_of events) old.instances
-    → AreStored (instances_of events ++ (n, r) ∷ []) new.instances)
-    → AreCollected (events ++ event.Instance n r ∷ []) new
-collected_instance events n r old new are same kept = record {
-  header = ap (λ h. h.items) same ∙ are.header ∙ sym (append-nil (entities_of events))
-      ∙ sym (entities_of-more events (event.Instance n r));
-  instances = subst (λ l. AreStored l new.instances)
-      (sym (instances_of-more events (event.Instance n r))) (kept are.instances);
-}
+  -- an instance more
+  pub collected_instance : (n : ℕ) (r : Record) (old new : Collected)
+      → AreCollected input events old → new.schema ≡ old.schema
+      → (AreStored (instances_of events) old.instances
+      → AreStored (instances_of events ++ (n, r) ∷ []) new.instances)
+      → AreCollected input (events ++ event.Instance n r ∷ []) new
+  collected_instance n r old new are same kept = record {
+    schema = subst (SchemaSays input (entities_of (events ++ event.Instance n r ∷ []))) (sym same)
+        (subst (λ l. SchemaSays input l old.schema)
+        (sym (append-nil (entities_of events))
+        ∙ sym (entities_of-more events (event.Instance n r))) are.schema);
+    instances = subst (λ l. AreStored l new.instances)
+        (sym (instances_of-more events (event.Instance n r))) (kept are.instances);
+  }

@@ -5,16 +5,13 @@ use Rattle.sb_lex.specs.declared.kinds.BadToken.{BadToken}
 use Rattle.sb_lex.specs.Tokens.{IsNext, IsEnd, IsBadFrom, AreTokensFrom, AreTokens, TokensFollowEachPlace}
 use Rattle.sb_step.specs.declared.error.StepError.{StepError}
 use Rattle.sb_step.specs.declared.error.StepError.TheVariants as step_error
-use Rattle.sb_step.specs.declared.indexing.states.Event.{Event}
 use Rattle.sb_step.specs.declared.indexing.collected.Collected.{Collected}
 use Rattle.sb_step.specs.Lexemes.{lexeme_at, lexemes}
-use Rattle.sb_step.specs.Faults.{IsFile, IsFaultAt}
-use Rattle.sb_step.specs.Numbers.{numbers_of, AreApart, IsGreatest}
+use Rattle.sb_step.specs.Faults.{IsFaultAt}
 use Rattle.sb_step.specs.IndexAnswers.{IsAnswer}
-use Rattle.sb_step.specs.Index.Turns.{State, next_turn, start, end_of, file_of, instances_of, Ran, run}
-use Rattle.sb_step.specs.Index.StoredInstances.{IsDoubled, NumbersAreStored}
+use Rattle.sb_step.specs.Index.Turns.{State, next_turn, start, end_of, file_of, Ran, run}
 use Rattle.sb_step.specs.Index.Collects.{AreCollected}
-use Rattle.sb_step.specs.Index.Progress.{TokensTo, Progress, Accepted, Accepts, by_doubled, finished}
+use Rattle.sb_step.specs.Index.Progress.{TokensTo, Progress, Accepted, Accepts, IsRead}
 use Rattle.sb_step.proofs.Texts.TextsEnd.{ends_text, runs_begin}
 use Rattle.sb_step.proofs.Texts.OneFileOrOneFault.{goes_on, stops, no_end, lexemes-more}
 
@@ -37,7 +34,8 @@ to_more input from to (u ∷ before) t so_far next =
     (so_far.0, to_more input u.end to before t so_far.1 next)
 
 -- before the first token
-pub nothing_read : (input : List ℕ) (c : Collected) → AreCollected [] c → Progress input 0 start c
+pub nothing_read : (input : List ℕ) (c : Collected) → AreCollected input [] c
+    → Progress input 0 start c
 nothing_read input c empty = record {
   before = [];
   events = [];
@@ -49,7 +47,7 @@ nothing_read input c empty = record {
 -- a token was accepted
 pub one_more : (input : List ℕ) (place : ℕ) (t : Token) (s u : State) (c d : Collected)
     → Progress input place s c → IsNext input place t
-    → Accepted s u (lexeme_at input t) c d → Progress input t.end u d
+    → Accepted input s u (lexeme_at input t) c d → Progress input t.end u d
 one_more input place t s u c d p next a = record {
   before = p.before ++ t ∷ [];
   events = p.events ++ a.event ∷ [];
@@ -93,39 +91,8 @@ fault_at_bad input place bad s c p is = record {
 
 -- the end of the input
 
--- the file of what was found, whose instances are in the map only if their numbers are apart
-stored_answers : (input : List ℕ) (c : Collected) (events : List Event) (k : ℕ) (doubled : Option ℕ)
-    → c.instances.doubled ≡ doubled → AreCollected events c → IsFile input (file_of events k)
-    → IsAnswer input (by_doubled doubled (record {
-      input = input;
-      file = record {
-        header = c.header.items;
-        instances = c.instances.records.entries;
-        data_end = k;
-      };
-    }))
-stored_answers input c events k (Some n) was are is = record {
-  file = file_of events k;
-  is = is;
-  least = subst (λ d. IsDoubled d (instances_of events)) was are.instances.doubled;
-}
-stored_answers input c events k None was are is =
-    let apart = subst (λ d. IsDoubled d (instances_of events)) was are.instances.doubled in
-    let entries = are.instances.entries was in
-    record {
-      input_is = refl;
-      file = subst (IsFile input)
-          (λ i. record {
-            header = sym are.header i;
-            instances = sym entries i;
-            data_end = k;
-          }) is;
-      apart = subst AreApart (sym entries) apart;
-    }
-
 end_answers : (input : List ℕ) (place : ℕ) (s : State) (c : Collected) (end : Option ℕ)
-    → end_of s ≡ end → Progress input place s c → IsEnd input place
-    → IsAnswer input (finished input end c)
+    → end_of s ≡ end → Progress input place s c → IsEnd input place → IsRead input end c
 end_answers input place s c None none p ends = record {
   before = p.before;
   after = [];
@@ -135,37 +102,30 @@ end_answers input place s c None none p ends = record {
   begins = runs_begin (lexemes input p.before) (record { state = s; events = p.events }) p.reads;
   refused = no_end (lexemes input p.before) (record { state = s; events = p.events }) p.reads none;
 }
-end_answers input place s c (Some k) ended p ends =
-    stored_answers input c p.events k c.instances.doubled refl p.collected (record {
-      tokens = p.before;
-      are = subst (λ ts. AreTokens input ts None) (append-nil p.before)
-          (to_all input 0 place p.before [] None p.tokens ends);
-      text = ends_text (lexemes input p.before) (record { state = s; events = p.events }) k
-          p.reads ended;
-    })
+end_answers input place s c (Some k) ended p ends = record {
+  file = file_of p.events k;
+  is = record {
+    tokens = p.before;
+    are = subst (λ ts. AreTokens input ts None) (append-nil p.before)
+        (to_all input 0 place p.before [] None p.tokens ends);
+    text = ends_text (lexemes input p.before) (record { state = s; events = p.events }) k
+        p.reads ended;
+  };
+  ends = refl;
+  schema = p.collected.schema;
+  instances = p.collected.instances;
+}
 
--- the numbers are those of the map, as long as none was used twice
-pub numbers_at_end : (input : List ℕ) (place : ℕ) (s : State) (c : Collected)
-    → Progress input place s c → NumbersAreStored c.instances
-numbers_at_end input place s c p =
-    let kept = p.collected.instances in
-    record {
-      numbers = λ apart. kept.numbers ∙ sym (ap numbers_of (kept.entries apart));
-      greatest =
-          λ apart. subst (IsGreatest c.instances.greatest) (sym (kept.entries apart)) kept.greatest;
-    }
-
--- what is answered there is so
-pub answer_at_end : (input : List ℕ) (place : ℕ) (s : State) (c : Collected)
-    → Progress input place s c → IsEnd input place
-    → IsAnswer input (finished input (end_of s) c)
-answer_at_end input place s c p ends = end_answers input place s c (end_of s) refl p ends
+-- what was read there is so
+pub read_at_end : (input : List ℕ) (place : ℕ) (s : State) (c : Collected)
+    → Progress input place s c → IsEnd input place → IsRead input (end_of s) c
+read_at_end input place s c p ends = end_answers input place s c (end_of s) refl p ends
 
 -- what is answered where a token was not accepted
 pub error_answers : TokensFollowEachPlace
     → (input : List ℕ) (place : ℕ) (t : Token) (s u : State) (c d : Collected)
     (error : StepError) → Progress input place s c → IsNext input place t
-    → Accepts s u (lexeme_at input t) c d (Err error) → IsAnswer input (Err error)
+    → Accepts input s u (lexeme_at input t) c d (Err error) → IsAnswer input (Err error)
 error_answers follow input place t s u c d (step_error.Syntax k) p next says =
     subst (IsFaultAt input) (sym says.0) (fault_at_token follow input place t s c p next says.1)
 error_answers follow input place t s u c d (step_error.Duplicate n) p next says = absurd says

@@ -8,6 +8,7 @@ use Rattle.theory_bytes.specs.Sets.{Repeated}
 use Rattle.sb_lex.specs.Kinds.{StringPiece}
 use Rattle.sb_step.specs.Params.Parameters.{written, doubled}
 
+-- joined texts are doubled one by one
 pub doubled-append : (s t : List ℕ) → doubled (s ++ t) ≡ doubled s ++ doubled t
 doubled-append [] t = refl
 doubled-append (b ∷ s) t =
@@ -30,6 +31,7 @@ written_head b rest c more same = by_case (b == apostrophe) same
 
 module _ (bytes single : List ℕ) (at : ℕ) (h : HalfRead bytes single at)
     (within : at < length bytes) where
+  -- the byte at the place
   abbrev pub byte : ℕ
   byte = get_or bytes at 0
 
@@ -119,6 +121,7 @@ written_begins b rest = by_case (b == apostrophe)
     by_case true = refl
     by_case false = refl
 
+-- two texts that are doubled alike are one
 pub doubled_once : (s t : List ℕ) → doubled s ≡ doubled t → s ≡ t
 doubled_once [] [] same = refl
 doubled_once [] (c ∷ t) same = absurd (empty_is_none c t same)

@@ -22,6 +22,7 @@ written_list =
     ∷ keyword_of (codes "A") ∷ mark_of mark.Open ∷ lexeme_of (kind.Name 2) (codes "#2")
     ∷ mark_of mark.Close ∷ mark_of mark.Close ∷ []
 
+-- what it says
 abbrev pub its_parameters : List Param
 its_parameters =
     param.Int (codes "1") ∷ param.Str (codes "it's") ∷ param.List []

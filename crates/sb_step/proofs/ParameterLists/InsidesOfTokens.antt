@@ -1,6 +1,6 @@
 -- What the inside of a string, an enumeration or a binary says is what its token says.
 use Rattle.std.proofs.Common.{◌≡◌, ℕ, ◌≤◌, List, [], ◌∷◌, ◌++◌, length, refl, sym, ap, ◌∙◌, subst, length-append, arith}
-use Rattle.std.specs.Prelude.{codes, slice_range}
+use Rattle.std.specs.Prelude.{slice_range}
 use Rattle.sb_lex.specs.Bytes as byte
 use Rattle.sb_lex.specs.declared.kinds.Token.{Token}
 use Rattle.sb_lex.specs.declared.kinds.Kind.{Kind}
@@ -26,6 +26,7 @@ pub record IsEnclosed (q : ℕ) (P : List ℕ → Type 0) (text : List ℕ) : Ty
   pub whole : Encloses (q ∷ []) (inside_of text) text
   pub is : P (inside_of text)
 
+-- an inside between two equal bytes
 pub enclosed : (q : ℕ) (P : List ℕ → Type 0) (text : List ℕ)
     → (Text (q ∷ []) ⋅ P ⋅ Text (q ∷ [])) text → IsEnclosed q P text
 enclosed q P text t =

@@ -145,6 +145,7 @@ module _ (bytes : List ℕ) (entry now : Reading) (items : List Param) (t : Toke
             (item_more going xs rest ahead in_list);
       }
 
+      -- there are fewer bytes left than before
       pub less_left : length bytes - c.place < length bytes - now.place
       less_left =
           let within : c.place ≤ length bytes = subst (λ i. c.place ≤ length i) b_is next.within in
@@ -169,6 +170,7 @@ module _ (bytes : List ℕ) (entry now : Reading) (items : List Param) (t : Toke
           let none = parameter_closes_none j.middle (lexeme_at bytes t) ys (parameter_on j.first) in
           absurd (false≢true (sym none ∙ closed))
 
+  -- where the token closes the list, all of it was read
   pub list_ends : is_close t.kind ≡ true → CarriesOver InList (AreInList items) entry now
   list_ends closed = record {
     onward = record {

@@ -23,6 +23,7 @@ pub record FirstPassed (a b : Reading) (t : Token) (x : Lexeme) (xs : List Lexem
   pub ahead : AreAhead b xs
 
 module _ (a b : Reading) (t : Token) (read : ReadsToken a b t) where
+  -- the token was the first of the lexemes ahead
   pub passes : (x : Lexeme) (xs : List Lexeme) → AreAhead a (x ∷ xs) → FirstPassed a b t x xs
   passes x xs ahead =
       let same = read.only x.token ahead.0 in
@@ -32,15 +33,19 @@ module _ (a b : Reading) (t : Token) (read : ReadsToken a b t) where
             (subst (λ u. AreAhead (behind a.input u) xs) same ahead.2);
       }
 
+  -- the input is the same
   pub input_stays : b.input ≡ a.input
   input_stays = ap (λ r. r.input) read.moved
 
+  -- the reader is behind the token
   pub place_is : b.place ≡ t.end
   place_is = ap (λ r. r.place) read.moved
 
+  -- it has moved on
   pub goes_further : a.place < b.place
   goes_further = omega (arith, place_is, read.lies.behind, read.lies.some)
 
+  -- it is in the input
   pub stays_within : b.place ≤ length a.input
   stays_within = omega (arith, place_is, read.lies.within)
 
@@ -87,6 +92,7 @@ module _ (a b : Reading) (t : Token) (read : ReadsToken a b t) where
       let p = passes a b t read x xs ahead in
       parameter_has_next b xs m.1.middle p.ahead m.1.first
 
+  -- behind a comma there is a token
   pub comma_has_next : is_comma t.kind ≡ true → Awaits MoreParameters a → HasNext b
   comma_has_next comma w = behind_comma w.xs w.rest comma w.ahead (more_on w.is)
 
@@ -118,6 +124,7 @@ module _ (a b : Reading) (t : Token) (read : ReadsToken a b t) where
           (parameter_on (said_parameter in_list.first)) in
           absurd (false≢true (sym none ∙ ap is_close cy))
 
+  -- where there is no comma the list ends
   pub reads_last : is_comma t.kind ≡ false → ReadsItem a b t
   reads_last none = record {
     input_is = input_stays a b t read;
@@ -168,6 +175,7 @@ module _ (a b c : Reading) (t u : Token) (read : ReadsToken a b t) (then : Reads
       let p = passes a b t read x xs ahead in
       second_item x xs m.1.middle rest m.0 p.ahead m.1.first m.1.second
 
+  -- behind a comma the next parameter begins
   pub reads_further : is_comma t.kind ≡ true → ReadsItem a c u
   reads_further comma =
       let input = input_stays a b t read in

@@ -59,15 +59,18 @@ pub record SaysTyped (x : Lexeme) (p : Param) (rest : List Lexeme) (y : Lexeme)
   pub is : p ≡ param.Typed x.text inner
   pub says : IsParameter inner ys (close_mark ∷ rest)
 
+-- what a keyword goes on with, where it says this parameter
 abbrev pub TypedSays : Lexeme → Param → List Lexeme → List Lexeme → Type 0
 TypedSays x p rest [] = ⊥
 TypedSays x p rest (y ∷ ys) = SaysTyped x p rest y ys
 
+-- what a parameter goes on with behind its first lexeme
 abbrev pub SaysOn : Param → List Lexeme → List Lexeme → Type 0
 SaysOn p rest [] = ⊥
 SaysOn p rest (x ∷ xs) = (Says x.token.kind x.text p × (rest ≡ xs))
     ⊎ ((IsMark mark.Open x × SaysList p rest xs) ⊎ (IsKeyword x × TypedSays x p rest xs))
 
+-- what a list goes on with behind its parenthesis
 abbrev pub ListSaysOn : List Param → List Lexeme → List Lexeme → Type 0
 ListSaysOn ps rest [] = ⊥
 ListSaysOn ps rest (x ∷ xs) = IsMark mark.Open x × AreInList ps xs rest
@@ -79,11 +82,13 @@ pub record SaysFurther (ps : List Param) (rest xs : List Lexeme) : Type 0 where
   pub is : ps ≡ first ∷ others
   pub says : AreInList (first ∷ others) xs rest
 
+-- what follows a parameter of a list
 abbrev pub FurtherOn : List Param → List Lexeme → List Lexeme → Type 0
 FurtherOn ps rest [] = ⊥
 FurtherOn ps rest (x ∷ xs) = (IsMark mark.Close x × (ps ≡ []) × (rest ≡ xs))
     ⊎ (IsMark mark.Comma x × SaysFurther ps rest xs)
 
+-- a list goes on so
 pub list_says_on : {ps : List Param} {xs rest : List Lexeme} → AreParameters ps xs rest
     → ListSaysOn ps rest xs
 list_says_on (empty o c) = (o, (c, refl))
@@ -95,6 +100,7 @@ parameter_is_list ps [] rest on = on
 parameter_is_list ps (x ∷ xs) rest on =
     inr (inl (on.0, record { items = ps; is = refl; says = on.1 }))
 
+-- a parameter goes on so
 pub says_on : {p : Param} {xs rest : List Lexeme} → IsParameter p xs rest → SaysOn p rest xs
 says_on (value says) = inl (says, refl)
 says_on (list {ps = ps} {xs = xs} {rest = rest} l) = parameter_is_list ps xs rest (list_says_on l)
@@ -150,6 +156,7 @@ opened_list (some {open_mark = x} o p m) q other (inr (inr t)) =
     absurd (mark_is_no_keyword x o t.0)
 
 mutual
+  -- a parameter says one thing
   pub parameter_once : {p : Param} {xs rest : List Lexeme} → IsParameter p xs rest
       → (q : Param) (other : List Lexeme) → SaysOn q other xs → (p ≡ q) × (rest ≡ other)
   parameter_once (value {p = p} {x = x} says) q other (inl v) =
@@ -172,6 +179,7 @@ mutual
       let tails : c ∷ rest ≡ t.1.close_mark ∷ other = once.1 in
       (ap (λ inner. param.Typed x.text inner) once.0 ∙ sym t.1.is, cc)
 
+  -- a list says one list of parameters, and ends at one place
   pub list_once : {ps : List Param} {xs rest : List Lexeme} → AreParameters ps xs rest
       → (qs : List Param) (other : List Lexeme) → ListSaysOn qs other xs
       → (ps ≡ qs) × (rest ≡ other)

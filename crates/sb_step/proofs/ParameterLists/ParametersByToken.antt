@@ -25,6 +25,7 @@ list_on_mark x xs rest o (inr (inl l)) = l.1
 list_on_mark x xs rest o (inr (inr t)) =
     absurd (false≢true (sym (ap is_keyword o) ∙ ap is_keyword t.0))
 
+-- behind a parenthesis a list is awaited
 pub list_awaited : (at : Reading) (x : Lexeme) → IsMark mark.Open x
     → Awaits (Behind x Parameter) at → Awaits InList at
 list_awaited at x o w = record {
@@ -34,6 +35,7 @@ list_awaited at x o w = record {
   is = list_on_mark x w.xs w.rest o (parameter_on w.is);
 }
 
+-- what it says is said with its parenthesis
 pub said_behind : (x : Lexeme) (ps : List Param) (xs rest : List Lexeme) → IsMark mark.Open x
     → AreInList ps xs rest → AreParameters ps (x ∷ xs) rest
 said_behind x [] [] rest o says = absurd says
@@ -41,6 +43,7 @@ said_behind x [] (y ∷ xs) rest o says =
     subst (λ r. AreParameters [] (x ∷ y ∷ xs) r) (sym says.1) (empty o says.0)
 said_behind x (p ∷ ps) xs rest o says = some o says.first says.second
 
+-- and so it is read
 pub reads_list : (a b : Reading) (x : Lexeme) (ps : List Param) → IsMark mark.Open x
     → CarriesOver InList (AreInList ps) a b
     → CarriesOver (Behind x Parameter) (Behind x (IsParameter (param.List ps))) a b
@@ -53,6 +56,7 @@ reads_list a b x ps o r = record {
 
 -- a value
 
+-- what is no keyword and no parenthesis is a value
 pub is_a_value : (at : Reading) (x : Lexeme) → is_keyword x.token.kind ≡ false
     → is_open x.token.kind ≡ false → Awaits (Behind x Parameter) at
     → is_value x.token.kind ≡ true
@@ -63,6 +67,7 @@ is_a_value at x no_keyword no_list w = by_case (parameter_on w.is)
     by_case (inr (inl l)) = absurd (false≢true (sym no_list ∙ ap is_open l.0))
     by_case (inr (inr t)) = absurd (false≢true (sym no_keyword ∙ ap is_keyword t.0))
 
+-- a value is read by its token alone
 pub reads_value : (at : Reading) (x : Lexeme) (p : Param) → is_keyword x.token.kind ≡ false
     → is_open x.token.kind ≡ false → Says x.token.kind x.text p
     → CarriesOver (Behind x Parameter) (Behind x (IsParameter p)) at at
@@ -109,6 +114,7 @@ module _ (bytes : List ℕ) (x : Lexeme) (keyword : IsKeyword x) (a : Reading)
       (λ rest p. typed_on_keyword x [] rest keyword (parameter_on p)) a w
 
   module _ (b : Reading) (opening : Token) (opens : ReadsToken a b opening) where
+    -- behind its parenthesis there is a token
     pub first_next : Awaits (Behind x Parameter) a → HasNext b
     first_next w =
         by_first w.xs w.ahead (typed_on_keyword x w.xs w.rest keyword (parameter_on w.is))
@@ -153,18 +159,22 @@ module _ (bytes : List ℕ) (x : Lexeme) (keyword : IsKeyword x) (a : Reading)
       at_inner xs rest ahead p =
           at_inner_by xs rest ahead (typed_on_keyword x xs rest keyword (parameter_on p))
 
+      -- the input is still the same
       pub c_is : c.input ≡ bytes
       c_is = input_stays b c start first ∙ b_is
 
+      -- the second token is one of it
       pub first_is : IsToken bytes start
       first_is = subst (λ i. IsToken i start) b_is first.next.token
 
+      -- there are fewer bytes left
       pub less_left : 2 * (length bytes - c.place) + 1 < 2 * (length bytes - a.place)
       less_left =
           let within : c.place ≤ length bytes =
           subst (λ i. c.place ≤ length i) b_is (stays_within b c start first) in
           omega (arith, within, goes_further a b opening opens, goes_further b c start first)
 
+      -- the inner parameter is awaited
       pub inner_awaited : Awaits (Behind x Parameter) a
           → Awaits (Behind (lexeme_at bytes start) Parameter) c
       inner_awaited w =
@@ -174,6 +184,7 @@ module _ (bytes : List ℕ) (x : Lexeme) (keyword : IsKeyword x) (a : Reading)
       module _ (d : Reading) (p : Param) (inner : CarriesOver (Behind
           (lexeme_at bytes start) Parameter)
           (Behind (lexeme_at bytes start) (IsParameter p)) c d) where
+        -- behind it there is a token
         pub closes_next : Awaits (Behind x Parameter) a → HasNext d
         closes_next w =
             let i = at_inner w.xs w.rest w.ahead w.is in
@@ -191,6 +202,7 @@ module _ (bytes : List ℕ) (x : Lexeme) (keyword : IsKeyword x) (a : Reading)
                 (passes d e closing closes i.close_mark rest l.1).ahead,
               )
 
+          -- and so a keyword with its parameter is read
           pub reads_typed : (name : List ℕ) (boxed : Param) → name ≡ x.text → boxed ≡ p
               → CarriesOver (Behind x Parameter) (Behind x (IsParameter
               (param.Typed name boxed))) a e

@@ -61,6 +61,7 @@ record SomeParameter (xs rest : List Lexeme) : Type 0 where
   at : Reading
   ahead : AreAhead at rest
 
+-- parameters of a list, and a reader behind it
 pub record SomeParameters (xs rest : List Lexeme) : Type 0 where
   pub ps : List Param
   pub are : AreParameters ps xs rest
@@ -97,6 +98,7 @@ mutual
         ahead = s.ahead.2;
       }
 
+  -- each list says some
   pub list_says : {xs rest : List Lexeme} → ParameterList xs rest → (at : Reading)
       → AreAhead at xs → SomeParameters xs rest
   list_says (none {close_mark = z} o c) at ahead = record {

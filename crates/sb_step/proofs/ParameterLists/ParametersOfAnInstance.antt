@@ -31,6 +31,7 @@ pub list_has_first : (a : Reading) → Awaits ParameterList a → HasNext a
 list_has_first a w = awaits_token ParameterList (λ rest l. list_on l) a w
 
 module _ (a b : Reading) (t : Token) (read : ReadsToken a b t) where
+  -- behind the parenthesis the list goes on
   pub behind_parenthesis : Awaits ParameterList a → Awaits InList b
   behind_parenthesis w = by_first w.xs (list_on w.is) w.ahead
     where
@@ -43,6 +44,7 @@ module _ (a b : Reading) (t : Token) (read : ReadsToken a b t) where
         is = on.1;
       }
 
+  -- and what was read there is what the list says
   pub list_said : (c : Reading) (ps : List Param) → CarriesOver InList (AreInList ps) b c
       → (xs rest : List Lexeme) → AreAhead a xs → ParameterList xs rest → AreParameters ps xs rest
   list_said c ps reads xs rest ahead l = by_first xs (list_on l) ahead
@@ -201,6 +203,7 @@ has_once one_list indexed n ps qs h k =
 
 -- the answer
 
+-- the answer for an instance that was found
 pub params_answered : (indexed : Indexed) (is : IsFile indexed.input indexed.file) (n : ℕ)
     (r : Record) (found : lookup (nat_eq n) indexed.file.instances ≡ Some r)
     (answer : Result (List Param) ParamsError) → Gives (SaysByForm indexed.input r.form) answer
@@ -213,6 +216,7 @@ params_answered indexed is n r found (Ok ps) gives = record {
 params_answered indexed is n r found (Err (params_error.Missing m)) gives = absurd gives
 params_answered indexed is n r found (Err params_error.NoMemory) gives = tt
 
+-- the parameters are answered exactly where the instance has them
 pub parameters_pinned : ParametersAreUnique
     → (indexed : Indexed) (n : ℕ) (answer : Result (List Param) ParamsError)
     → IsParamsAnswer indexed n answer → (ps : List Param) → HasMemory answer

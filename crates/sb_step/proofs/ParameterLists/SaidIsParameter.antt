@@ -27,17 +27,20 @@ says_value (kind.Mark mark.Asterisk) text p says = refl
 says_value _ text p says = absurd says
 
 mutual
+  -- what says a parameter is one
   pub said_parameter : {p : Param} {xs rest : List Lexeme} → IsParameter p xs rest
       → Parameter xs rest
   said_parameter (value {p = p} {x = x} says) = one (says_value x.token.kind x.text p says)
   said_parameter (list l) = nested (said_list l)
   said_parameter (typed k o p c) = named k o (said_parameter p) c
 
+  -- what says parameters is a list
   pub said_list : {ps : List Param} {xs rest : List Lexeme} → AreParameters ps xs rest
       → ParameterList xs rest
   said_list (empty o c) = none o c
   said_list (some o p m) = few o (said_parameter p) (said_further m)
 
+  -- what says further ones goes on with the list
   pub said_further : {ps : List Param} {xs rest : List Lexeme} → AreFurther ps xs rest
       → MoreParameters xs rest
   said_further (last c) = end c

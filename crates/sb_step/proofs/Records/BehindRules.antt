@@ -27,10 +27,12 @@ pub record ItemPlace {A : Type 0} (Holds : List Lexeme → Type 0) (P : A
   pub holds : Holds at
 
 module _ (Holds : List Lexeme → Type 0) (tail : HoldsOfTails Holds) where
+  -- behind one lexeme
   pub one_leaves : (P : Lexeme → Type 0) → Leaves Holds (One P)
   one_leaves P [] rest one h = absurd one
   one_leaves P (x ∷ xs) rest one h = subst Holds (sym one.1) (tail x xs h)
 
+  -- behind one rule and another
   pub joined_leaves : (P Q : Rule) → Leaves Holds P → Leaves Holds Q → Leaves Holds (P ⋅ Q)
   joined_leaves P Q p q xs rest j h = q j.middle rest j.second (p xs j.middle j.first h)
 
@@ -40,6 +42,7 @@ module _ (Holds : List Lexeme → Type 0) (tail : HoldsOfTails Holds) where
     parameter_leaves (list l) h = list_leaves l h
     parameter_leaves (typed k o p c) h = tail _ _ (parameter_leaves p (tail _ _ (tail _ _ h)))
 
+    -- behind a parameter list
     pub list_leaves : {xs rest : List Lexeme} → ParameterList xs rest → Holds xs → Holds rest
     list_leaves (empty o c) h = tail _ _ (tail _ _ h)
     list_leaves (some o p m) h = more_leaves m (parameter_leaves p (tail _ _ h))
@@ -60,6 +63,7 @@ module _ (Holds : List Lexeme → Type 0) (tail : HoldsOfTails Holds) where
   inner_leaves : Leaves Holds InnerRecord
   inner_leaves = joined_leaves _ ParameterList (one_leaves _) lists_leave
 
+  -- behind a simple record
   pub simple_leaves : (r : Record) → Leaves Holds (IsSimple r)
   simple_leaves r =
       joined_leaves _ _ (one_leaves _) (joined_leaves ParameterList _ lists_leave (one_leaves _))
@@ -74,6 +78,7 @@ module _ (Holds : List Lexeme → Type 0) (tail : HoldsOfTails Holds) where
   record_leaves r xs rest (inl s) h = simple_leaves r xs rest s h
   record_leaves r xs rest (inr c) h = complex_leaves r xs rest c h
 
+  -- behind an instance
   pub instance_leaves : (i : ℕ × Record) → Leaves Holds (IsInstance i)
   instance_leaves i =
       joined_leaves _ _ (one_leaves _) (joined_leaves _ (IsRecord i.1) (one_leaves _)
@@ -128,6 +133,7 @@ module _ (Holds : List Lexeme → Type 0) (tail : HoldsOfTails Holds) where
     pub instances : Each IsInstance f.instances instances_at instances_rest
     pub instances_hold : Holds instances_at
 
+  -- they begin so
   pub parts_of : (f : File) (xs : List Lexeme) → Sections f xs [] → Holds xs → Parts f
   parts_of f xs s h =
       let begin_semicolon = s.second in

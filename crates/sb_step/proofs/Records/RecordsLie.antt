@@ -21,6 +21,7 @@ pub record LexemeLies (size : ℕ) (x : Lexeme) : Type 0 where
   pub ordered : x.token.start ≤ x.token.end
   pub within : x.token.end ≤ size
 
+-- all of these do
 abbrev pub AllLie : ℕ → List Lexeme → Type 0
 AllLie size xs = AllByRecursion (LexemeLies size) xs
 

@@ -19,10 +19,10 @@ use Rattle.sb_step.specs.Rules.{One, ◌⋅◌}
 use Rattle.sb_step.specs.Grammar.{File}
 use Rattle.sb_step.specs.Indexed.{Indexed}
 use Rattle.sb_step.specs.Records.Schema.{is_schema, IsString, OneString, HasOneString, IsSchema, HasNoSchema}
-use Rattle.sb_step.specs.Records.SchemaReading.{only_of, first_of, behind_first, opens, closes, both_open, both_close, inside_of, inside, text_in}
+use Rattle.sb_step.specs.Records.SchemaReading.{first_of, behind_first, opens, closes, both_open, both_close, inside_of, inside, text_in}
 use Rattle.sb_step.specs.Faults.{IsFile}
-use Rattle.sb_step.proofs.Records.OnlyOnePasses.{passes_among, only_of-says}
-use Rattle.sb_step.proofs.KindsSay.{open_says, close_says, choice}
+use Rattle.sb_step.proofs.Records.OnlyOnePasses.{passes_among}
+use Rattle.sb_step.proofs.KindsSay.{mark_says, choice}
 use Rattle.sb_step.proofs.Records.RecordsStand.{entity_stands, tokens_behind, reads_on}
 
 -- between two apostrophes
@@ -70,12 +70,12 @@ module _ (input : List ℕ) where
   opens_one : (tokens : List Token) → opens (first_of tokens) ≡ true
       → One (IsMark mark.Open) (lexemes input tokens) (lexemes input (behind_first tokens))
   opens_one [] e = absurd (false≢true e)
-  opens_one (t ∷ later) e = (open_says t.kind e, refl)
+  opens_one (t ∷ later) e = (mark_says mark.Open t.kind e, refl)
 
   closes_one : (tokens : List Token) → closes (first_of tokens) ≡ true
       → One (IsMark mark.Close) (lexemes input tokens) (lexemes input (behind_first tokens))
   closes_one [] e = absurd (false≢true e)
-  closes_one (t ∷ later) e = (close_says t.kind e, refl)
+  closes_one (t ∷ later) e = (mark_says mark.Close t.kind e, refl)
 
   string_one : (text : List ℕ) (tokens : List Token) → AreSome tokens
       → inside input (first_of tokens) ≡ Some text
@@ -179,14 +179,6 @@ module _ (input : List ℕ) where
 
 -- the schema
 
--- the one that is found is the only one
-pub only_found : (input : List ℕ) (header entities : List Record) (found : Option Record)
-    (r : Record) → found ≡ only_of (filter (is_schema input) entities) → found ≡ Some r
-    → entities ≡ header → filter (is_schema input) header ≡ r ∷ []
-only_found input header entities found r is was same =
-    subst (λ l. filter (is_schema input) l ≡ r ∷ []) same
-    (only_of-says (filter (is_schema input) entities) r (sym is ∙ was))
-
 -- the keyword of the only one ends in the input
 pub entity_reads_on : (input : List ℕ) (file : File) → IsFile input file → (r : Record) (end : ℕ)
     → filter (is_schema input) file.header ≡ r ∷ [] → r.form ≡ form.Simple end
@@ -245,6 +237,7 @@ module _ (indexed : Indexed) (is : IsFile indexed.input indexed.file) (r : Recor
       let one = subst (λ e. HasOneString indexed.input e text) same h.string in
       stands_as_found one.before one.from one.rest one.are one.stands
 
+  -- a text is found exactly where it is the schema
   pub found_exactly : (found ≡ Some text) ↔ IsSchema indexed text
   found_exactly = (found_is_schema, schema_is_found)
 

@@ -59,15 +59,19 @@ Wanted (f ∷ fs) want.Open K xs =
 abbrev pub no_more : ℕ → File
 no_more k = record { header = []; instances = []; data_end = k }
 
+-- nothing is still to come
 abbrev pub AtEnd : Rest
 AtEnd xs = xs ≡ []
 
+-- the last semicolon
 abbrev pub AtLastSemicolon : Rest
 AtLastSemicolon = Then (IsMark mark.Semicolon) AtEnd
 
+-- the last word
 abbrev pub AtLastWord : Rest
 AtLastWord = Then (IsWord word.Last) AtLastSemicolon
 
+-- the semicolon behind the end of the data
 abbrev pub AtEndSemicolon : Rest
 AtEndSemicolon = Then (IsMark mark.Semicolon) AtLastWord
 
@@ -83,15 +87,19 @@ AtSimple r K = Then (BeginsSimple r) (After ParameterList (AtRecordEnd r K))
 abbrev pub AtNextRecord : Record → Rest → Rest
 AtNextRecord r K = After (Many InnerRecord) (Then (IsMark mark.Close) (AtRecordEnd r K))
 
+-- the first record within a complex one
 abbrev pub AtFirstRecord : Record → Rest → Rest
 AtFirstRecord r K = Then IsKeyword (After ParameterList (AtNextRecord r K))
 
+-- a complex record
 abbrev pub AtComplex : Record → Rest → Rest
 AtComplex r K = Then (BeginsComplex r) (AtFirstRecord r K)
 
+-- a record
 abbrev pub AtBody : Record → Rest → Rest
 AtBody r K xs = AtSimple r K xs ⊎ AtComplex r K xs
 
+-- `=` and a record
 abbrev pub AtEquals : Record → Rest → Rest
 AtEquals r K = Then (IsMark mark.Equals) (AtBody r K)
 
@@ -112,6 +120,7 @@ AtInstance i K = Then (IsName i.0) (AtEquals i.1 K)
 abbrev pub AtInstances : List (ℕ × Record) → ℕ → Rest
 AtInstances instances k = AtEach AtInstance instances (AtEndOfData k)
 
+-- the data
 abbrev pub AtData : List (ℕ × Record) → ℕ → Rest
 AtData instances k =
     Then (IsThe (codes "DATA")) (Then (IsMark mark.Semicolon) (AtInstances instances k))

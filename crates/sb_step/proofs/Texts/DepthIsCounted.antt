@@ -16,10 +16,10 @@ use Rattle.sb_step.specs.declared.indexing.states.Want.TheVariants as want
 use Rattle.sb_step.specs.declared.indexing.states.Move.{Move}
 use Rattle.sb_step.specs.Lexemes.{Lexeme, is_value, is_open, is_close}
 use Rattle.sb_step.specs.KindTests.{is_semicolon, is_comma, is_equals, is_first, is_last, is_keyword, number_of, is_the}
-use Rattle.sb_step.specs.Index.SectionMoves.{section_move}
+use Rattle.sb_step.specs.Index.SectionMoves.{only, section_move}
 use Rattle.sb_step.specs.Index.ListMoves.{Nest, parameter, comma, shut, by_want}
 use Rattle.sb_step.specs.Index.Turns.{plain, begun, State, Turn, is_complex, room_of, turn_section, turn_list, next_turn, next_turn_at}
-use Rattle.sb_step.proofs.KindsSay.{open_says, close_says, semicolon_says, comma_says, equals_says, first_says, last_says, keyword_says, number_says, the_says, choice}
+use Rattle.sb_step.proofs.KindsSay.{mark_says, first_says, last_says, keyword_says, number_says, the_says, choice}
 use Rattle.sb_step.proofs.Texts.TurnsByTest.{turn_of, only_gives, either_gives, named_gives}
 
 -- one parenthesis more, or none
@@ -60,97 +60,110 @@ counts_at before after k q same counts = subst (λ r. Counts before r after) (sy
 
 -- outside of parameter lists
 
+-- the count goes on to that of the turn
 abbrev pub CountsTurn : Section → Kind → Turn → Type 0
 CountsTurn o k t = Counts (depth_without o + 0) k (depth t.state)
 
 name_counts : (n : ℕ) (k : Kind) → number_of k ≡ Some n → Counts 0 k 0
 name_counts n k named = counts_at 0 0 k (kind.Name n) (number_says k n named) refl
 
+-- the count goes on by a kind that passes its test
+module _ (o : Section) (x : Lexeme) (turn : Turn) where
+  kind_counts : (test : Bool) (q : Kind) (m : Move) → (test ≡ true → x.token.kind ≡ q)
+      → Counts (depth_without o + 0) q (depth (turn_of m).state)
+      → turn_section (only test m) ≡ Some turn → CountsTurn o x.token.kind turn
+  kind_counts test q m says counts is =
+      only_gives (CountsTurn o x.token.kind) turn test m
+      (λ t. counts_at _ _ x.token.kind q (says t) counts) is
+
+  -- or in another way
+  either_counts : (test : Bool) (q : Kind) (m : Move) (other : Option Move)
+      → (test ≡ true → x.token.kind ≡ q)
+      → Counts (depth_without o + 0) q (depth (turn_of m).state)
+      → (turn_section other ≡ Some turn → CountsTurn o x.token.kind turn)
+      → turn_section (cond test (Some m) other) ≡ Some turn → CountsTurn o x.token.kind turn
+  either_counts test q m other says counts others is =
+      either_gives (CountsTurn o x.token.kind) turn test m other
+      (λ t. counts_at _ _ x.token.kind q (says t) counts) others is
+
 section_counts : (o : Section) (x : Lexeme) (turn : Turn)
     → turn_section (section_move o x) ≡ Some turn → CountsTurn o x.token.kind turn
 section_counts section.Begin x turn is =
-    only_gives (CountsTurn section.Begin x.token.kind) turn (is_first x.token.kind) _
-    (λ t. counts_at 0 0 _ _ (first_says x.token.kind t) refl) is
+    kind_counts section.Begin x turn (is_first x.token.kind) _ _ (first_says x.token.kind) refl is
 section_counts section.BeginSemicolon x turn is =
-    only_gives (CountsTurn section.BeginSemicolon x.token.kind) turn
-    (is_semicolon x.token.kind) _
-    (λ t. counts_at 0 0 _ _ (semicolon_says x.token.kind t) refl) is
+    kind_counts section.BeginSemicolon x turn (is_semicolon x.token.kind) _ _
+    (mark_says mark.Semicolon x.token.kind) refl is
 section_counts section.Header x turn is =
-    only_gives (CountsTurn section.Header x.token.kind) turn (is_the (codes "HEADER") x) _
-    (λ t. counts_at 0 0 _ _ (the_says (codes "HEADER") x t).keyword refl) is
+    kind_counts section.Header x turn (is_the (codes "HEADER") x) _ _
+    (λ t. (the_says (codes "HEADER") x t).keyword) refl is
 section_counts section.HeaderSemicolon x turn is =
-    only_gives (CountsTurn section.HeaderSemicolon x.token.kind) turn
-    (is_semicolon x.token.kind) _
-    (λ t. counts_at 0 0 _ _ (semicolon_says x.token.kind t) refl) is
+    kind_counts section.HeaderSemicolon x turn (is_semicolon x.token.kind) _ _
+    (mark_says mark.Semicolon x.token.kind) refl is
 section_counts section.FirstEntity x turn is =
-    only_gives (CountsTurn section.FirstEntity x.token.kind) turn (is_keyword x.token.kind) _
-    (λ t. counts_at 0 0 _ _ (keyword_says x.token.kind t) refl) is
+    kind_counts section.FirstEntity x turn (is_keyword x.token.kind) _ _
+    (keyword_says x.token.kind) refl is
 section_counts section.Entities x turn is =
-    either_gives (CountsTurn section.Entities x.token.kind) turn (is_the (codes "ENDSEC") x) _ _
-    (λ t. counts_at 0 0 _ _ (the_says (codes "ENDSEC") x t).keyword refl)
-    (only_gives (CountsTurn section.Entities x.token.kind) turn (is_keyword x.token.kind) _
-    (λ t. counts_at 0 0 _ _ (keyword_says x.token.kind t) refl)) is
+    either_counts section.Entities x turn (is_the (codes "ENDSEC") x) _ _ _
+    (λ t. (the_says (codes "ENDSEC") x t).keyword) refl
+    (kind_counts section.Entities x turn (is_keyword x.token.kind) _ _
+    (keyword_says x.token.kind) refl) is
 section_counts (section.EntityOrEnd s) x turn is =
-    either_gives (CountsTurn (section.EntityOrEnd s) x.token.kind) turn (is_open x.token.kind) _ _
-    (λ t. counts_at 0 1 _ _ (open_says x.token.kind t) refl)
-    (only_gives (CountsTurn (section.EntityOrEnd s) x.token.kind) turn
-    (is_semicolon x.token.kind) _
-    (λ t. counts_at 0 0 _ _ (semicolon_says x.token.kind t) refl)) is
+    either_counts (section.EntityOrEnd s) x turn (is_open x.token.kind) _ _ _
+    (mark_says mark.Open x.token.kind) refl
+    (kind_counts (section.EntityOrEnd s) x turn (is_semicolon x.token.kind) _ _
+    (mark_says mark.Semicolon x.token.kind) refl) is
 section_counts (section.EntityOpen s) x turn is =
-    only_gives (CountsTurn (section.EntityOpen s) x.token.kind) turn (is_open x.token.kind) _
-    (λ t. counts_at 0 1 _ _ (open_says x.token.kind t) refl) is
+    kind_counts (section.EntityOpen s) x turn (is_open x.token.kind) _ _
+    (mark_says mark.Open x.token.kind) refl is
 section_counts (section.EntityEnd s) x turn is =
-    only_gives (CountsTurn (section.EntityEnd s) x.token.kind) turn (is_semicolon x.token.kind) _
-    (λ t. counts_at 0 0 _ _ (semicolon_says x.token.kind t) refl) is
+    kind_counts (section.EntityEnd s) x turn (is_semicolon x.token.kind) _ _
+    (mark_says mark.Semicolon x.token.kind) refl is
 section_counts section.Data x turn is =
-    only_gives (CountsTurn section.Data x.token.kind) turn (is_the (codes "DATA") x) _
-    (λ t. counts_at 0 0 _ _ (the_says (codes "DATA") x t).keyword refl) is
+    kind_counts section.Data x turn (is_the (codes "DATA") x) _ _
+    (λ t. (the_says (codes "DATA") x t).keyword) refl is
 section_counts section.DataSemicolon x turn is =
-    only_gives (CountsTurn section.DataSemicolon x.token.kind) turn (is_semicolon x.token.kind) _
-    (λ t. counts_at 0 0 _ _ (semicolon_says x.token.kind t) refl) is
+    kind_counts section.DataSemicolon x turn (is_semicolon x.token.kind) _ _
+    (mark_says mark.Semicolon x.token.kind) refl is
 section_counts section.Instances x turn is =
-    either_gives (CountsTurn section.Instances x.token.kind) turn (is_the (codes "ENDSEC") x) _ _
-    (λ t. counts_at 0 0 _ _ (the_says (codes "ENDSEC") x t).keyword refl)
+    either_counts section.Instances x turn (is_the (codes "ENDSEC") x) _ _ _
+    (λ t. (the_says (codes "ENDSEC") x t).keyword) refl
     (named_gives (CountsTurn section.Instances x.token.kind) turn (number_of x.token.kind)
-    (λ n t. name_counts n x.token.kind t)) is
+    (λ n t. name_counts n x.token.kind t))
+    is
 section_counts (section.Equals n) x turn is =
-    only_gives (CountsTurn (section.Equals n) x.token.kind) turn (is_equals x.token.kind) _
-    (λ t. counts_at 0 0 _ _ (equals_says x.token.kind t) refl) is
+    kind_counts (section.Equals n) x turn (is_equals x.token.kind) _ _
+    (mark_says mark.Equals x.token.kind) refl is
 section_counts (section.Body n) x turn is =
-    either_gives (CountsTurn (section.Body n) x.token.kind) turn (is_keyword x.token.kind) _ _
-    (λ t. counts_at 0 0 _ _ (keyword_says x.token.kind t) refl)
-    (only_gives (CountsTurn (section.Body n) x.token.kind) turn (is_open x.token.kind) _
-    (λ t. counts_at 0 1 _ _ (open_says x.token.kind t) refl)) is
+    either_counts (section.Body n) x turn (is_keyword x.token.kind) _ _ _
+    (keyword_says x.token.kind) refl
+    (kind_counts (section.Body n) x turn (is_open x.token.kind) _ _
+    (mark_says mark.Open x.token.kind) refl) is
 section_counts (section.SimpleOpen p) x turn is =
-    only_gives (CountsTurn (section.SimpleOpen p) x.token.kind) turn (is_open x.token.kind) _
-    (λ t. counts_at 0 1 _ _ (open_says x.token.kind t) refl) is
+    kind_counts (section.SimpleOpen p) x turn (is_open x.token.kind) _ _
+    (mark_says mark.Open x.token.kind) refl is
 section_counts (section.FirstRecord p) x turn is =
-    only_gives (CountsTurn (section.FirstRecord p) x.token.kind) turn (is_keyword x.token.kind) _
-    (λ t. counts_at 1 1 _ _ (keyword_says x.token.kind t) refl) is
+    kind_counts (section.FirstRecord p) x turn (is_keyword x.token.kind) _ _
+    (keyword_says x.token.kind) refl is
 section_counts (section.RecordOpen p) x turn is =
-    only_gives (CountsTurn (section.RecordOpen p) x.token.kind) turn (is_open x.token.kind) _
-    (λ t. counts_at 1 2 _ _ (open_says x.token.kind t) refl) is
+    kind_counts (section.RecordOpen p) x turn (is_open x.token.kind) _ _
+    (mark_says mark.Open x.token.kind) refl is
 section_counts (section.NextRecord p) x turn is =
-    either_gives (CountsTurn (section.NextRecord p) x.token.kind) turn
-    (is_keyword x.token.kind) _ _
-    (λ t. counts_at 1 1 _ _ (keyword_says x.token.kind t) refl)
-    (only_gives (CountsTurn (section.NextRecord p) x.token.kind) turn (is_close x.token.kind) _
-    (λ t. counts_at 1 0 _ _ (close_says x.token.kind t) refl)) is
+    either_counts (section.NextRecord p) x turn (is_keyword x.token.kind) _ _ _
+    (keyword_says x.token.kind) refl
+    (kind_counts (section.NextRecord p) x turn (is_close x.token.kind) _ _
+    (mark_says mark.Close x.token.kind) refl) is
 section_counts (section.InstanceEnd p) x turn is =
-    only_gives (CountsTurn (section.InstanceEnd p) x.token.kind) turn
-    (is_semicolon x.token.kind) _
-    (λ t. counts_at 0 0 _ _ (semicolon_says x.token.kind t) refl) is
+    kind_counts (section.InstanceEnd p) x turn (is_semicolon x.token.kind) _ _
+    (mark_says mark.Semicolon x.token.kind) refl is
 section_counts (section.EndSemicolon k) x turn is =
-    only_gives (CountsTurn (section.EndSemicolon k) x.token.kind) turn
-    (is_semicolon x.token.kind) _
-    (λ t. counts_at 0 0 _ _ (semicolon_says x.token.kind t) refl) is
+    kind_counts (section.EndSemicolon k) x turn (is_semicolon x.token.kind) _ _
+    (mark_says mark.Semicolon x.token.kind) refl is
 section_counts (section.LastWord k) x turn is =
-    only_gives (CountsTurn (section.LastWord k) x.token.kind) turn (is_last x.token.kind) _
-    (λ t. counts_at 0 0 _ _ (last_says x.token.kind t) refl) is
+    kind_counts (section.LastWord k) x turn (is_last x.token.kind) _ _ (last_says x.token.kind)
+    refl is
 section_counts (section.LastSemicolon k) x turn is =
-    only_gives (CountsTurn (section.LastSemicolon k) x.token.kind) turn
-    (is_semicolon x.token.kind) _
-    (λ t. counts_at 0 0 _ _ (semicolon_says x.token.kind t) refl) is
+    kind_counts (section.LastSemicolon k) x turn (is_semicolon x.token.kind) _ _
+    (mark_says mark.Semicolon x.token.kind) refl is
 section_counts (section.End k) x turn is = absurd (none-some turn is)
 
 one_fits : (complex begins : Bool) → length (cond begins begun plain).brackets ≤ cond complex
@@ -195,7 +208,7 @@ module _ (room : ℕ) (f : Bracket) (fs : List Bracket) (k : Kind) (nest : Nest)
       }))
       (λ others. ⊎_elim
       (λ l. let both = cond_some _ _ nest l.1 in counted (suc (length fs)) _ both.1 (record {
-        counts = counts_at (suc (length fs)) (suc (suc (length fs))) k _ (open_says k l.0)
+        counts = counts_at (suc (length fs)) (suc (suc (length fs))) k _ (mark_says mark.Open k l.0)
             (omega arith);
         fits = omega (arith, ltb-true (length (f ∷ fs)) room both.0);
       }))
@@ -226,7 +239,8 @@ comma_counts : (room : ℕ) (f : Bracket) (fs : List Bracket) (k : Kind) (nest :
 comma_counts room bracket.List fs k nest fit is =
     let both = cond_some (is_comma k) _ nest is in
     subst (CountsNest room (suc (length fs)) k) both.1 (record {
-      counts = counts_at (suc (length fs)) (suc (length fs)) k _ (comma_says k both.0) refl;
+      counts = counts_at (suc (length fs)) (suc (length fs)) k _
+          (mark_says mark.Comma k both.0) refl;
       fits = fit;
     })
 comma_counts room bracket.Typed fs k nest fit is = absurd (none-some nest is)
@@ -237,20 +251,21 @@ inside_counts : (room : ℕ) (f : Bracket) (fs : List Bracket) (w : Want) (k : K
 inside_counts room f fs want.First k nest fit is =
     ⊎_elim
     (λ c. counted room f fs k nest fit (suc (length fs)) _ (same_Some _ nest c.1)
-    (shut_counts room f fs k (close_says k c.0) fit))
+    (shut_counts room f fs k (mark_says mark.Close k c.0) fit))
     (λ p. parameter_counts room f fs k nest fit p.1)
     (choice (is_close k) _ _ nest is)
 inside_counts room f fs want.Parameter k nest fit is = parameter_counts room f fs k nest fit is
 inside_counts room f fs want.Next k nest fit is =
     ⊎_elim
     (λ c. counted room f fs k nest fit (suc (length fs)) _ (same_Some _ nest c.1)
-    (shut_counts room f fs k (close_says k c.0) fit))
+    (shut_counts room f fs k (mark_says mark.Close k c.0) fit))
     (λ p. comma_counts room f fs k nest fit p.1)
     (choice (is_close k) _ _ nest is)
 inside_counts room f fs want.Open k nest fit is =
     let both = cond_some (is_open k) _ nest is in
     subst (CountsNest room (length fs) k) both.1 (record {
-      counts = counts_at (length fs) (suc (length fs)) k _ (open_says k both.0) (omega arith);
+      counts = counts_at (length fs) (suc (length fs)) k _ (mark_says mark.Open k both.0)
+          (omega arith);
       fits = fit;
     })
 

@@ -1,7 +1,8 @@
 -- Single lists of lexemes: texts that the grammar has, and places where it goes on no further. Each
 -- is found by computing.
-use Rattle.std.proofs.Common.{◌≡◌, ℕ, List, [], ◌∷◌, ◌++◌, Some, None, refl, subst, arith}
+use Rattle.std.proofs.Common.{◌≡◌, ℕ, ◌+◌, List, [], ◌∷◌, ◌++◌, Some, None, refl, ap, ◌∙◌, subst, ⊎_elim, cond, eqb, arith}
 use Rattle.std.specs.Prelude.{codes, replicate}
+use Rattle.std.proofs.lemmas.Bool.{cases_Bool, eqb-true}
 use Rattle.sb_lex.specs.declared.kinds.Kind.TheVariants as kind
 use Rattle.sb_lex.specs.declared.kinds.Mark.TheVariants as mark
 use Rattle.sb_lex.specs.declared.kinds.Word.TheVariants as word
@@ -10,14 +11,14 @@ use Rattle.sb_step.specs.declared.step_file.records.Record.{Record}
 use Rattle.sb_step.specs.Lexemes.{Lexeme}
 use Rattle.sb_step.specs.Grammar.{IsText}
 use Rattle.sb_step.specs.Faults.{BeginsText}
-use Rattle.sb_step.specs.Numbers.{IsGreatest}
+use Rattle.sb_step.specs.Numbers.{uses, IsGreatest}
 use Rattle.sb_step.specs.Rules.{Rule, One, ◌⋅◌}
 use Rattle.sb_step.specs.Records.Schema.{OneString}
 use Rattle.sb_step.specs.Index.Turns.{next_turn, start, Ran, run}
+use Rattle.sb_step.proofs.Records.PlacesOfItems.{count_by-cons}
 use Rattle.sb_step.proofs.Texts.SomeTextGoesOn.{lexeme_of, mark_of, keyword_of}
 use Rattle.sb_step.proofs.Texts.TextsEnd.{ends_text, runs_begin}
 use Rattle.sb_step.proofs.Texts.OneFileOrOneFault.{stops}
-use Rattle.sb_step.proofs.Collecting.OneUseMore.{greatest_more}
 
 -- a text begins with the lexemes, and none with one more
 record StopsAt (xs : List Lexeme) (x : Lexeme) : Type 0 where
@@ -33,18 +34,23 @@ stops_at xs x ran is none = record {
 
 -- lexemes
 
+-- a parenthesis that opens
 abbrev pub opening : Lexeme
 opening = mark_of mark.Open
 
+-- one that closes
 abbrev pub closing : Lexeme
 closing = mark_of mark.Close
 
+-- a semicolon
 abbrev pub semicolon : Lexeme
 semicolon = mark_of mark.Semicolon
 
+-- a value, `$`
 abbrev pub value : Lexeme
 value = mark_of mark.Dollar
 
+-- a keyword, `A`
 abbrev pub keyword : Lexeme
 keyword = keyword_of (codes "A")
 
@@ -133,6 +139,7 @@ one_typed = stops_at in_typed (mark_of mark.Comma) _ refl refl
 
 -- the greatest number
 
+-- a record with nothing in it
 abbrev pub at_start : Record
 at_start = record { start = 0; end = 0; form = form.Complex }
 
@@ -141,9 +148,20 @@ abbrev pub two_instances : List (ℕ × Record)
 two_instances = (5, at_start) ∷ (3, at_start) ∷ []
 
 five_is_greatest : IsGreatest 5 two_instances
-five_is_greatest =
-    greatest_more 5 ((5, at_start) ∷ []) (3, at_start)
-    (greatest_more 0 [] (5, at_start) refl)
+five_is_greatest = record {
+  used = omega arith;
+  greatest = λ m used. ⊎_elim
+      (λ same. let is = eqb-true 5 m same in omega (arith, is))
+      (λ not_five. ⊎_elim
+      (λ same. let is = eqb-true 3 m same in omega (arith, is))
+      (λ not_three. let first = count_by-cons (λ (i : ℕ × Record). eqb i.0 m) (5, at_start)
+      ((3, at_start) ∷ []) ∙ ap (λ b. cond b 1 0 + uses m ((3, at_start) ∷ [])) not_five in
+      let second = count_by-cons (λ (i : ℕ × Record). eqb i.0 m) (3, at_start) []
+      ∙ ap (λ b. cond b 1 0 + uses m []) not_three in
+      absurd (omega (arith, first, second, used)))
+      (cases_Bool (eqb 3 m)))
+      (cases_Bool (eqb 5 m));
+}
 
 the_last_is_not : IsGreatest 3 two_instances → ⊥
 the_last_is_not is = let less = is.greatest 5 (omega arith) in absurd (omega (arith, less))
@@ -160,6 +178,7 @@ none_is_zero n is = is
 abbrev pub ifc4 : Lexeme
 ifc4 = lexeme_of kind.Str (codes "'IFC4'")
 
+-- a record that begins at the first byte
 abbrev pub begins_here : Record
 begins_here = record { start = 0; end = 0; form = form.Simple 0 }
 

@@ -19,7 +19,7 @@ use Rattle.sb_step.specs.Index.ListMoves.{Nest, deeper, parameter, comma, shut, 
 use Rattle.sb_step.specs.KindTests.{is_keyword, is_comma}
 use Rattle.sb_step.specs.Params.Readers.{InList}
 use Rattle.sb_step.proofs.Texts.Continuations.{Rest, Then, After, Closing, Wanted}
-use Rattle.sb_step.proofs.KindsSay.{open_says, close_says, comma_says, keyword_says, choice}
+use Rattle.sb_step.proofs.KindsSay.{mark_says, keyword_says, choice}
 
 -- the ways in which a list begins with what a rule of parameters describes
 
@@ -30,24 +30,29 @@ pub record InTyped (rest : List Lexeme) (open_mark : Lexeme) (xs : List Lexeme) 
   pub inner : Parameter xs (close_mark ∷ rest)
   pub closes : IsMark mark.Close close_mark
 
+-- what a keyword goes on with
 abbrev pub TypedOn : List Lexeme → List Lexeme → Type 0
 TypedOn rest [] = ⊥
 TypedOn rest (y ∷ xs) = InTyped rest y xs
 
+-- what a list begins with
 abbrev pub ListOn : List Lexeme → List Lexeme → Type 0
 ListOn rest [] = ⊥
 ListOn rest (x ∷ xs) = IsMark mark.Open x × InList xs rest
 
+-- what a parameter begins with
 abbrev pub ParameterOn : List Lexeme → List Lexeme → Type 0
 ParameterOn rest [] = ⊥
 ParameterOn rest (x ∷ xs) = (IsValue x × (rest ≡ xs)) ⊎ ((IsMark mark.Open x × InList xs rest)
     ⊎ (IsKeyword x × TypedOn rest xs))
 
+-- what follows a parameter of a list
 abbrev pub MoreOn : List Lexeme → List Lexeme → Type 0
 MoreOn rest [] = ⊥
 MoreOn rest (x ∷ xs) = (IsMark mark.Close x × (rest ≡ xs))
     ⊎ (IsMark mark.Comma x × Joined Parameter MoreParameters xs rest)
 
+-- a list begins so
 pub list_on : {xs rest : List Lexeme} → ParameterList xs rest → ListOn rest xs
 list_on (empty o c) = (o, inl (c, refl))
 list_on (some {ys = ys} o p m) = (o, inr (record { middle = ys; first = p; second = m }))
@@ -56,6 +61,7 @@ from_list_on : (xs rest : List Lexeme) → ListOn rest xs → ParameterOn rest x
 from_list_on [] rest on = on
 from_list_on (x ∷ xs) rest on = inr (inl on)
 
+-- a parameter begins so
 pub parameter_on : {xs rest : List Lexeme} → Parameter xs rest → ParameterOn rest xs
 parameter_on (value v) = inl (v, refl)
 parameter_on (list {xs = xs} {rest = rest} l) = from_list_on xs rest (list_on l)
@@ -65,6 +71,7 @@ parameter_on (typed {close_mark = c} k o p e) = inr (inr (
       { opens = o; close_mark = c; inner = p; closes = e },
 ))
 
+-- a list goes on so
 pub more_on : {xs rest : List Lexeme} → MoreParameters xs rest → MoreOn rest xs
 more_on (last c) = inl (c, refl)
 more_on (more {ys = ys} c p m) = inr (c, record { middle = ys; first = p; second = m })
@@ -79,6 +86,7 @@ list_of x xs rest o (inr j) = some o j.first j.second
 
 -- rules and continuations
 
+-- one lexeme, and then the rest
 pub one_then : (P : Lexeme → Type 0) (K : Rest) (xs ys : List Lexeme) → One P xs ys → K ys
     → Then P K xs
 one_then P K [] ys one on = absurd one
@@ -148,11 +156,13 @@ typed_came L x (y ∷ ys) k t = typed_from L x y ys t.1.middle k t.0 t.1.first t
 
 -- the innermost parenthesis is closed
 
+-- behind the innermost parenthesis the next one is open
 pub popped : (fs : List Bracket) (K : Rest) (xs : List Lexeme) → Closing fs K xs
     → Wanted fs want.Next K xs
 popped [] K xs on = on
 popped (f ∷ fs) K xs on = on
 
+-- and the other way round
 pub unpopped : (fs : List Bracket) (K : Rest) (xs : List Lexeme) → Wanted fs want.Next K xs
     → Closing fs K xs
 unpopped [] K xs on = on
@@ -232,7 +242,7 @@ module _ (room : ℕ) (f : Bracket) (fs : List Bracket) (K : Rest) (x : Lexeme) 
       })
       (λ others. ⊎_elim
       (λ l. as_parameter (Closing (f ∷ fs) K) (x ∷ xs)
-      (in_list_came (Closing (f ∷ fs) K) x xs (open_says x.token.kind l.0)
+      (in_list_came (Closing (f ∷ fs) K) x xs (mark_says mark.Open x.token.kind l.0)
       (on _ (cond_some _ _ nest l.1).1)))
       (λ last_way. ⊎_elim
       (λ t. typed_came (Closing (f ∷ fs) K) x xs (keyword_says x.token.kind t.0)
@@ -303,7 +313,7 @@ comma_came bracket.List fs K x xs nest is goes =
     subst (λ n. Wanted n.brackets n.want K xs) (sym both.1) goes in
     record {
       middle = a.second.middle;
-      first = more (comma_says x.token.kind both.0) a.first a.second.first;
+      first = more (mark_says mark.Comma x.token.kind both.0) a.first a.second.first;
       second = a.second.second;
     }
 comma_came bracket.Typed fs K x xs nest is goes = absurd (none-some nest is)
@@ -334,28 +344,33 @@ pub nest_came : (room : ℕ) (f : Bracket) (fs : List Bracket) (w : Want) (K : R
     → Wanted nest.brackets nest.want K xs → Wanted (f ∷ fs) w K (x ∷ xs)
 nest_came room f fs want.First K x xs nest is goes =
     ⊎_elim
-    (λ c. inl (close_says x.token.kind c.0, close_came room f fs K x nest xs c.1 goes))
+    (λ c. inl (mark_says mark.Close x.token.kind c.0, close_came room f fs K x nest xs c.1 goes))
     (λ p. inr (parameter_came room f fs K x xs nest p.1 goes))
     (choice (is_close x.token.kind) _ _ nest is)
 nest_came room f fs want.Parameter K x xs nest is goes =
     parameter_came room f fs K x xs nest is goes
 nest_came room f fs want.Next K x xs nest is goes =
     ⊎_elim
-    (λ c. closed_came f fs K x xs (close_says x.token.kind c.0)
+    (λ c. closed_came f fs K x xs (mark_says mark.Close x.token.kind c.0)
     (close_came room f fs K x nest xs c.1 goes))
     (λ p. comma_came f fs K x xs nest p.1 goes)
     (choice (is_close x.token.kind) _ _ nest is)
 nest_came room f fs want.Open K x xs nest is goes =
-    let both = cond_some (is_open x.token.kind) _ nest is in
-    (open_says x.token.kind both.0, subst (λ n. Wanted n.brackets n.want K xs) (sym both.1) goes)
+    let both = cond_some (is_open x.token.kind) _ nest is in (
+      mark_says mark.Open x.token.kind both.0,
+      subst (λ n. Wanted n.brackets n.want K xs)
+          (sym both.1) goes,
+    )
 
 -- a parameter list begins
 
+-- a list goes on behind its parenthesis
 pub list_goes : (K : Rest) (x : Lexeme) (xs : List Lexeme) → After ParameterList K (x ∷ xs)
     → IsMark mark.Open x × Wanted (bracket.List ∷ []) want.First K xs
 list_goes K x xs a =
     let on = list_on a.first in (on.0, in_list_goes K xs a.middle a.second on.1)
 
+-- and the other way round
 pub list_came : (K : Rest) (x : Lexeme) (xs : List Lexeme) → IsMark mark.Open x
     → Wanted (bracket.List ∷ []) want.First K xs → After ParameterList K (x ∷ xs)
 list_came K x xs o goes = in_list_came K x xs o goes

@@ -19,6 +19,7 @@ abbrev pub ran_then : Ran → Option Turn → Option Ran
 ran_then r None = None
 ran_then r (Some t) = Some (record { state = t.state; events = r.events ++ t.event ∷ [] })
 
+-- and after a run that there may be
 abbrev pub then_turn : Option Ran → Lexeme → Option Ran
 then_turn None x = None
 then_turn (Some r) x = ran_then r (next_turn r.state x)
@@ -39,6 +40,7 @@ and_then_turn t (Some r) x = and_ran_then (next_turn r.state x)
     and_ran_then None = refl
     and_ran_then (Some u) = refl
 
+-- a run over one lexeme more
 pub run-more : (ts : List Lexeme) (s : State) (x : Lexeme) → run (ts ++ x ∷ []) s
     ≡ then_turn (run ts s) x
 run-more [] s x = one_turn s x (next_turn s x)
@@ -73,12 +75,14 @@ no_end ts ran is none text =
     none-some e.place (sym none ∙ ap (λ r. end_of r.state) (same_Some ran e.ran (sym is ∙ e.is))
     ∙ e.ends)
 
+-- the lexemes of one token more
 pub lexemes-more : (input : List ℕ) (before : List Token) (t : Token)
     → lexemes input (before ++ t ∷ []) ≡ lexemes input before ++ lexeme_at input t ∷ []
 lexemes-more input before t = map-append (lexeme_at input) before (t ∷ [])
 
 -- there is a file or a fault
 
+-- the input is a file or has a fault
 abbrev pub FileOrFault : List ℕ → Type 0
 FileOrFault input = ((file : File) × IsFile input file) ⊎ ((place : ℕ) × IsFaultAt input place)
 

@@ -8,7 +8,7 @@ use Rattle.sb_step.specs.declared.indexing.states.Section.TheVariants as section
 use Rattle.sb_step.specs.Lexemes.{Lexeme, IsWord, IsThe, IsKeyword, IsName, IsMark}
 use Rattle.sb_step.specs.Rules.{Rule, One, ◌⋅◌, Many, Each, SomeOf}
 use Rattle.sb_step.specs.Grammar.{Semicolon, EndOfData, File, ParameterList, SemicolonAt, BeginsSimple, BeginsComplex, IsSimple, InnerRecord, IsComplex, IsRecord, IsInstance, Sections}
-use Rattle.sb_step.proofs.Texts.Continuations.{Rest, Then, After, AtEnd, AtLastWord, AtLastSemicolon, AtData, AtRecordEnd, AtSimple, AtNextRecord, AtFirstRecord, AtComplex, AtBody, AtEquals, AtEndOfData, AtEach, AtInstance, AtInstances, AtEndOfHeader, AtEntities, AtFirstEntity, Follows}
+use Rattle.sb_step.proofs.Texts.Continuations.{Rest, Then, After, AtEnd, AtLastWord, AtLastSemicolon, AtData, AtRecordEnd, AtSimple, AtNextRecord, AtFirstRecord, AtComplex, AtBody, AtEquals, AtEndOfData, AtEach, AtInstance, AtInstances, AtEndOfHeader, AtFirstEntity, Follows}
 
 -- rules and what follows them
 

@@ -5,6 +5,7 @@ use Rattle.std.specs.Str.{bytes_eq}
 use Rattle.std.proofs.lemmas.Bool.{cases_Bool}
 use Rattle.std.proofs.lemmas.Option.{none-some}
 use Rattle.sb_lex.specs.declared.kinds.Kind.TheVariants as kind
+use Rattle.sb_lex.specs.declared.kinds.Mark.{Mark}
 use Rattle.sb_lex.specs.declared.kinds.Mark.TheVariants as mark
 use Rattle.sb_step.specs.declared.step_file.records.Record.{Record}
 use Rattle.sb_step.specs.declared.indexing.states.Span.{Span}
@@ -15,14 +16,14 @@ use Rattle.sb_step.specs.declared.indexing.states.Bracket.TheVariants as bracket
 use Rattle.sb_step.specs.declared.indexing.states.Want.TheVariants as want
 use Rattle.sb_step.specs.declared.indexing.states.Event.TheVariants as event
 use Rattle.sb_step.specs.declared.indexing.states.Move.{Move}
-use Rattle.sb_step.specs.Lexemes.{Lexeme, IsKeyword, IsMark, is_open, is_close}
+use Rattle.sb_step.specs.Lexemes.{is_mark, Lexeme, IsKeyword, IsMark, is_open, is_close}
 use Rattle.sb_step.specs.Rules.{Rule, Many}
 use Rattle.sb_step.specs.Rules.Many.{none, more}
 use Rattle.sb_step.specs.Grammar.{File, ParameterList, BeginsSimple, InnerRecord}
 use Rattle.sb_step.specs.KindTests.{is_semicolon, is_equals, is_first, is_last, is_keyword, number_of, is_the}
 use Rattle.sb_step.specs.Index.SectionMoves.{moves, enters, finds, only, span_of, entity_of, record_of, simple_part, complex_part, names, section_move}
 use Rattle.sb_step.specs.Index.Turns.{Turn, turn_section}
-use Rattle.sb_step.proofs.KindsSay.{open_says, close_says, semicolon_says, equals_says, first_says, last_says, keyword_says, number_says, the_says, said_the}
+use Rattle.sb_step.proofs.KindsSay.{mark_says, first_says, last_says, keyword_says, number_says, the_says, said_the}
 use Rattle.sb_step.proofs.Texts.Continuations.{Rest, Then, After, Wanted, AtRecordEnd, AtNextRecord, AtEquals, AtBody, AtFirstRecord, AtInstances, AtEndOfHeader, AtEntities, AtFirstEntity, AtSimpleList, AtInnerList, IsOfSpan, IsOfPart, EntityFrom, NamedFrom, PartFrom, Past, Follows, Goes, prepend}
 use Rattle.sb_step.proofs.Texts.TurnsByTest.{turn_of, only_gives, either_gives, named_gives}
 use Rattle.sb_step.proofs.Texts.ListsByLexeme.{list_goes, list_came}
@@ -224,6 +225,7 @@ first_record_goes p (i ∷ later) k f x xs goes = (goes.1.0, (goes.0, goes.1.1))
 
 -- records within a complex one
 
+-- a record within a complex one, and those behind it
 abbrev pub InnerOn : List Lexeme → Lexeme → List Lexeme → Type 0
 InnerOn rest x xs = IsKeyword x × After ParameterList (λ ys. Many InnerRecord ys rest) xs
 
@@ -252,6 +254,7 @@ many_more : (xs ys rest : List Lexeme) → InnerRecord xs ys → Many InnerRecor
 many_more [] ys rest j m = absurd j.first
 many_more (x ∷ xs) ys rest j m = inr (inner_on rest ys x xs j m)
 
+-- any number of records goes on so
 pub many_on : {xs rest : List Lexeme} → Many InnerRecord xs rest → ManyOn rest xs
 many_on (none {xs = xs}) = many_none xs
 many_on (more {xs = xs} {ys = ys} {zs = zs} j m) = many_more xs ys zs j m
@@ -384,6 +387,12 @@ module _ (o : Section) (x : Lexeme) (xs : List Lexeme) (later : File) (turn : Tu
   came_only : (b : Bool) (m : Move) → (b ≡ true → Came o x xs later (turn_of m))
       → turn_section (only b m) ≡ Some turn → Came o x xs later turn
   came_only b m came is = only_gives (Came o x xs later) turn b m came is
+
+  mark_came : (m : Mark) (move : Move) → (IsMark m x → Came o x xs later (turn_of move))
+      → turn_section (only (is_mark m x.token.kind) move) ≡ Some turn → Came o x xs later turn
+  mark_came m move came is =
+      came_only (is_mark m x.token.kind) move
+      (λ holds. came (mark_says m x.token.kind holds)) is
 
   came_either : (b : Bool) (m : Move) (other : Option Move)
       → (b ≡ true → Came o x xs later (turn_of m))
@@ -526,14 +535,14 @@ section_came section.Begin x xs later turn is =
     came_only section.Begin x xs later turn (is_first x.token.kind) _
     (λ holds goes. (first_says x.token.kind holds, goes)) is
 section_came section.BeginSemicolon x xs later turn is =
-    came_only section.BeginSemicolon x xs later turn (is_semicolon x.token.kind) _
-    (λ holds goes. (semicolon_says x.token.kind holds, goes)) is
+    mark_came section.BeginSemicolon x xs later turn mark.Semicolon _
+    (λ semicolon goes. (semicolon, goes)) is
 section_came section.Header x xs later turn is =
     came_only section.Header x xs later turn (is_the (codes "HEADER") x) _
     (λ holds goes. (the_says (codes "HEADER") x holds, goes)) is
 section_came section.HeaderSemicolon x xs later turn is =
-    came_only section.HeaderSemicolon x xs later turn (is_semicolon x.token.kind) _
-    (λ holds goes. (semicolon_says x.token.kind holds, goes)) is
+    mark_came section.HeaderSemicolon x xs later turn mark.Semicolon _
+    (λ semicolon goes. (semicolon, goes)) is
 section_came section.FirstEntity x xs later turn is =
     came_only section.FirstEntity x xs later turn (is_keyword x.token.kind) _
     (λ holds goes. entity_came x xs later.header _ (keyword_says x.token.kind holds) goes) is
@@ -550,23 +559,23 @@ section_came section.Entities x xs later turn is =
     (entity_came x xs later.header K (keyword_says x.token.kind holds) goes))) is
 section_came (section.EntityOrEnd s) x xs later turn is =
     came_either (section.EntityOrEnd s) x xs later turn (is_open x.token.kind) _ _
-    (λ holds goes. inl (entity_list_came s later.header _ x xs (open_says x.token.kind holds)
+    (λ holds goes. inl (entity_list_came s later.header _ x xs
+    (mark_says mark.Open x.token.kind holds)
     goes))
-    (came_only (section.EntityOrEnd s) x xs later turn (is_semicolon x.token.kind) _
-    (λ holds goes. inr (goes.0, (semicolon_says x.token.kind holds, goes.1)))) is
+    (mark_came (section.EntityOrEnd s) x xs later turn mark.Semicolon _
+    (λ semicolon goes. inr (goes.0, (semicolon, goes.1)))) is
 section_came (section.EntityOpen s) x xs later turn is =
-    came_only (section.EntityOpen s) x xs later turn (is_open x.token.kind) _
-    (λ holds goes. entity_list_came s later.header _ x xs (open_says x.token.kind holds) goes) is
+    mark_came (section.EntityOpen s) x xs later turn mark.Open _
+    (λ opens goes. entity_list_came s later.header _ x xs opens goes) is
 section_came (section.EntityEnd s) x xs later turn is =
-    came_only (section.EntityEnd s) x xs later turn (is_semicolon x.token.kind) _
-    (λ holds goes.
-    (record { whole = refl }, ((semicolon_says x.token.kind holds, refl), goes))) is
+    mark_came (section.EntityEnd s) x xs later turn mark.Semicolon _
+    (λ semicolon goes. (record { whole = refl }, ((semicolon, refl), goes))) is
 section_came section.Data x xs later turn is =
     came_only section.Data x xs later turn (is_the (codes "DATA") x) _
     (λ holds goes. (goes.0, (the_says (codes "DATA") x holds, goes.1))) is
 section_came section.DataSemicolon x xs later turn is =
-    came_only section.DataSemicolon x xs later turn (is_semicolon x.token.kind) _
-    (λ holds goes. (goes.0, (semicolon_says x.token.kind holds, goes.1))) is
+    mark_came section.DataSemicolon x xs later turn mark.Semicolon _
+    (λ semicolon goes. (goes.0, (semicolon, goes.1))) is
 section_came section.Instances x xs later turn is =
     came_either section.Instances x xs later turn (is_the (codes "ENDSEC") x) _ _
     (λ holds goes. subst (λ f. Past (AtInstances f.instances f.data_end) f (x ∷ xs)) (sym goes.0)
@@ -578,12 +587,8 @@ section_came section.Instances x xs later turn is =
           (number_says x.token.kind n found) goes.1,
     ))) is
 section_came (section.Equals n) x xs later turn is =
-    came_only (section.Equals n) x xs later turn (is_equals x.token.kind) _
-    (λ holds goes. (
-      goes.0,
-      equals_came n later.instances later.data_end x xs
-          (equals_says x.token.kind holds) goes.1,
-    )) is
+    mark_came (section.Equals n) x xs later turn mark.Equals _
+    (λ equals goes. (goes.0, equals_came n later.instances later.data_end x xs equals goes.1)) is
 section_came (section.Body n) x xs later turn is =
     came_either (section.Body n) x xs later turn (is_keyword x.token.kind) _ _
     (λ holds goes. (
@@ -591,16 +596,12 @@ section_came (section.Body n) x xs later turn is =
       simple_came n later.instances later.data_end x xs
           (keyword_says x.token.kind holds) goes.1,
     ))
-    (came_only (section.Body n) x xs later turn (is_open x.token.kind) _
-    (λ holds goes. (
-      goes.0,
-      complex_came n later.instances later.data_end x xs
-          (open_says x.token.kind holds) goes.1,
-    ))) is
+    (mark_came (section.Body n) x xs later turn mark.Open _
+    (λ opens goes. (goes.0, complex_came n later.instances later.data_end x xs opens goes.1))) is
 section_came (section.SimpleOpen p) x xs later turn is =
-    came_only (section.SimpleOpen p) x xs later turn (is_open x.token.kind) _
-    (λ holds goes. part_list_came p AtRecordEnd later.instances later.data_end later x xs
-    (open_says x.token.kind holds) goes) is
+    mark_came (section.SimpleOpen p) x xs later turn mark.Open _
+    (λ opens goes. part_list_came p AtRecordEnd later.instances later.data_end later x xs opens
+    goes) is
 section_came (section.FirstRecord p) x xs later turn is =
     came_only (section.FirstRecord p) x xs later turn (is_keyword x.token.kind) _
     (λ holds goes. (
@@ -609,9 +610,9 @@ section_came (section.FirstRecord p) x xs later turn is =
           (keyword_says x.token.kind holds) goes.1,
     )) is
 section_came (section.RecordOpen p) x xs later turn is =
-    came_only (section.RecordOpen p) x xs later turn (is_open x.token.kind) _
-    (λ holds goes. part_list_came p AtNextRecord later.instances later.data_end later x xs
-    (open_says x.token.kind holds) goes) is
+    mark_came (section.RecordOpen p) x xs later turn mark.Open _
+    (λ opens goes. part_list_came p AtNextRecord later.instances later.data_end later x xs opens
+    goes) is
 section_came (section.NextRecord p) x xs later turn is =
     came_either (section.NextRecord p) x xs later turn (is_keyword x.token.kind) _ _
     (λ holds goes. (
@@ -619,28 +620,25 @@ section_came (section.NextRecord p) x xs later turn is =
       next_record_came p later.instances later.data_end x xs
           (keyword_says x.token.kind holds) goes.1,
     ))
-    (came_only (section.NextRecord p) x xs later turn (is_close x.token.kind) _
-    (λ holds goes. (
-      goes.0,
-      records_closed p later.instances later.data_end x xs
-          (close_says x.token.kind holds) goes.1,
-    ))) is
+    (mark_came (section.NextRecord p) x xs later turn mark.Close _
+    (λ closes goes. (goes.0, records_closed p later.instances later.data_end x xs closes goes.1)))
+    is
 section_came (section.InstanceEnd p) x xs later turn is =
-    came_only (section.InstanceEnd p) x xs later turn (is_semicolon x.token.kind) _
-    (λ holds goes. (
+    mark_came (section.InstanceEnd p) x xs later turn mark.Semicolon _
+    (λ semicolon goes. (
       goes.0,
       (
         record { number = refl; whole = refl },
-        ((semicolon_says x.token.kind holds, refl), goes.1),
+        ((semicolon, refl), goes.1),
       ),
     )) is
 section_came (section.EndSemicolon k) x xs later turn is =
-    came_only (section.EndSemicolon k) x xs later turn (is_semicolon x.token.kind) _
-    (λ holds goes. (goes.0, (semicolon_says x.token.kind holds, goes.1))) is
+    mark_came (section.EndSemicolon k) x xs later turn mark.Semicolon _
+    (λ semicolon goes. (goes.0, (semicolon, goes.1))) is
 section_came (section.LastWord k) x xs later turn is =
     came_only (section.LastWord k) x xs later turn (is_last x.token.kind) _
     (λ holds goes. (goes.0, (last_says x.token.kind holds, goes.1))) is
 section_came (section.LastSemicolon k) x xs later turn is =
-    came_only (section.LastSemicolon k) x xs later turn (is_semicolon x.token.kind) _
-    (λ holds goes. (goes.0, (semicolon_says x.token.kind holds, goes.1))) is
+    mark_came (section.LastSemicolon k) x xs later turn mark.Semicolon _
+    (λ semicolon goes. (goes.0, (semicolon, goes.1))) is
 section_came (section.End k) x xs later turn is = absurd (none-some turn is)

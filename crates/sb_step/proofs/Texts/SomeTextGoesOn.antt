@@ -39,12 +39,15 @@ hopes_before s x turn fit is hope = record {
 
 -- lexemes to go on with
 
+-- a lexeme of the kind and of these bytes, at no place in particular
 abbrev pub lexeme_of : Kind → List ℕ → Lexeme
 lexeme_of k text = record { token = record { kind = k; start = 0; end = 0 }; text = text }
 
+-- the lexeme of a mark
 abbrev pub mark_of : Mark → Lexeme
 mark_of m = lexeme_of (kind.Mark m) []
 
+-- the lexeme of a keyword
 abbrev pub keyword_of : List ℕ → Lexeme
 keyword_of text = lexeme_of kind.Keyword text
 
@@ -190,6 +193,7 @@ section_hopes (section.End k) = at_end k
 
 -- within parameter lists
 
+-- a turn to this state, at which nothing was found
 abbrev pub turn_at : Section → List Bracket → Want → Turn
 turn_at o fs w = record { state = state_at o fs w; event = event.Nothing }
 

@@ -1,7 +1,6 @@
 -- The machine reads the lexemes exactly of what some text begins with, and finds what it describes.
-use Rattle.std.proofs.Common.{◌≡◌, ◌-◌, ℕ, suc, ◌+◌, ◌<◌, ◌≤◌, Bool, true, false, cond, List, [], ◌∷◌, ◌++◌, length, Option, Some, None, refl, sym, ap, ◌∙◌, subst, ⊎_elim, arith}
+use Rattle.std.proofs.Common.{◌≡◌, ◌-◌, ℕ, suc, ◌+◌, ◌<◌, ◌≤◌, Bool, true, false, cond, List, [], ◌∷◌, ◌++◌, length, Option, Some, None, refl, sym, ap, ◌∙◌, subst, arith}
 use Rattle.std.specs.Prelude.{option_and_then}
-use Rattle.std.proofs.lemmas.Bool.{cases_Bool}
 use Rattle.std.proofs.lemmas.List.Sums.{sum_by-cons}
 use Rattle.std.proofs.lemmas.Option.{same_Some, none-some}
 use Rattle.sb_lex.specs.declared.kinds.Mark.TheVariants as mark
@@ -144,6 +143,7 @@ pub record ContinuesWith (s : State) (x : Lexeme) (f : File) (xs : List Lexeme) 
   pub fits : Fits turn.state
   pub whole : f ≡ prepend turn.event later
 
+-- where a text goes on with a lexeme, the machine does
 pub continues_with : (s : State) (f : File) (x : Lexeme) (xs : List Lexeme) → Fits s
     → Continues s f (x ∷ xs) → ContinuesWith s x f xs
 continues_with s f x xs fit reads =
@@ -206,6 +206,7 @@ reads_before s x xs turn later fit is reads =
 
 -- the whole
 
+-- nothing is open before the first lexeme
 pub start_fits : Fits start
 start_fits = omega arith
 
@@ -217,6 +218,7 @@ read_text xs f text = record {
       let here = text.shallow front back same in omega (arith, here);
 }
 
+-- and what is read from there is a text
 pub text_read : (xs : List Lexeme) (f : File) → Continues start f xs → IsText xs f
 text_read xs f reads = record {
   sections = sections_followed f xs reads.goes;
@@ -239,6 +241,7 @@ pub record RunsOn (s : State) (ts : List Lexeme) (f : File) (xs : List Lexeme) :
   pub reads : Continues ran.state later xs
   pub whole : f ≡ prepend_all ran.events later
 
+-- where a text goes on with lexemes, the machine reads them
 pub runs_on : (ts : List Lexeme) (s : State) (f : File) (xs : List Lexeme) → Fits s
     → Continues s f (ts ++ xs) → RunsOn s ts f xs
 runs_on [] s f xs fit reads = record {
@@ -288,6 +291,7 @@ ran_on s x ts ran None is whole = absurd (none-some ran whole)
 ran_on s x ts ran (Some turn) is whole =
     ran_after s x ts ran turn is (run ts turn.state) refl whole
 
+-- where the machine has read lexemes and a text goes on, the text begins with them
 pub runs_before : (ts : List Lexeme) (s : State) (xs : List Lexeme) (ran : Ran) (later : File)
     → Fits s → run ts s ≡ Some ran → Continues ran.state later xs
     → Continues s (prepend_all ran.events later) (ts ++ xs)
@@ -303,6 +307,7 @@ runs_before (x ∷ ts) s xs ran later fit is reads =
     (runs_before ts o.turn.state xs o.after later (turn_counts s x o.turn fit o.is).fits
     o.after_is on)) reads
 
+-- no more is open behind a run than there may be
 pub run_fits : (ts : List Lexeme) (s : State) (ran : Ran) → Fits s → run ts s ≡ Some ran
     → Fits ran.state
 run_fits [] s ran fit is = subst (λ r. Fits r.state) (same_Some _ ran is) fit

@@ -51,6 +51,7 @@ abbrev pub bracket_of : ℕ → Bracket
 bracket_of zero = bracket.Typed
 bracket_of (suc n) = bracket.List
 
+-- all of them
 abbrev pub brackets_of : ℕ → ℕ → List Bracket
 brackets_of zero bits = []
 brackets_of (suc n) bits = bracket_of (bits % 2) ∷ brackets_of n (bits / 2)
@@ -60,6 +61,7 @@ pub record AreBits (len bits : ℕ) : Type 0 where
   pub few : len ≤ greatest_depth
   pub fits : bits < 2 ^ len
 
+-- and the bit of one
 abbrev pub bit_of : Bracket → ℕ
 bit_of bracket.List = 1
 bit_of bracket.Typed = 0

@@ -65,6 +65,7 @@ abbrev pub next_turn_at : Section → List Bracket → Want → Lexeme → Optio
 next_turn_at o [] w x = turn_section (section_move o x)
 next_turn_at o (f ∷ fs) w x = turn_list o (by_want w (room_of o) (f ∷ fs) x.token.kind)
 
+-- the same from a state
 abbrev pub next_turn : State → Lexeme → Option Turn
 next_turn s x = next_turn_at s.section s.nest.brackets s.nest.want x
 
@@ -90,6 +91,7 @@ abbrev pub end_at : Section → List Bracket → Option ℕ
 end_at (section.End k) [] = Some k
 end_at _ _ = None
 
+-- the same of a state
 abbrev pub end_of : State → Option ℕ
 end_of s = end_at s.section s.nest.brackets
 
@@ -117,6 +119,7 @@ pub record Ran : Type 0 where
   pub state : State
   pub events : List Event
 
+-- a run with one event before it
 abbrev pub and_ran : Event → Option Ran → Option Ran
 and_ran x None = None
 and_ran x (Some r) = Some (record { state = r.state; events = x ∷ r.events })

@@ -69,6 +69,7 @@ pub record NextItem (x : Lexeme) (new : Reading) (xs rest : List Lexeme) : Type 
   pub in_list : InList (x ∷ ys) rest
   pub says : (ps : List Param) → AreInList ps (x ∷ ys) rest → AreFurther ps xs rest
 
+-- behind a parameter of a list, the next token was read, or two of them
 pub record ReadsItem (old new : Reading) (t : Token) : Type 0 where
   pub input_is : new.input ≡ old.input
   pub further : old.place < new.place

@@ -1,15 +1,47 @@
 -- What the private functions promise that look for the schema.
-use Rattle.std.specs.Prelude.{ℕ, ◌+◌, ◌-◌, ◌≤◌, Bool, false, ◌&&◌, if◌then◌else◌, List, [], ◌∷◌, slice_range, Option, Some, None}
+use Rattle.std.specs.Prelude.{◌≡◌, ℕ, ◌+◌, ◌-◌, ◌≤◌, Bool, false, ◌&&◌, if◌then◌else◌, List, [], ◌∷◌, length, slice_range, codes, Option, Some, None}
+use Rattle.std.specs.List.{filter}
 use Rattle.sb_lex.specs.declared.kinds.Kind.{Kind}
 use Rattle.sb_lex.specs.declared.kinds.Kind.TheVariants as kind
 use Rattle.sb_lex.specs.declared.kinds.Token.{Token}
 use Rattle.sb_lex.specs.Tokens.{AreTokensFrom, Reading, least_length}
+use Rattle.sb_step.specs.declared.step_file.records.Form.{Form}
+use Rattle.sb_step.specs.declared.step_file.records.Form.TheVariants as form
+use Rattle.sb_step.specs.declared.step_file.records.Record.{Record}
+use Rattle.sb_step.specs.declared.step_file.schema.Schema.{Schema}
+use Rattle.sb_step.specs.declared.step_file.schema.Schema.TheVariants as schema
+use Rattle.sb_step.specs.Records.Schema.{is_spelled, is_schema}
 use Rattle.sb_step.specs.Lexemes.{is_open, is_close}
 
--- the item of a list of one
-abbrev pub only_of : {A : Type 0} → List A → Option A
-only_of (x ∷ []) = Some x
-only_of _ = None
+-- one FILE_SCHEMA more, whose keyword ends at this byte
+abbrev pub one_more : Schema → ℕ → Schema
+one_more schema.Missing end = schema.One end
+one_more _ end = schema.Several
+
+-- one entity more, which is one or not
+abbrev pub with_entity_by : List ℕ → Schema → ℕ → Form → Schema
+with_entity_by input s start (form.Simple end) =
+    if is_spelled (codes "FILE_SCHEMA") input start (form.Simple end) then one_more s end else s
+with_entity_by input s start form.Complex = s
+
+abbrev pub with_entity : List ℕ → Schema → Record → Schema
+with_entity input s r = with_entity_by input s r.start r.form
+
+-- the one item of a list, and its keyword ends there
+pub record OnlyEnds (found : List Record) (end : ℕ) : Type 0 where
+  pub entity : Record
+  pub only : found ≡ entity ∷ []
+  pub form : entity.form ≡ form.Simple end
+
+-- how many were found: none, the one whose keyword ends there, or several
+abbrev pub Says : List Record → Schema → Type 0
+Says found schema.Missing = found ≡ []
+Says found (schema.One end) = OnlyEnds found end
+Says found schema.Several = 2 ≤ length found
+
+-- that many of the entities are a FILE_SCHEMA
+abbrev pub SchemaSays : List ℕ → List Record → Schema → Type 0
+SchemaSays input entities s = Says (filter (is_schema input) entities) s
 
 -- the tokens from the reader on
 abbrev pub TokensAhead : Reading → List Token → Type 0

@@ -1,39 +1,39 @@
 // What was found in a text so far.
 use crate::indexing::instances::Instances;
 use crate::indexing::states::Event;
-use crate::step_file::records::Record;
+use crate::step_file::schema::{Schema, with_entity};
 use std::alloc::{AllocError, Global};
 
-/// The entities of the header and the instances that were read.
+/// The instances that were read, and what the schema needs of the header.
 #[derive(Drop)]
 pub(crate) struct Collected {
-    pub header: Vec<Record>,
+    pub schema: Schema,
     pub instances: Instances,
 }
 
 impl Collected {
-    ghost use Rattle.std.specs.Prelude.{◌≡◌, List, [], ◌∷◌, ◌++◌, OnOk, IfOk};
+    ghost use Rattle.std.specs.Prelude.{◌≡◌, ℕ, List, [], ◌∷◌, ◌++◌, OnOk};
     ghost use Rattle.sb_step.specs.declared.indexing.states.Event.{Event as Seen};
     ghost use Rattle.sb_step.specs.Index.Collects.{AreCollected};
 
-    /// Nothing yet, with room for so many instances.
-    pub(crate) fn with_capacity(alloc: Global, room: usize) -> Result<Collected, AllocError>
-        ensures { IfOk result (AreCollected []) }
+    /// Nothing yet.
+    pub(crate) fn new(alloc: Global) -> Collected
+        ensures { (input : List ℕ) → AreCollected input [] result }
     {
-        Ok(Collected {
-            header: Vec::new(alloc),
-            instances: Instances::with_capacity(alloc, room)?,
-        })
+        Collected {
+            schema: Schema::Missing,
+            instances: Instances::new(alloc),
+        }
     }
 
-    /// Keeps what was found at one token more.
-    pub(crate) fn add(&mut self, event: Event) -> Result<(), AllocError>
-        ensures { (events : List Seen) → OnOk result (AreCollected events self.old
-            → AreCollected (events ++ event ∷ []) self.new) }
+    /// Keeps what was found at one token more of these bytes.
+    pub(crate) fn add(&mut self, bytes: &[u8], event: Event) -> Result<(), AllocError>
+        ensures { (events : List Seen) → OnOk result (AreCollected bytes.now events self.old
+            → AreCollected bytes.now (events ++ event ∷ []) self.new) }
     {
         match event {
             Event::Nothing => {}
-            Event::Entity(entity) => self.header.push(entity)?,
+            Event::Entity(entity) => self.schema = with_entity(self.schema, bytes, entity),
             Event::Instance(number, body) => self.instances.insert(number, body)?,
         }
         Ok(())

@@ -1,42 +1,54 @@
 // The schema of a file.
-ghost use Rattle.std.specs.Prelude.{◌≡◌, ◌≤◌, ◌↔◌, List, length, IfSome};
+ghost use Rattle.std.specs.Prelude.{◌≡◌, ◌≤◌, ◌↔◌, List, length, slice_range, IfSome};
 ghost use Rattle.std.specs.Option.{option_copied};
-ghost use Rattle.std.specs.List.{AllByRecursion, filter};
 ghost use Rattle.sb_lex.specs.declared.kinds.Token.{Token as At};
 ghost use Rattle.sb_lex.specs.Tokens.{AreTokensFrom};
-ghost use Rattle.sb_step.specs.Records.Spans.{RecordLies};
-ghost use Rattle.sb_step.specs.Records.Schema.{is_schema as is_schema_of};
 ghost use Rattle.sb_step.specs.Records.SchemaReading as spec;
 
 use crate::kinds::{is_close, is_open};
 use crate::step_file::records::{Form, Record};
 use sb_lex::{Kind, Lexer, Token};
 
-/// The one entity that is a FILE_SCHEMA, if there is one and no second.
-pub(crate) fn only_schema(bytes: &[u8], header: &[Record]) -> Option<Record>
-    requires { AllByRecursion (RecordLies (length bytes.now)) header.now }
-    ensures { result ≡ spec.only_of (filter (is_schema_of bytes.now) header.now) }
-{
-    let mut found = None;
-    'entities: for entity in header {
-        if is_schema(bytes, *entity) {
-            if found.is_some() {
-                return None;
-            }
-            found = Some(*entity);
-        }
-    }
-    found
+/// Which entities of a header are a FILE_SCHEMA, as far as it was read.
+#[derive(Clone, Copy)]
+pub(crate) enum Schema {
+    Missing,
+    /// One. Its keyword ends at this byte.
+    One(usize),
+    Several,
 }
 
-fn is_schema(bytes: &[u8], place: Record) -> bool
-    requires { RecordLies (length bytes.now) place }
-    ensures { result ≡ is_schema_of bytes.now place }
+/// The same with one entity of these bytes more.
+pub(crate) fn with_entity(schema: Schema, bytes: &[u8], entity: Record) -> Schema
+    ensures { result ≡ spec.with_entity bytes.now schema entity }
 {
-    match place.form {
-        Form::Simple(end) => &bytes[place.start..end] == b"FILE_SCHEMA".as_slice(),
-        Form::Complex => false,
+    match entity.form {
+        Form::Simple(end) => {
+            if stretch(bytes, entity.start, end) == b"FILE_SCHEMA".as_slice() {
+                one_more(schema, end)
+            } else {
+                schema
+            }
+        }
+        Form::Complex => schema,
     }
+}
+
+fn one_more(schema: Schema, end: usize) -> Schema
+    ensures { result ≡ spec.one_more schema end }
+{
+    match schema {
+        Schema::Missing => Schema::One(end),
+        _ => Schema::Several,
+    }
+}
+
+/// The bytes from one place up to another, as far as there are any.
+fn stretch(bytes: &[u8], start: usize, end: usize) -> &[u8]
+    ensures { result.now ≡ slice_range bytes.now start end }
+{
+    let last = end.min(bytes.len());
+    &bytes[start.min(last)..last]
 }
 
 /// The one string in the list behind a keyword that ends at this byte.

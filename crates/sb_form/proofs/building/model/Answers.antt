@@ -1,6 +1,17 @@
--- The one number is 20, which is not bad.
+-- The ground, the reach and the frame are in range, and the one number is 20, which is not bad.
 use Rattle.std.proofs.Common.{ap, Err}
+use Rattle.sb_form.proofs.FormsAreInRange.{form_is_in_range}
 use Rattle.sb_form.proofs.building.model.Goals as goal
+
+pub new-requires-clause-in_range : goal.new-requires-clause-in_range
+new-requires-clause-in_range c =
+    rw (
+      c.in_ok-push.ensures.ok,
+      c.new-spaces.ensures,
+      c.in_ok-space.ensures,
+      c.new-elements.ensures,
+    )
+    (form_is_in_range c.args.form.now c.args.extent.now c.requires.short)
 
 pub unreachable-requires : goal.unreachable-requires
 unreachable-requires c =

@@ -18,7 +18,7 @@ report_text-requires-clause-corners c =
     let list = c.in_ok-list.list in
     let is = c.in_ok-list.ensures.list in
     rw c.in_ok-model.ensures
-    (box_list_has_corners c.args.form.now c.args.extent.now list c.requires.extent is)
+    (box_list_has_corners c.args.form.now c.args.extent.now list is)
 
 pub done_text-requires : goal.done_text-requires
 done_text-requires c =
@@ -28,11 +28,10 @@ done_text-requires c =
 
 pub returns-clause-list : goal.returns-clause-list
 returns-clause-list c =
-    let is_box = form_is_box c.args.form.now c.args.extent.now c.requires.extent in
+    let is_box = form_is_box c.args.form.now c.args.extent.now in
     record {
+      is_extent = c.requires.extent;
       sound = c.in_ok-list.ensures.sound _ is_box;
       in_order = c.in_ok-list.ensures.in_order;
-      extent = c.args.extent.now;
-      is_extent = c.requires.extent;
       is_list = c.in_ok-list.ensures.list;
     }

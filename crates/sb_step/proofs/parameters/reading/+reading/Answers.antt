@@ -1,7 +1,8 @@
 use Rattle.std.proofs.Common.{sym, arith}
 use Rattle.std.proofs.lemmas.Result.{IfOk-weaker}
+use Rattle.sb_lex.specs.declared.kinds.Mark.TheVariants as mark
 use Rattle.sb_step.specs.Lexemes.{lexeme_at}
-use Rattle.sb_step.proofs.KindsSay.{open_says}
+use Rattle.sb_step.proofs.KindsSay.{mark_says}
 use Rattle.sb_step.proofs.ParameterLists.ListsAreRead.{list_has_next, list_begins, item_awaited, item_less, next_awaited, list_goes_on, list_ends}
 use Rattle.sb_step.proofs.ParameterLists.ParametersByToken.{list_awaited, reads_list, is_a_value, reads_value, opens_next, first_next, c_is, first_is, less_left, inner_awaited, closes_next, reads_typed}
 use Rattle.sb_step.proofs.parameters.reading.+reading.Goals as goal
@@ -56,7 +57,7 @@ parameter-list-requires t c = (
   (
     c.requires.input,
     list_awaited c.args.lexer.now (lexeme_at c.args.bytes.now c.args.first)
-        (open_says c.args.first.kind (sym c.if-is_open.ensures)) c.requires.awaits,
+        (mark_says mark.Open c.args.first.kind (sym c.if-is_open.ensures)) c.requires.awaits,
   ),
 )
 
@@ -68,7 +69,7 @@ parameter-value-requires-clause-value t c =
 pub parameter-returns-in_ok-list : goal.parameter-returns-in_ok-list
 parameter-returns-in_ok-list t c =
     reads_list c.args.lexer.now c.list.new.lexer (lexeme_at c.args.bytes.now c.args.first)
-    c.in_ok-list.field-0 (open_says c.args.first.kind (sym c.if-is_open.ensures))
+    c.in_ok-list.field-0 (mark_says mark.Open c.args.first.kind (sym c.if-is_open.ensures))
     c.in_ok-list.ensures
 
 pub parameter-returns-else-is_open : goal.parameter-returns-else-is_open

@@ -1,10 +1,29 @@
-use Rattle.std.proofs.Common.{length, sym}
-use Rattle.std.specs.Prelude.{nat_eq}
+use Rattle.std.proofs.Common.{length, sym, ap, ◌∙◌, subst}
+use Rattle.std.specs.Prelude.{nat_eq, option_and_then}
+use Rattle.sb_step.specs.Records.Spans.{keyword_by, keyword_of}
+use Rattle.sb_step.specs.Records.Table.{place_at, PlaceLies, form_of}
 use Rattle.sb_step.proofs.Records.RecordsLie.{records_lie, found_lies}
+use Rattle.sb_step.proofs.Records.PlacesTell.{placed, place_lies, keyword_kept}
 use Rattle.sb_step.proofs.step_file.StepFile.keyword.Goals as goal
 
 pub keyword_at-requires : goal.keyword_at-requires
-keyword_at-requires c = found_lies (length c.self.inside.bytes.now) (nat_eq c.args.number)
-    c.self.inside.instances.entries c.in_ok-record.record.now
-    (records_lie c.self.inside.bytes.now _ c.self.invariant.is.file)
-    (sym c.in_ok-record.ensures.value)
+keyword_at-requires c =
+    let bytes = c.self.inside.text.bytes.now in
+    let o = placed _ c.args.number c.in_ok-place.place
+    (ap (λ s. place_at s.file.instances c.args.number) c.self.view_is ∙ sym c.in_ok-place.ensures) in
+    let lies = found_lies (length bytes) (nat_eq c.args.number) _ o.body
+    (records_lie bytes _ c.self.invariant.is.file) o.found in
+    subst (PlaceLies (length bytes)) o.is (place_lies (length bytes) o.body lies)
+
+pub returns : goal.returns
+returns c =
+    let bytes = c.self.inside.text.bytes.now in
+    let o = placed _ c.args.number c.in_ok-place.place
+    (ap (λ s. place_at s.file.instances c.args.number) c.self.view_is ∙ sym c.in_ok-place.ensures) in
+    let lies = found_lies (length bytes) (nat_eq c.args.number) _ o.body
+    (records_lie bytes _ c.self.invariant.is.file) o.found in
+    c.keyword_at.ensures
+    ∙ ap (λ p. keyword_by bytes p.start (form_of p)) (sym o.is)
+    ∙ keyword_kept (length bytes) o.body lies bytes
+    ∙ sym (ap (option_and_then (λ r. keyword_by bytes r.start r.form)) o.found)
+    ∙ ap (λ s. keyword_of s c.args.number) c.self.view_is

@@ -1,0 +1,53 @@
+-- What a search by halving answers: a row with the number, or that none has it.
+use Rattle.std.proofs.Common.{◌≡◌, ℕ, ◌<◌, ◌≤◌, List, length, Ok, Err, ap, ⊎_elim, get_or, arith}
+use Rattle.std.specs.Prelude.{◌≢◌}
+use Rattle.std.specs.Ordering.{nat_cmp, ordering_index}
+use Rattle.std.specs.List.{All}
+use Rattle.std.specs.List.Sorted.{IsBinarySearchResult}
+use Rattle.std.specs.declared.cmp.Ordering.TheVariants as ordering
+use Rattle.std.proofs.lemmas.Bool.{cases_lt}
+use Rattle.std.proofs.lemmas.List.{get_or_default}
+use Rattle.sb_step.specs.declared.step_file.table.Row.{Row}
+use Rattle.sb_step.specs.Records.Rows.{Rises, IsRowOf}
+
+-- numbers that compare as equal are one
+equal_number : (a b : ℕ) → nat_cmp a b ≡ ordering.Equal → a ≡ b
+equal_number a b e = grind (arith, e)
+
+less_number : (a b : ℕ) → nat_cmp a b ≡ ordering.Less → a < b
+less_number a b e = grind (arith, e)
+
+greater_number : (a b : ℕ) → nat_cmp a b ≡ ordering.Greater → b < a
+greater_number a b e = grind (arith, e)
+
+higher : (a b n : ℕ) → a ≤ b → ordering_index (nat_cmp a n) ≤ ordering_index (nat_cmp b n)
+higher a b n le = grind (arith)
+
+abbrev none : Row
+none = record { number = 0; at = 0 }
+
+module _ (rows : List Row) (n : ℕ) where
+  -- a row that compares as equal has the number
+  pub equal_is : (at : ℕ) → at < length rows
+      → IsBinarySearchResult (λ row. nat_cmp row.number n) rows (Ok at)
+      → IsRowOf rows n (get_or rows at none).at
+  equal_is at within found = record {
+    at = at;
+    within = within;
+    number = λ d. equal_number (get_or rows at d).number n (found d);
+    instance_ = λ d. ap (λ (row : Row). row.at) (get_or_default rows at d none within);
+  }
+
+  -- where the search answers a place between two rows, no row has it
+  pub none_equal : (place : ℕ) → Rises rows
+      → IsBinarySearchResult (λ row. nat_cmp row.number n) rows (Err place)
+      → All (λ row. row.number ≢ n) rows
+  none_equal place rises found k d within same =
+      let parts = found (λ i j e le high. higher (get_or rows i e).number (get_or rows j e).number n
+      (rises i j e le high)) in
+      ⊎_elim
+      (λ low. let less = less_number (get_or rows k d).number n (parts.0 k d (omega arith) low) in
+      omega (arith, less, same))
+      (λ high. let more = greater_number (get_or rows k d).number n (parts.1 k d high within) in
+      omega (arith, more, same))
+      (cases_lt k place)

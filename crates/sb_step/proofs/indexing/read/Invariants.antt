@@ -1,0 +1,13 @@
+use Rattle.std.proofs.Common.{◌≡◌, ◌-◌, length}
+use Rattle.sb_step.specs.Index.Machines.{state_of}
+use Rattle.sb_step.specs.Index.Progress.{Progress}
+use Rattle.sb_step.proofs.indexing.read.Given as goal
+
+abbrev pub invariant-tokens : goal.invariant-tokens
+invariant-tokens l = record {
+  input_is : l.lexer.input ≡ l.bytes;
+  progress : Progress l.bytes l.lexer.place (state_of l.machine) l.collected;
+}
+
+abbrev pub decreases-tokens : goal.decreases-tokens
+decreases-tokens l = length l.bytes - l.lexer.place

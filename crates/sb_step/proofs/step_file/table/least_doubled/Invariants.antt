@@ -1,0 +1,5 @@
+use Rattle.sb_step.specs.Records.Rows.{AreUnlike}
+use Rattle.sb_step.proofs.step_file.table.least_doubled.Given as goal
+
+abbrev pub invariant-rows : goal.invariant-rows
+invariant-rows l = AreUnlike l.at l.rows
