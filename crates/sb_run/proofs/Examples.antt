@@ -14,7 +14,7 @@ asked : command (codes "box.ifc" ∷ codes "--report" ∷ codes "r.json" ∷ [])
     ≡ Some (record { model = codes "box.ifc"; report = codes "r.json" })
 asked = refl
 
-asked_for : Command
+abbrev asked_for : Command
 asked_for = record { model = codes "box.ifc"; report = codes "r.json" }
 
 -- no other option, and no report or model that is missing, empty or an option

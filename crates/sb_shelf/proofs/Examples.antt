@@ -53,10 +53,10 @@ none_is_lost : AppendsFirstOf (3 ∷ 4 ∷ []) (1 ∷ 2 ∷ []) (1 ∷ []) → �
 none_is_lost appended = cc
 
 -- a second path is told behind the first, and a shelf that does not tell them goes on not to
-the_second_is_last : also_asked (Some (1 ∷ [])) (2 ∷ []) ≡ Some (1 ∷ 2 ∷ [])
+the_second_is_last : also_asked {T = ℕ} (Some (1 ∷ [])) (2 ∷ []) ≡ Some (1 ∷ 2 ∷ [])
 the_second_is_last = refl
 
-the_second_is_not_told : also_asked None (2 ∷ []) ≡ None
+the_second_is_not_told : also_asked {T = ℕ} None (2 ∷ []) ≡ None
 the_second_is_not_told = refl
 
 -- one number on two devices is two files
