@@ -18,7 +18,11 @@ fn main(rt: HostRuntime) -> anyhow::Result<()> {
     let looks = env::args(&rt)?.nth(2).is_some();
     let bytes = read_all(alloc, &mut HostShelf::new(rt), path.as_str())?;
     let file = index(alloc, &bytes)?;
-    println!(rt; "{} instances, the greatest #{}", file.numbers().len(), file.greatest())?;
+    println!(rt;
+        "{} instances, the greatest #{}",
+        file.numbers().len(),
+        file.greatest()
+    )?;
     if looks {
         let looked = look(alloc, &bytes, &file)?;
         println!(rt; "{} names, of {} instances", looked.names, looked.found)?;

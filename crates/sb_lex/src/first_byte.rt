@@ -48,7 +48,7 @@ fn head_of(byte: u8) -> Head
 }
 
 /// The kind and the length of the token at the front.
-#[inline]
+#[inline(always)]
 pub(crate) fn token_at(rest: &[u8]) -> Option<(Kind, usize)>
     requires { 0 < length rest.now }
     ensures found { result ≡ spec.scan rest.now }
@@ -68,6 +68,7 @@ pub(crate) fn token_at(rest: &[u8]) -> Option<(Kind, usize)>
     }
 }
 
+#[inline(always)]
 fn signed(rest: &[u8]) -> Option<(Kind, usize)>
     requires { 0 < length rest.now }
     ensures found { result ≡ spec.scan_at Head.Sign rest.now }
@@ -79,7 +80,7 @@ fn signed(rest: &[u8]) -> Option<(Kind, usize)>
     }
 }
 
-#[inline]
+#[inline(always)]
 fn string(rest: &[u8]) -> Option<(Kind, usize)>
     requires { 0 < length rest.now }
     ensures found { result ≡ spec.scan_at Head.Apostrophe rest.now }

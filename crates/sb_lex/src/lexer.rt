@@ -51,6 +51,7 @@ impl<'a> Lexer<'a> {
     ///   that each further call answers the same.
     ///
     /// Source: ISO 10303-21, with this project's leniencies, which `specs/Kinds.antt` states.
+    #[inline(always)]
     pub fn next(&mut self) -> Result<Option<Token>, BadToken>
         ensures answer { IsTokenAnswer self.old result }
         ensures token { (t : Token) → (result ≡ Ok (Some t))

@@ -14,7 +14,7 @@ use crate::kinds::{Kind, Word};
 const TOO_LARGE: u64 = 1 << 32;
 
 /// A word or a keyword, where a letter is at the front.
-#[inline]
+#[inline(always)]
 #[tactic(auto, unfolding(crate::specs::Scanning::scan_letters))]
 pub(crate) fn letters(rest: &[u8]) -> Option<(Kind, usize)>
     ensures found { result ≡ spec.scan_letters rest.now }
@@ -30,6 +30,7 @@ pub(crate) fn letters(rest: &[u8]) -> Option<(Kind, usize)>
     Some((Kind::Keyword, len))
 }
 
+#[inline(always)]
 fn words(rest: &[u8]) -> Option<(Kind, usize)>
     ensures found { result ≡ spec.scan_words rest.now }
     ensures within { IfSome result (λ x. x.1 ≤ length rest.now) }
@@ -44,6 +45,7 @@ fn words(rest: &[u8]) -> Option<(Kind, usize)>
 }
 
 /// A keyword with `!` at the front.
+#[inline(always)]
 #[tactic(auto, unfolding(crate::specs::Scanning::scan_exclamation))]
 pub(crate) fn exclamation(rest: &[u8]) -> Option<(Kind, usize)>
     ensures found { result ≡ spec.scan_exclamation rest.now }
@@ -57,7 +59,7 @@ pub(crate) fn exclamation(rest: &[u8]) -> Option<(Kind, usize)>
 }
 
 /// The name of an instance, where `#` is at the front.
-#[inline]
+#[inline(always)]
 #[tactic(auto, unfolding(crate::specs::Scanning::scan_name))]
 pub(crate) fn name(rest: &[u8]) -> Option<(Kind, usize)>
     requires { 0 < length rest.now }

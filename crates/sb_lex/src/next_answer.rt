@@ -6,7 +6,7 @@ use crate::blanks::blank_len;
 use crate::first_byte::token_at;
 use crate::kinds::{BadToken, Token};
 
-#[inline]
+#[inline(always)]
 pub(crate) fn answer_from(bytes: &[u8], place: usize) -> Result<Option<Token>, BadToken>
     requires { place ≤ length bytes.now }
     ensures answer { IsTokenAnswer (record { input = bytes.now; place = place }) result }

@@ -6,7 +6,7 @@ use crate::classes::{byte_at, digits, is_sign};
 use crate::kinds::Kind;
 
 /// An integer or a real without a sign.
-#[inline]
+#[inline(always)]
 #[tactic(auto, unfolding(crate::specs::Scanning::scan_unsigned))]
 pub(crate) fn unsigned(rest: &[u8]) -> Option<(Kind, usize)>
     ensures found { result ≡ spec.scan_unsigned rest.now }

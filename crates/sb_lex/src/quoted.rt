@@ -26,7 +26,7 @@ pub(crate) fn string_len(rest: &[u8]) -> Option<usize>
 }
 
 /// An enumeration, where `.` is at the front.
-#[inline]
+#[inline(always)]
 #[tactic(auto, unfolding(crate::specs::Scanning::scan_enclosed))]
 pub(crate) fn enumeration(rest: &[u8]) -> Option<(Kind, usize)>
     requires { 0 < length rest.now }
@@ -44,6 +44,7 @@ pub(crate) fn enumeration(rest: &[u8]) -> Option<(Kind, usize)>
 }
 
 /// A binary, where `"` is at the front.
+#[inline(always)]
 #[tactic(auto, unfolding(crate::specs::Scanning::scan_enclosed))]
 pub(crate) fn binary(rest: &[u8]) -> Option<(Kind, usize)>
     requires { 0 < length rest.now }

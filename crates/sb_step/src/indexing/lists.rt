@@ -76,6 +76,7 @@ impl Brackets {
 }
 
 /// What is wanted behind the kind where a parameter list is open, if it may stand there.
+#[inline(always)]
 pub(crate) fn list_move(
     brackets: &mut Brackets,
     want: Want,

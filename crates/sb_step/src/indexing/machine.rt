@@ -33,7 +33,7 @@ impl Machine {
     }
 
     /// Goes on with a token, if it may stand there: what is found at it.
-    #[inline]
+    #[inline(always)]
     pub(crate) fn advance(&mut self, token: Token, text: &[u8]) -> Option<Event>
         ensures { spec.Advances (state_of self.old) (record { token = token; text = text.now })
             result (state_of self.new) }
@@ -45,6 +45,7 @@ impl Machine {
         }
     }
 
+    #[inline(always)]
     fn advance_section(&mut self, token: Token, text: &[u8]) -> Option<Event>
         requires { self.old.brackets ≡ [] }
         ensures { spec.Advances (state_of self.old) (record { token = token; text = text.now })

@@ -52,6 +52,7 @@ fn only(holds: bool, next: Option<Move>) -> Option<Move>
 }
 
 /// What follows the token where no parameter list is open, if it may stand there.
+#[inline(always)]
 pub(crate) fn section_move(section: Section, token: Token, text: &[u8]) -> Option<Move>
     ensures { result ≡ spec.section_move section (record { token = token; text = text.now }) }
 {
