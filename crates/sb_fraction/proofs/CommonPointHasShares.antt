@@ -1,8 +1,8 @@
 -- A common point of two edges that are not parallel lies on each of them by its share: it is the
 -- point where their lines meet.
 
-use Rattle.std.proofs.Common.{◌≡◌, ◌∙◌, ap, ap₂, sym, refl, arith, ℤ, pos, neg_ℤ, ◌<ℤ◌, ◌≤ℤ◌}
-use Rattle.std.proofs.Common.{◌+ℤ◌, ◌-ℤ◌, ◌*ℤ◌, Bool, true, ◌&&◌, int_le}
+use Rattle.std.proofs.Common.{◌≡◌, ◌∙◌, ap, ap₂, sym, refl, arith, ℤ, pos, neg_ℤ, ◌≤ℤ◌}
+use Rattle.std.proofs.Common.{◌+ℤ◌, ◌-ℤ◌, ◌*ℤ◌, true, int_le}
 use Rattle.std.proofs.lemmas.Int.{ints}
 use Rattle.std.proofs.lemmas.Bool.{and_parts}
 use Rattle.std.specs.Ordering.{int_eq}
@@ -11,11 +11,11 @@ use Rattle.theory_numbers.specs.Arrows.{Arrow, arrow, cross, dot, scale, add}
 use Rattle.theory_numbers.proofs.Arrows.{same_arrow, cross-self, cross-turn, cross-scale, cross-add}
 use Rattle.theory_numbers.proofs.Arrows.{add-cross, scale-cross, scale-dot, dot-scale}
 use Rattle.theory_numbers.proofs.ThreeTerms.{cycle_x, cycle_y}
-use Rattle.theory_numbers.proofs.Ring.{mul-zero, zero-mul, mul_assoc, neg-mul}
+use Rattle.theory_numbers.proofs.Ring.{zero-mul, mul_assoc, neg-mul}
 use Rattle.theory_numbers.proofs.Signs.{test_at_most, at_most_from}
 use Rattle.theory_numbers.proofs.Products.{positive_product, positive_square, weak_negative_product}
-use Rattle.theory_numbers.proofs.Products.{weak_negative_factor, weak_square, zero_of_positive}
-use Rattle.theory_numbers.proofs.Shapes.{var, num, plus, minus, times, negated, equal}
+use Rattle.theory_numbers.proofs.Products.{weak_negative_factor, zero_of_positive}
+use Rattle.theory_numbers.proofs.Shapes.{var, plus, minus, times, negated, equal}
 use Rattle.sb_fraction.specs.declared.point.Point.{Point}
 use Rattle.sb_fraction.specs.Spots.{Spot, IsSpot}
 use Rattle.sb_fraction.specs.Edges.{Edge, span_of, seen_from, turn_at, reach_at, is_on}
@@ -47,12 +47,17 @@ cross-further v s w =
     let factor = cross-scale w v s in
     omega (arith, ints)
 
+-- the turn of an edge at a point, by the way to its beginning
+pub turn_by_way : (p : Spot) (e : Edge)
+    → turn_at e p ≡ p.w *ℤ cross (seen_from p e.a) (span_of e)
+turn_by_way p e =
+    rw (seen_later p e.a e.b) (cross-further (seen_from p e.a) (span_of e) p.w)
+
 -- a point on the line of an edge is seen from its ends along it
 pub along_if_on : (p : Spot) (e : Edge) → IsSpot p → turn_at e p ≡ pos 0
     → cross (seen_from p e.a) (span_of e) ≡ pos 0
 along_if_on p e p_in on =
-    let turn : turn_at e p ≡ p.w *ℤ cross (seen_from p e.a) (span_of e) =
-    rw (seen_later p e.a e.b) (cross-further (seen_from p e.a) (span_of e) p.w) in
+    let turn = turn_by_way p e in
     zero_of_positive p.w (cross (seen_from p e.a) (span_of e)) p_in (omega (arith, ints))
 
 -- a point on the lines of two edges is seen from the first edge as a multiple of its vector

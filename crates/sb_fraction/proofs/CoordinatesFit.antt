@@ -1,10 +1,10 @@
 -- The sums of products of the exact plane fit 128 bits.
 
-use Rattle.std.proofs.Common.{◌≡◌, ℕ, ◌+◌, ◌≤◌, ℤ, pos, ◌+ℤ◌, ◌-ℤ◌, unsigned_abs, arith, le_trans}
+use Rattle.std.proofs.Common.{◌≤◌, ℤ, unsigned_abs, le_trans}
 use Rattle.std.proofs.Common.{lit≤}
 use Rattle.std.proofs.lemmas.Int.{to_z-of_z, ints}
 use Rattle.sb_fraction.specs.Plane.{greatest_coordinate, longest_step}
-use Rattle.sb_fraction.specs.Bounds.{greatest_cross, greatest_square, greatest_offset}
+use Rattle.sb_fraction.specs.Bounds.{greatest_cross}
 
 -- a coordinate is no larger than a cross product
 pub coordinate_is_small : (z : ℤ) → unsigned_abs z ≤ greatest_coordinate

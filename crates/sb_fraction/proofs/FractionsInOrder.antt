@@ -62,7 +62,8 @@ same_ratio : (a b : Ratio) → a.num ≡ b.num → a.den ≡ b.den → a ≡ b
 same_ratio a b same_num same_den =
     let whole : ratio a.num a.den ≡ ratio b.num b.den = cc in whole
 
-equal_is_zero : (z : ℤ) → int_cmp (pos 0) z ≡ Equal → z ≡ pos 0
+-- what compares equal with 0 is 0
+pub equal_is_zero : (z : ℤ) → int_cmp (pos 0) z ≡ Equal → z ≡ pos 0
 equal_is_zero z answer = sym (subst (λ o. MatchOrdering o (pos 0 <ℤ z) (pos 0 ≡ z) (z <ℤ pos 0))
     answer (int_ranks (pos 0) z))
 

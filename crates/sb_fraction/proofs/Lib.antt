@@ -10,5 +10,10 @@ mod MeetingInRange
 mod ShortVectors
 mod SidesOfPoints
 mod FractionsInOrder
+mod LinesByGaps
+mod CrossingByGap
+mod GapsTurnedAlong
+mod AmidTheEnds
+mod OrderAtHolds
 -- and what the ranges are
 mod Examples

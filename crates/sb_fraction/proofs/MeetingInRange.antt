@@ -1,29 +1,29 @@
 -- The common point of two edges in range is within its bound, and it is the only one.
 
 use Rattle.std.proofs.Common.{◌≡◌, ◌⊎◌, ◌∙◌, inl, inr, ap, subst, sym, refl, arith, ℕ, ℤ, pos, neg_ℤ}
-use Rattle.std.proofs.Common.{◌≤◌, ◌<ℤ◌, ◌≤ℤ◌, ◌+ℤ◌, ◌-ℤ◌, ◌*ℤ◌, ◌*◌, ◌^◌, Bool, true, false}
-use Rattle.std.proofs.Common.{not, ◌&&◌, int_lt, int_le, unsigned_abs, nat_le, IsTrue, le_trans, le_refl, lit≤}
-use Rattle.std.proofs.Common.{if◌then◌else◌, Some, None}
+use Rattle.std.proofs.Common.{◌≤◌, ◌<ℤ◌, ◌≤ℤ◌, ◌+ℤ◌, ◌-ℤ◌, ◌*ℤ◌, ◌*◌, Bool, true, false}
+use Rattle.std.proofs.Common.{int_lt, int_le, unsigned_abs, IsTrue, le_trans, le_refl, lit≤}
+use Rattle.std.proofs.Common.{if◌then◌else◌}
 use Rattle.std.proofs.Math.Nat.{mul-le-mul}
 use Rattle.std.proofs.lemmas.Int.{to_z-of_z, ints, unsigned_abs-mul, by_lt_z}
 use Rattle.std.proofs.lemmas.Bool.{and_from, and_parts, leb-true, le-leb}
 use Rattle.std.specs.Ordering.{int_eq}
 use Rattle.std.specs.Cmp.{signed_Decides}
-use Rattle.theory_numbers.specs.Arrows.{Arrow, cross, scale}
+use Rattle.theory_numbers.specs.Arrows.{Arrow, scale}
 use Rattle.theory_numbers.proofs.Ring.{mul-neg, neg-mul, neg-mul-neg, mul_comm, mul-sub}
 use Rattle.theory_numbers.proofs.Signs.{at_most_from, less_from, not_less_from, sign_cases}
-use Rattle.theory_numbers.proofs.Products.{scale_at_most, weak_product, weak_negative_product}
+use Rattle.theory_numbers.proofs.Products.{scale_at_most, weak_negative_product}
 use Rattle.theory_numbers.proofs.Products.{positive_product, product_of_negatives}
-use Rattle.theory_numbers.proofs.Shapes.{var, num, plus, minus, times, negated, equal}
+use Rattle.theory_numbers.proofs.Shapes.{var, plus, minus, times, negated, equal}
 use Rattle.sb_fraction.specs.declared.point.Point.{Point}
 use Rattle.sb_fraction.specs.declared.point.HPoint.{HPoint}
 use Rattle.sb_fraction.specs.Plane.{greatest_coordinate, is_coordinate, is_plan_point}
-use Rattle.sb_fraction.specs.Spots.{Spot, IsSpot, spot, spot_of}
+use Rattle.sb_fraction.specs.Spots.{Spot, IsSpot, spot_of}
 use Rattle.sb_fraction.specs.Edges.{Edge, span_of, seen_from, turn_at, reach_at, is_on, is_in_range}
 use Rattle.sb_fraction.specs.Crossings.{are_parallel, meeting_of, with_positive}
 use Rattle.sb_fraction.specs.Bounds.{greatest_cross, greatest_crossing, is_crossing_size}
 use Rattle.sb_fraction.specs.Meetings.{IsCommon, HaveNoCommonPoint, IsSamePoint, IsMeeting}
-use Rattle.sb_fraction.specs.Steps.{turn_between, share_of, is_share, meet_once}
+use Rattle.sb_fraction.specs.Steps.{turn_between, share_of, meet_once}
 use Rattle.sb_fraction.proofs.SidesOfPoints.{first_in_range, second_in_range}
 use Rattle.sb_fraction.proofs.PointsByShares.{turned_spot}
 use Rattle.sb_fraction.proofs.CommonPointHasShares.{seen_by_share}

@@ -1,28 +1,26 @@
 -- The point where the lines of two edges meet is their common point exactly where it lies on both by
 -- its shares, and there is no other.
 
-use Rattle.std.proofs.Common.{◌≡◌, ◌⊎◌, ◌∙◌, inl, inr, ap, sym, refl, arith, ℕ, ℤ, pos, neg_ℤ}
-use Rattle.std.proofs.Common.{◌≤◌, ◌<ℤ◌, ◌≤ℤ◌, ◌+ℤ◌, ◌-ℤ◌, ◌*ℤ◌, Bool, true, false, not, ◌&&◌}
-use Rattle.std.proofs.Common.{int_lt, int_le, unsigned_abs, IsTrue, if◌then◌else◌}
+use Rattle.std.proofs.Common.{◌≡◌, ◌∙◌, ap, sym, arith, ℤ, pos, neg_ℤ}
+use Rattle.std.proofs.Common.{◌<ℤ◌, ◌≤ℤ◌, ◌+ℤ◌, ◌-ℤ◌, ◌*ℤ◌, Bool, true, false, not, ◌&&◌}
+use Rattle.std.proofs.Common.{int_lt, if◌then◌else◌}
 use Rattle.std.proofs.lemmas.Int.{ints}
-use Rattle.std.proofs.lemmas.Bool.{and_from, and_parts, not-true, false_from_ne_true, not_from_false}
-use Rattle.std.specs.Ordering.{int_eq}
+use Rattle.std.proofs.lemmas.Bool.{and_from, and_parts, not-true, not_from_false}
 use Rattle.std.specs.Cmp.{signed_Decides}
-use Rattle.theory_numbers.specs.Arrows.{Arrow, arrow, cross, dot, scale}
+use Rattle.theory_numbers.specs.Arrows.{Arrow, cross, dot, scale}
 use Rattle.theory_numbers.proofs.Arrows.{same_arrow, cross-turn}
 use Rattle.theory_numbers.proofs.ThreeTerms.{cycle_x, cycle_y}
-use Rattle.theory_numbers.proofs.Ring.{mul-neg, neg-mul, neg-mul-neg}
-use Rattle.theory_numbers.proofs.Signs.{at_most_from, less_from, not_less_from}
-use Rattle.theory_numbers.proofs.Shapes.{var, num, plus, minus, times, negated, equal}
-use Rattle.sb_fraction.specs.declared.point.HPoint.{HPoint}
-use Rattle.sb_fraction.specs.Spots.{Spot, spot, IsSpot, spot_of}
-use Rattle.sb_fraction.specs.Edges.{Edge, span_of, seen_from, turn_at, reach_at, is_on, is_within}
+use Rattle.theory_numbers.proofs.Ring.{neg-mul-neg}
+use Rattle.theory_numbers.proofs.Signs.{at_most_from}
+use Rattle.theory_numbers.proofs.Shapes.{var, plus, minus, times, negated, equal}
+use Rattle.sb_fraction.specs.Spots.{Spot, spot, IsSpot}
+use Rattle.sb_fraction.specs.Edges.{Edge, span_of, seen_from, is_on, is_within}
 use Rattle.sb_fraction.specs.Crossings.{are_parallel, meeting_of, with_positive}
-use Rattle.sb_fraction.specs.Meetings.{IsCommon, HaveNoCommonPoint, IsSamePoint}
+use Rattle.sb_fraction.specs.Meetings.{IsCommon}
 use Rattle.sb_fraction.specs.Steps.{turn_between, share_of, is_share, meet_once}
 use Rattle.sb_fraction.proofs.PointsByShares.{IsSeen, on_if_seen, within_if_seen, seen_turned}
 use Rattle.sb_fraction.proofs.PointsByShares.{turned_spot, length_if_turned}
-use Rattle.sb_fraction.proofs.CommonPointHasShares.{way, seen_by_share, share_if_on}
+use Rattle.sb_fraction.proofs.CommonPointHasShares.{way, share_if_on}
 
 -- the point where the lines meet, with a denominator of any sign
 abbrev pub unturned : Edge → Edge → Spot
@@ -239,7 +237,8 @@ turned_if_apart e f apart zero =
     clash : are_parallel e f ≡ false → are_parallel e f ≡ true → ⊥
     clash none some = cc
 
-turned_back : (e f : Edge) → (turn_between e f ≡ pos 0 → ⊥) → turn_between f e ≡ pos 0 → ⊥
+-- in either order
+pub turned_back : (e f : Edge) → (turn_between e f ≡ pos 0 → ⊥) → turn_between f e ≡ pos 0 → ⊥
 turned_back e f turned zero =
     turned (let turn = cross-turn (span_of e) (span_of f) in omega (arith, ints))
 

@@ -1,26 +1,23 @@
 -- A point from which the two ends of an edge are seen as multiples of the edge's vector is on its
 -- line, and on the edge where the product of the two factors is at most 0.
 
-use Rattle.std.proofs.Common.{◌≡◌, ◌⊎◌, ◌∙◌, inl, inr, ap, ap₂, sym, refl, arith, ℤ, pos, neg_ℤ}
-use Rattle.std.proofs.Common.{◌<ℤ◌, ◌≤ℤ◌, ◌+ℤ◌, ◌-ℤ◌, ◌*ℤ◌, Bool, true, false, ◌&&◌, int_lt}
-use Rattle.std.proofs.Common.{if◌then◌else◌}
+use Rattle.std.proofs.Common.{◌≡◌, ◌⊎◌, ◌∙◌, inl, inr, ap, sym, arith, ℤ, pos, neg_ℤ}
+use Rattle.std.proofs.Common.{◌<ℤ◌, ◌≤ℤ◌, ◌+ℤ◌, ◌-ℤ◌, ◌*ℤ◌, true}
 use Rattle.std.proofs.lemmas.Int.{ints}
-use Rattle.std.proofs.lemmas.Bool.{and_from, and_parts}
+use Rattle.std.proofs.lemmas.Bool.{and_from}
 use Rattle.std.specs.Ordering.{int_eq}
 use Rattle.std.specs.Cmp.{signed_Decides}
-use Rattle.theory_numbers.specs.Arrows.{Arrow, arrow, cross, dot, scale, opposite}
+use Rattle.theory_numbers.specs.Arrows.{Arrow, cross, dot, scale}
 use Rattle.theory_numbers.proofs.Arrows.{same_arrow, cross-self, scale-cross, cross-scale}
-use Rattle.theory_numbers.proofs.Arrows.{scale-dot, dot-scale, opposite-cross, cross-opposite}
-use Rattle.theory_numbers.proofs.Arrows.{opposite-dot, dot_comm}
+use Rattle.theory_numbers.proofs.Arrows.{scale-dot, dot-scale}
 use Rattle.theory_numbers.proofs.Ring.{mul-zero, zero-mul, mul_comm, mul_assoc, neg-mul}
-use Rattle.theory_numbers.proofs.Signs.{test_at_most, test_less, sign_cases, less_from, not_less_from}
-use Rattle.theory_numbers.proofs.Products.{weak_product, positive_square, weak_square}
+use Rattle.theory_numbers.proofs.Signs.{test_at_most, test_less, sign_cases}
+use Rattle.theory_numbers.proofs.Products.{positive_square, weak_square}
 use Rattle.theory_numbers.proofs.Products.{weak_negative_product, negative_product}
-use Rattle.theory_numbers.proofs.Shapes.{var, num, plus, minus, times, negated, equal}
+use Rattle.theory_numbers.proofs.Shapes.{var, minus, times, negated, equal}
 use Rattle.sb_fraction.specs.declared.point.Point.{Point}
 use Rattle.sb_fraction.specs.Spots.{Spot, spot}
 use Rattle.sb_fraction.specs.Edges.{Edge, span_of, seen_from, turn_at, reach_at, is_on, is_within}
-use Rattle.sb_fraction.specs.Crossings.{with_positive}
 
 -- ---- vectors
 

@@ -28,15 +28,15 @@ meet_once e f =
     not (are_parallel e f)
     && (is_share (turn_between e f) (share_of e f) && is_share (turn_between f e) (share_of f e))
 
--- how far the line of the second edge lies above that of the first, as a linear form over the
--- abscissa: times d·d it is their clearance
+-- how far the line through b along t lies above the line through a along s over d, as a linear form
+-- over the abscissa, for s and t that run along d. Times d·d it is the clearance of the two lines
+abbrev pub gap_between : Arrow → Arrow → Arrow → Arrow → Arrow → Arrow
+gap_between d s a t b =
+    arrow ((cross t b *ℤ dot d s) -ℤ (cross s a *ℤ dot d t)) (cross s t)
+
+-- the same of two edges
 abbrev pub gap_over : Arrow → Edge → Edge → Arrow
-gap_over d e f =
-    let s = span_along d e in
-    let t = span_along d f in
-    arrow
-    ((cross t (place f.a) *ℤ dot d s) -ℤ (cross s (place e.a) *ℤ dot d t))
-    (cross s t)
+gap_over d e f = gap_between d (span_along d e) (place e.a) (span_along d f) (place f.a)
 
 -- the order by a gap, or where it is 0 by its slope
 abbrev pub gap_order : ℤ → ℤ → Ordering

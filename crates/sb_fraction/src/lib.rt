@@ -19,7 +19,7 @@ mod unit;
 pub use direction::{Direction, Line};
 pub use fraction::{Fraction, reduce};
 pub use meeting::meet;
-pub use order::compare;
+pub use order::{compare, order_at};
 pub use point::{HPoint, Point, Segment};
 pub use side::orient;
 pub use steps::Steps;

@@ -1,4 +1,4 @@
-use Rattle.std.proofs.Common.{◌≡◌, ◌∙◌, sym, refl, inl, inr}
+use Rattle.std.proofs.Common.{◌∙◌, sym, refl}
 use Rattle.sb_fraction.specs.Edges.{edge_of}
 use Rattle.sb_fraction.proofs.MeetingInRange.{meeting_is, neither_if_once, one_if_not_once}
 use Rattle.sb_fraction.proofs.meeting.meet.Goals as goal
