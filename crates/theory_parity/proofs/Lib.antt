@@ -1,0 +1,7 @@
+-- The laws by topic.
+
+-- rays
+pub mod ClosedChains
+pub mod AnyRay
+pub mod InsideByBelow
+pub mod BelowByValue

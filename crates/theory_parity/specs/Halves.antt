@@ -1,0 +1,35 @@
+-- Open half-planes, and the points between two points.
+
+use Rattle.std.specs.Prelude.{ℤ, pos, ◌+ℤ◌, ◌*ℤ◌, Bool, not, List}
+use Rattle.std.specs.Ordering.{int_eq}
+use Rattle.std.specs.List.{list_all}
+use Rattle.theory_numbers.specs.Tests.{is_positive}
+use Rattle.sb_fraction.specs.Spots.{Spot, spot}
+
+-- the line a·x + b·y + c = 0, and the open half-plane where this is above 0
+pub record Half : Type 0 where
+  pub a : ℤ
+  pub b : ℤ
+  pub c : ℤ
+
+-- a·x + b·y + c at the point, w times
+abbrev pub height_over : Half → Spot → ℤ
+height_over h p = ((h.a *ℤ p.x) +ℤ (h.b *ℤ p.y)) +ℤ (h.c *ℤ p.w)
+
+-- the point lies in the half-plane
+abbrev pub is_in_half : Spot → Half → Bool
+is_in_half p h = is_positive (height_over h p)
+
+-- it lies in each of them: what they have in common is convex
+abbrev pub is_in_all : List Half → Spot → Bool
+is_in_all halves p = list_all (is_in_half p) halves
+
+-- it lies on none of the lines
+abbrev pub is_off : List Half → Spot → Bool
+is_off cuts p = list_all (λ h. not (int_eq (height_over h p) (pos 0))) cuts
+
+-- the point on the way from p to q that has the weight m of p and n of q, for whole numbers that
+-- are at least 0 and not both 0
+abbrev pub on_way : ℤ → Spot → ℤ → Spot → Spot
+on_way m p n q =
+    spot ((m *ℤ p.x) +ℤ (n *ℤ q.x)) ((m *ℤ p.y) +ℤ (n *ℤ q.y)) (pos 0) ((m *ℤ p.w) +ℤ (n *ℤ q.w))
