@@ -5,3 +5,5 @@ pub mod ClosedChains
 pub mod AnyRay
 pub mod InsideByBelow
 pub mod BelowByValue
+pub mod Heights
+pub mod Moves
