@@ -5,7 +5,7 @@ use Rattle.std.proofs.Common.{ℕ, zero, suc, ◌+◌, cond, count_by, IsPermuta
 use Rattle.std.proofs.lemmas.Bool.{or_parts}
 use Rattle.std.proofs.lemmas.List.Sums.{sum_by-cons}
 use Rattle.std.proofs.lemmas.List.Sorted.{sum_by-IsPermutation}
-use Rattle.std.specs.List.{list_any}
+use Rattle.std.specs.List.{AllByRecursion, list_any}
 use Rattle.theory_lists.specs.Parity.{differ, is_odd_number}
 
 -- ---- exclusive or
@@ -97,6 +97,12 @@ module _ {X : Type 0} where
       → is_odd_number f xs ≡ is_odd_number g xs
   is_odd_number-same f g same [] = refl
   is_odd_number-same f g same (x ∷ xs) = ap₂ differ (same x) (is_odd_number-same f g same xs)
+
+  -- of two tests that answer alike on the items of the list it is the same
+  pub odd_where_same : (f g : X → Bool) (xs : List X) → AllByRecursion (λ x. f x ≡ g x) xs
+      → is_odd_number f xs ≡ is_odd_number g xs
+  odd_where_same f g [] same = refl
+  odd_where_same f g (x ∷ xs) same = ap₂ differ same.0 (odd_where_same f g xs same.1)
 
   -- of the exclusive or of two tests it is the exclusive or of the two folds
   pub is_odd_number-differ : (f g : X → Bool) (xs : List X)

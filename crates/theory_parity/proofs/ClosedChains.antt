@@ -1,0 +1,72 @@
+-- Two tests of edges that differ by a test of points at the ends of each edge pass an odd number of
+-- the edges of closed loops alike.
+
+use Rattle.std.proofs.Common.{◌≡◌, refl, ap, ap₂, ◌∙◌, Bool, true, false, List, [], ◌∷◌, ◌++◌}
+use Rattle.std.specs.List.{list_any}
+use Rattle.std.proofs.lemmas.Bool.{or_parts}
+use Rattle.theory_lists.specs.Parity.{differ, is_odd_number}
+use Rattle.theory_lists.proofs.Parity.{differ-self, differ-false, differ-differ, same_from_differ}
+use Rattle.theory_lists.proofs.Parity.{is_odd_number-append}
+use Rattle.sb_fraction.specs.declared.point.Point.{Point}
+use Rattle.sb_fraction.specs.Edges.{Edge, edge}
+use Rattle.theory_plans.specs.LoopEdges.{edges_back, edges_of_loop, edges_of}
+
+-- but on barred edges, two tests differ just where a test of points differs at the two ends
+pub record Telescopes (barred f g : Edge → Bool) (w : Point → Bool) : Type 0 where
+  pub at : (a b : Point) → barred (edge a b) ≡ false
+      → differ (f (edge a b)) (g (edge a b)) ≡ differ (w a) (w b)
+
+between_cancels : (a b c : Bool) → differ (differ a b) (differ b c) ≡ differ a c
+between_cancels true true true = refl
+between_cancels true true false = refl
+between_cancels true false true = refl
+between_cancels true false false = refl
+between_cancels false true true = refl
+between_cancels false true false = refl
+between_cancels false false c = refl
+
+any_in_parts : {X : Type 0} (test : X → Bool) (xs ys : List X) → list_any test (xs ++ ys) ≡ false
+    → (list_any test xs ≡ false) × (list_any test ys ≡ false)
+any_in_parts test [] ys none = (refl, none)
+any_in_parts test (x ∷ xs) ys none =
+    let parts = or_parts (test x) (list_any test (xs ++ ys)) none in
+    let rest = any_in_parts test xs ys parts.1 in
+    (rw (parts.0) rest.0, rest.1)
+
+module _ {barred f g : Edge → Bool} {w : Point → Bool} (ends : Telescopes barred f g w) where
+  -- along an open chain the two parities differ just where the test differs at its two ends
+  pub open_chain : (a : Point) (points : List Point) (last : Point)
+      → list_any barred (edges_back a points last) ≡ false
+      → differ (is_odd_number f (edges_back a points last))
+      (is_odd_number g (edges_back a points last))
+      ≡ differ (w a) (w last)
+  open_chain a [] last none =
+      let parts = or_parts (barred (edge a last)) false none in
+      ap₂ differ (differ-false (f (edge a last))) (differ-false (g (edge a last)))
+      ∙ ends.at a last parts.0
+  open_chain a (b ∷ points) last none =
+      let parts = or_parts (barred (edge a b)) (list_any barred (edges_back b points last)) none in
+      differ-differ (f (edge a b)) (is_odd_number f (edges_back b points last)) (g (edge a b))
+      (is_odd_number g (edges_back b points last))
+      ∙ ap₂ differ (ends.at a b parts.0) (open_chain b points last parts.1)
+      ∙ between_cancels (w a) (w b) (w last)
+
+  -- around a closed loop they are the same
+  pub closed_loop : (points : List Point) → list_any barred (edges_of_loop points) ≡ false
+      → is_odd_number f (edges_of_loop points) ≡ is_odd_number g (edges_of_loop points)
+  closed_loop [] none = refl
+  closed_loop (a ∷ points) none =
+      same_from_differ (is_odd_number f (edges_back a points a))
+      (is_odd_number g (edges_back a points a))
+      (open_chain a points a none ∙ differ-self (w a))
+
+  -- and over all edges of closed loops
+  pub closed_chains : (loops : List (List Point)) → list_any barred (edges_of loops) ≡ false
+      → is_odd_number f (edges_of loops) ≡ is_odd_number g (edges_of loops)
+  closed_chains [] none = refl
+  closed_chains (points ∷ loops) none =
+      let parts = any_in_parts barred (edges_of_loop points) (edges_of loops) none in
+      rw (
+        is_odd_number-append f (edges_of_loop points) (edges_of loops),
+        is_odd_number-append g (edges_of_loop points) (edges_of loops),
+      ) (ap₂ differ (closed_loop points parts.0) (closed_chains loops parts.1))

@@ -1,0 +1,9 @@
+-- The laws by topic.
+
+-- rays
+pub mod ClosedChains
+pub mod AnyRay
+pub mod InsideByBelow
+pub mod BelowByValue
+pub mod Heights
+pub mod Moves

@@ -1,0 +1,45 @@
+-- Which edges lie below a point along any direction d, in the frame of d: the abscissa of a point is
+-- u = p·d, and v = p·(-dy, dx) says how high it lies.
+
+use Rattle.std.specs.Prelude.{pos, neg_ℤ, ◌<ℤ◌, ◌+ℤ◌, ◌-ℤ◌, ◌*ℤ◌, Bool, ◌&&◌}
+use Rattle.theory_numbers.specs.Arrows.{Arrow, arrow, dot}
+use Rattle.theory_numbers.specs.Rationals.{is_below}
+use Rattle.theory_plane.specs.Sides.{value_on}
+use Rattle.theory_plane.specs.Points.{FacePoint, abscissa_of, is_above_side, point_at}
+use Rattle.sb_fraction.specs.Spots.{Spot, spot}
+use Rattle.sb_fraction.specs.Edges.{Edge}
+use Rattle.sb_fraction.specs.Lines.{in_frame, line_over, reaches_past}
+
+-- a vector that is not 0: a direction, or any multiple of one
+abbrev pub IsWay : Arrow → Type 0
+IsWay d = pos 0 <ℤ dot d d
+
+-- the way down in the frame of d: for (0, 1) the ray to the right
+abbrev pub down_from : Arrow → Arrow
+down_from d = arrow d.y (neg_ℤ d.x)
+
+-- the abscissa of a point, p·d
+abbrev pub abscissa_in : Arrow → Spot → Arrow
+abscissa_in d p = abscissa_of (in_frame d p)
+
+-- the edge lies below p: it reaches past p's abscissa, and p lies above its line. Of an edge that
+-- stands at right angles to d no part lies below a point
+abbrev pub is_below_at : Arrow → Spot → Edge → Bool
+is_below_at d p e = reaches_past d (abscissa_in d p) e && is_above_side (line_over d e) (in_frame d p)
+
+-- the plan point of a point in the frame of d
+abbrev pub spot_from : Arrow → FacePoint → Spot
+spot_from d f =
+    spot ((f.u *ℤ d.x) -ℤ (f.v *ℤ d.y)) ((f.u *ℤ d.y) +ℤ (f.v *ℤ d.x)) (pos 0) (dot d d *ℤ f.w)
+
+-- the plan point at u and v
+abbrev pub spot_in : Arrow → Arrow → Arrow → Spot
+spot_in d u v = spot_from d (point_at u v)
+
+-- the v of an edge's line at u
+abbrev pub value_of : Arrow → Arrow → Edge → Arrow
+value_of d u e = value_on (line_over d e) u
+
+-- the edge reaches past u and has a lesser v than this one there
+abbrev pub is_lower_at : Arrow → Arrow → Arrow → Edge → Bool
+is_lower_at d u v e = reaches_past d u e && is_below (value_of d u e) v

@@ -1,0 +1,3 @@
+-- What the laws speak of, in reading order.
+pub mod Below
+pub mod Halves
