@@ -9,7 +9,7 @@ use Rattle.sb_model.specs.declared.face.FaceKind.{FaceKind}
 use Rattle.sb_fraction.specs.Spots.{Spot, times_w}
 use Rattle.sb_model.specs.Faces.{Surface}
 use Rattle.sb_model.specs.Patches.{is_same_kind, is_in_patch}
-use Rattle.sb_model.specs.Covers.{is_top_at}
+use Rattle.sb_model.specs.Boundaries.Covers.{is_top_at}
 use Rattle.theory_lists.specs.Members.{Stands, AllOfTwo}
 use Rattle.theory_lists.specs.OneOf.{ExactlyOne}
 use Rattle.theory_models.proofs.PatchesBetweenLevels.{is_in_window, in_levels}

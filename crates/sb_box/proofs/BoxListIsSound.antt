@@ -24,13 +24,13 @@ use Rattle.sb_model.specs.Faces.{Surface, surface_of, space_numbered, has_face, 
 use Rattle.sb_model.specs.PlainPoints.{is_plain}
 use Rattle.sb_model.specs.Patches.{is_same_kind, is_in_patch, is_child_of, is_id}
 use Rattle.theory_lists.specs.Members.{Stands}
-use Rattle.sb_model.specs.Places.{boundary_at}
-use Rattle.sb_model.specs.Covers.{Covers, CoversFace, is_top_at}
-use Rattle.sb_model.specs.Trimmed.{AreTopsTrimmed, AreTrimmed}
-use Rattle.sb_model.specs.Mirrors.{ArePaired, IsPairedBy}
-use Rattle.sb_model.specs.Nested.{IsNested, Opens, is_child_at}
-use Rattle.sb_model.specs.Order.{IsInOrder, IsBefore, rank_of}
-use Rattle.sb_model.specs.Sound.{IsSound}
+use Rattle.sb_model.specs.Boundaries.Places.{boundary_at}
+use Rattle.sb_model.specs.Boundaries.Covers.{Covers, CoversFace, is_top_at}
+use Rattle.sb_model.specs.Boundaries.Trimmed.{AreTopsTrimmed, AreTrimmed}
+use Rattle.sb_model.specs.Boundaries.Mirrors.{ArePaired, IsPairedBy}
+use Rattle.sb_model.specs.Boundaries.Nested.{IsNested, Opens, is_child_at}
+use Rattle.sb_model.specs.Boundaries.Order.{IsInOrder, IsBefore, rank_of}
+use Rattle.sb_model.specs.Boundaries.Sound.{IsSound}
 use Rattle.theory_models.proofs.PatchesBetweenLevels.{is_in_window}
 use Rattle.theory_models.proofs.BoundariesById.{stands_with_id}
 use Rattle.std.proofs.lemmas.Option.{same_Some, none-some}

@@ -14,7 +14,7 @@ use Rattle.sb_model.specs.declared.face.FaceKind.TheVariants as kind
 use Rattle.sb_model.specs.declared.walk.End.{End}
 use Rattle.sb_model.specs.declared.walk.End.TheVariants as end
 use Rattle.sb_model.specs.Patches.{is_same_kind}
-use Rattle.sb_model.specs.Order.{rank_of}
+use Rattle.sb_model.specs.Boundaries.Order.{rank_of}
 use Rattle.theory_lists.specs.Members.{AllOfTwo}
 use Rattle.theory_lists.specs.OneOf.{ExactlyOne}
 use Rattle.theory_models.proofs.PatchesBetweenLevels.{is_in_window}

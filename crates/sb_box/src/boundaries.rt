@@ -7,8 +7,8 @@ ghost use Rattle.sb_box.specs.BoxModel.{IsBoxModel};
 ghost use Rattle.sb_fraction.specs.Plane.{is_coordinate};
 ghost use Rattle.sb_model.specs.Building.{Building};
 ghost use Rattle.theory_numbers.specs.Fractions.{whole};
-ghost use Rattle.sb_model.specs.Order.{IsInOrder};
-ghost use Rattle.sb_model.specs.Sound.{IsSound};
+ghost use Rattle.sb_model.specs.Boundaries.Order.{IsInOrder};
+ghost use Rattle.sb_model.specs.Boundaries.Sound.{IsSound};
 ghost use Rattle.theory_plane.specs.Sides.{level};
 ghost use Rattle.sb_model.specs.Sides.{line_of, is_side_of};
 

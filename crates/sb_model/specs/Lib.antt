@@ -11,11 +11,5 @@ pub mod PlainPoints
 pub mod Passages
 pub mod Walks
 pub mod Patches
-pub mod Places
-pub mod Covers
-pub mod Trimmed
-pub mod Mirrors
-pub mod OpenedPoints
-pub mod Nested
-pub mod Order
-pub mod Sound
+-- what is true of lists of boundaries
+pub mod Boundaries

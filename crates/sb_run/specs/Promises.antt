@@ -8,8 +8,8 @@ use Rattle.sb_shelf.specs.declared.shelf.Out.TheVariants.{Ifc, Idf, Report, Said
 use Rattle.sb_step.specs.Indexed.{Indexed}
 use Rattle.sb_step.specs.IndexAnswers.{IsIndexed, HasDoubled}
 use Rattle.sb_model.specs.declared.boundary.Boundary.{Boundary}
-use Rattle.sb_model.specs.Order.{IsInOrder}
-use Rattle.sb_model.specs.Sound as model
+use Rattle.sb_model.specs.Boundaries.Order.{IsInOrder}
+use Rattle.sb_model.specs.Boundaries.Sound as model
 use Rattle.sb_box.specs.BoxList.{IsBoxList}
 use Rattle.sb_box.specs.declared.extent.Extent.{Extent}
 use Rattle.sb_form.specs.FirstForm.{IsFormOf}

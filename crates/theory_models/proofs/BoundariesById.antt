@@ -2,7 +2,7 @@
 use Rattle.std.proofs.Common.{◌≡◌, ℕ, zero, suc, List, Some}
 use Rattle.std.proofs.lemmas.Option.{none-some}
 use Rattle.sb_model.specs.declared.boundary.Boundary.{Boundary}
-use Rattle.sb_model.specs.Places.{boundary_at}
+use Rattle.sb_model.specs.Boundaries.Places.{boundary_at}
 use Rattle.theory_lists.specs.Members.{Stands}
 use Rattle.theory_lists.proofs.Members.{stands_at}
 

@@ -12,7 +12,7 @@ use Rattle.sb_model.specs.declared.products.Opening.{Opening}
 use Rattle.sb_model.specs.Solids.{is_in_solid}
 use Rattle.sb_model.specs.Labels.{label_at, layer_at}
 use Rattle.sb_model.specs.PlanEdges.{is_crossing, is_abscissa}
-use Rattle.sb_model.specs.OpenedPoints.{key_of}
+use Rattle.sb_model.specs.Boundaries.OpenedPoints.{key_of}
 use Rattle.sb_model.specs.Walks.{is_rounded}
 use Rattle.theory_models.proofs.BoxesAreSolid.{box_is_solid}
 use Rattle.theory_models.proofs.ExampleModels.{block, layered_wall, layered_wall_between_rooms}

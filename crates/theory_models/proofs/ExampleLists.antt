@@ -27,10 +27,10 @@ use Rattle.sb_model.specs.Faces.{bottom_of}
 use Rattle.theory_numbers.specs.Fractions.{whole}
 use Rattle.sb_model.specs.Walks.{item}
 use Rattle.sb_model.specs.Patches.{region_of}
-use Rattle.sb_model.specs.Covers.{Covers}
-use Rattle.sb_model.specs.Trimmed.{AreTopsTrimmed}
-use Rattle.sb_model.specs.Mirrors.{Mirrors}
-use Rattle.sb_model.specs.Nested.{IsInParent}
+use Rattle.sb_model.specs.Boundaries.Covers.{Covers}
+use Rattle.sb_model.specs.Boundaries.Trimmed.{AreTopsTrimmed}
+use Rattle.sb_model.specs.Boundaries.Mirrors.{Mirrors}
+use Rattle.sb_model.specs.Boundaries.Nested.{IsInParent}
 use Rattle.theory_models.proofs.ExampleModels.{block, box_room, box}
 
 one_is_positive : pos 0 <ℤ pos 1

@@ -25,7 +25,7 @@ use Rattle.sb_model.specs.Labels.{label_at}
 use Rattle.sb_model.specs.Passages.{Ray, ray_from, at_depth, ArePassages, passages_of, pieces_of}
 use Rattle.sb_model.specs.Passages.{before_pieces, Piece, piece, passage}
 use Rattle.sb_model.specs.Walks.{Course, course, Goes, IsWalk}
-use Rattle.sb_model.specs.OpenedPoints.{IsOpened}
+use Rattle.sb_model.specs.Boundaries.OpenedPoints.{IsOpened}
 
 -- a ray whose label is one at all depths above 0 has one passage
 pub one_passage : {L : Type 0} (f : Arrow → L) (l : L)

@@ -12,7 +12,7 @@ use Rattle.sb_model.specs.declared.patch.Patch.{Patch}
 use Rattle.sb_model.specs.Sides.{arrow_of, line_of}
 use Rattle.sb_model.specs.Patches.{region_of}
 use Rattle.theory_lists.specs.Members.{AllOfTwo}
-use Rattle.sb_model.specs.Places.{boundary_at}
+use Rattle.sb_model.specs.Boundaries.Places.{boundary_at}
 
 -- the faces of a space in order: Bottom, Top, Side(0), Side(1) and so on
 abbrev pub rank_of : FaceKind → ℕ

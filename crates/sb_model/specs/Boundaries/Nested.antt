@@ -11,10 +11,10 @@ use Rattle.sb_model.specs.Faces.{Surface, surface_of, space_numbered}
 use Rattle.sb_model.specs.PlainPoints.{is_plain}
 use Rattle.sb_model.specs.Patches.{region_of, is_in_patch, is_child_of}
 use Rattle.theory_lists.specs.Members.{Stands, AllOfTwo}
-use Rattle.sb_model.specs.Places.{boundary_at}
+use Rattle.sb_model.specs.Boundaries.Places.{boundary_at}
 use Rattle.theory_lists.specs.OneOf.{ExactlyOne, NoneOf}
-use Rattle.sb_model.specs.Trimmed.{AreTrimmed}
-use Rattle.sb_model.specs.OpenedPoints.{IsOpened, IsKey}
+use Rattle.sb_model.specs.Boundaries.Trimmed.{AreTrimmed}
+use Rattle.sb_model.specs.Boundaries.OpenedPoints.{IsOpened, IsKey}
 
 -- the boundary lies in the one with this id: a top-level boundary of the same face with the same
 -- walk, whose patch contains each point of its patch

@@ -3,10 +3,10 @@
 use Rattle.std.specs.Prelude.{List}
 use Rattle.sb_model.specs.declared.boundary.Boundary.{Boundary}
 use Rattle.sb_model.specs.Building.{Building}
-use Rattle.sb_model.specs.Covers.{Covers}
-use Rattle.sb_model.specs.Trimmed.{AreTopsTrimmed}
-use Rattle.sb_model.specs.Mirrors.{ArePaired}
-use Rattle.sb_model.specs.Nested.{IsNested}
+use Rattle.sb_model.specs.Boundaries.Covers.{Covers}
+use Rattle.sb_model.specs.Boundaries.Trimmed.{AreTopsTrimmed}
+use Rattle.sb_model.specs.Boundaries.Mirrors.{ArePaired}
+use Rattle.sb_model.specs.Boundaries.Nested.{IsNested}
 
 -- a list is sound for a model: it covers it, its top-level patches are trimmed, counterparts name
 -- each other, and the openings are nested. Nothing is said of how long it is

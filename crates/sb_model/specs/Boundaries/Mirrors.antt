@@ -8,7 +8,7 @@ use Rattle.sb_fraction.specs.Spots.{opposite}
 use Rattle.sb_model.specs.Building.{Building}
 use Rattle.sb_model.specs.Faces.{Surface}
 use Rattle.sb_model.specs.Patches.{surface_at}
-use Rattle.sb_model.specs.Places.{boundary_at}
+use Rattle.sb_model.specs.Boundaries.Places.{boundary_at}
 
 -- c has the key of the child b, and its parent is the pair of b's parent, which has this id
 pub record HasPairedParent (list : List Boundary) (b c : Boundary) (id : ℕ) : Type 0 where
