@@ -1,6 +1,7 @@
 -- Worked edges: where they meet, their lines over a direction, and which leads.
 
-use Rattle.std.proofs.Common.{◌≡◌, refl, true, false, [], ◌∷◌, ℤ, pos, negsuc, map, Bool, ◌^◌, ◌*◌, ◌+◌}
+use Rattle.std.proofs.Common.{◌≡◌, refl, true, false, [], ◌∷◌, ℤ}
+use Rattle.std.proofs.Common.{pos, negsuc, map, Bool, ◌^◌, ◌*◌, ◌+◌}
 use Rattle.std.proofs.Common.{Less, Equal, Greater}
 use Rattle.theory_numbers.specs.Arrows.{Arrow, arrow, cross, dot}
 use Rattle.theory_numbers.specs.Rationals.{rational}
@@ -103,7 +104,8 @@ unfolding cross dot span_along
 one_line = refl
 
 -- an edge reaches past its first abscissa, not past its last; an upright one past none
-reached : map (λ u. reaches_past along_x (at u) up) (pos 0 ∷ pos 9 ∷ pos 10 ∷ []) ≡ true ∷ true ∷ false ∷ []
+reached : map (λ u. reaches_past along_x (at u) up)
+    (pos 0 ∷ pos 9 ∷ pos 10 ∷ []) ≡ true ∷ true ∷ false ∷ []
 unfolding cross
 reached = refl
 
