@@ -40,7 +40,8 @@ pub cross-way : (a b s : Arrow)
 unfolding cross
 cross-way a b s =
     equal
-    (minus (times (minus (var b.x) (var a.x)) (var s.y)) (times (minus (var b.y) (var a.y)) (var s.x)))
+    (minus (times (minus (var b.x) (var a.x)) (var s.y))
+    (times (minus (var b.y) (var a.y)) (var s.x)))
     (minus (minus (times (var b.x) (var s.y)) (times (var b.y) (var s.x)))
     (minus (times (var a.x) (var s.y)) (times (var a.y) (var s.x)))) (omega arith)
 

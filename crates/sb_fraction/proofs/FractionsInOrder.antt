@@ -22,7 +22,8 @@ use Rattle.sb_fraction.specs.Bounds.{greatest_abscissa, greatest_cross, greatest
 int_cmp-difference : (x y : ℤ) → int_cmp x y ≡ int_cmp (pos 0) (y -ℤ x)
 int_cmp-difference x y =
     by_lt_z x y
-    (λ less. sym (int_cmp_is x y Less less) ∙ int_cmp_is (pos 0) (y -ℤ x) Less (omega (arith, ints)))
+    (λ less. sym (int_cmp_is x y Less less)
+    ∙ int_cmp_is (pos 0) (y -ℤ x) Less (omega (arith, ints)))
     (λ low.
     by_lt_z y x
     (λ more.

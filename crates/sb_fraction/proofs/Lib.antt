@@ -15,5 +15,7 @@ mod CrossingByGap
 mod GapsTurnedAlong
 mod AmidTheEnds
 mod OrderAtHolds
+mod LineOfEdge
 -- and what the ranges are
 mod Examples
+mod ExampleEdges

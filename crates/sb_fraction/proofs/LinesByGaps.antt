@@ -147,7 +147,8 @@ eq-multiple n z n_in = from (sign_cases z)
         → int_eq (n *ℤ z) (pos 0) ≡ int_eq z (pos 0)
     from (inl (inl above)) =
         less_test (n *ℤ z) (positive_product n z n_in above) ∙ sym (less_test z above)
-    from (inl (inr zero)) = ap (λ k. int_eq k (pos 0)) (ap (λ k. n *ℤ k) zero ∙ mul-zero n ∙ sym zero)
+    from (inl (inr zero)) =
+        ap (λ k. int_eq k (pos 0)) (ap (λ k. n *ℤ k) zero ∙ mul-zero n ∙ sym zero)
     from (inr below) =
         more_test (n *ℤ z) (negative_product n z n_in below) ∙ sym (more_test z below)
 

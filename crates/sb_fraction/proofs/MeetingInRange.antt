@@ -1,6 +1,7 @@
 -- The common point of two edges in range is within its bound, and it is the only one.
 
-use Rattle.std.proofs.Common.{◌≡◌, ◌⊎◌, ◌∙◌, inl, inr, ap, subst, sym, refl, arith, ℕ, ℤ, pos, neg_ℤ}
+use Rattle.std.proofs.Common.{◌≡◌, ◌⊎◌, ◌∙◌, inl, inr, ap, subst}
+use Rattle.std.proofs.Common.{sym, refl, arith, ℕ, ℤ, pos, neg_ℤ}
 use Rattle.std.proofs.Common.{◌≤◌, ◌<ℤ◌, ◌≤ℤ◌, ◌+ℤ◌, ◌-ℤ◌, ◌*ℤ◌, ◌*◌, Bool, true, false}
 use Rattle.std.proofs.Common.{int_lt, int_le, unsigned_abs, IsTrue, le_trans, le_refl, lit≤}
 use Rattle.std.proofs.Common.{if◌then◌else◌}

@@ -1,5 +1,5 @@
--- The point where the lines of two edges meet is their common point exactly where it lies on both by
--- its shares, and there is no other.
+-- The point where the lines of two edges meet is their common point exactly where it lies on both
+-- by its shares.
 
 use Rattle.std.proofs.Common.{◌≡◌, ◌∙◌, ap, sym, arith, ℤ, pos, neg_ℤ}
 use Rattle.std.proofs.Common.{◌<ℤ◌, ◌≤ℤ◌, ◌+ℤ◌, ◌-ℤ◌, ◌*ℤ◌, Bool, true, false, not, ◌&&◌}

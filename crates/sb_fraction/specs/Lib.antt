@@ -8,4 +8,5 @@ pub mod Numbers
 pub mod Bounds
 pub mod Meetings
 pub mod Lines
+pub mod Orders
 pub mod Steps

@@ -1,11 +1,11 @@
 -- The common point of two edges.
 
-use Rattle.std.specs.Prelude.{◌≡◌, pos, ◌*ℤ◌, IsTrue, unsigned_abs}
+use Rattle.std.specs.Prelude.{◌⊎◌, ◌≡◌, pos, ◌*ℤ◌, IsTrue, unsigned_abs}
 use Rattle.sb_fraction.specs.declared.point.HPoint.{HPoint}
 use Rattle.theory_numbers.specs.Arrows.{cross}
 use Rattle.sb_fraction.specs.Spots.{Spot, IsSpot, spot_of}
 use Rattle.sb_fraction.specs.Edges.{Edge, span_of, is_on}
-use Rattle.sb_fraction.specs.Crossings.{meeting_of}
+use Rattle.sb_fraction.specs.Crossings.{meeting_of, are_parallel}
 use Rattle.sb_fraction.specs.Bounds.{is_crossing_size}
 
 -- the point lies on both edges, ends taken in
@@ -16,6 +16,10 @@ pub record IsCommon (e f : Edge) (p : Spot) : Type 0 where
 -- no rational point lies on both
 abbrev pub HaveNoCommonPoint : Edge → Edge → Type 0
 HaveNoCommonPoint e f = (p : Spot) → IsSpot p → IsCommon e f p → ⊥
+
+-- two edges have no one common point: they are parallel, or have none
+abbrev pub AreApart : Edge → Edge → Type 0
+AreApart e f = IsTrue (are_parallel e f) ⊎ HaveNoCommonPoint e f
 
 -- two homogeneous points are one point of the plan
 abbrev pub IsSamePoint : Spot → Spot → Type 0

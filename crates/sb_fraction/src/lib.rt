@@ -14,6 +14,8 @@ mod products;
 mod side;
 mod span;
 mod steps;
+#[cfg(test)]
+mod tests;
 mod unit;
 
 pub use direction::{Direction, Line};

@@ -1,6 +1,6 @@
 //! The common point of two segments.
 
-ghost use Rattle.std.specs.Prelude.{◌≡◌, ◌≤◌, ◌⊎◌, ◌↔◌, ◌+ℤ◌, ◌*ℤ◌, pos, false, unsigned_abs};
+ghost use Rattle.std.specs.Prelude.{◌≡◌, ◌≤◌, ◌↔◌, ◌+ℤ◌, ◌*ℤ◌, pos, false, unsigned_abs};
 ghost use Rattle.std.specs.Prelude.{IsTrue, IfSome};
 ghost use Rattle.std.specs.Ordering.{int_eq};
 ghost use Rattle.sb_fraction.specs.Plane.{greatest_coordinate, longest_step};
@@ -8,8 +8,8 @@ ghost use Rattle.sb_fraction.specs.Spots.{spot, spot_of};
 ghost use Rattle.sb_fraction.specs.Edges.{edge_of, is_in_range};
 ghost use Rattle.sb_fraction.specs.Crossings.{are_parallel, meeting_of, with_positive};
 ghost use Rattle.sb_fraction.specs.Bounds.{greatest_cross, greatest_offset};
-ghost use Rattle.sb_fraction.specs.Meetings.{HaveNoCommonPoint, IsMeeting};
-ghost use Rattle.sb_fraction.specs.Steps.{turn_between, share_of, is_share, meet_once};
+ghost use Rattle.sb_fraction.specs.Meetings.{AreApart, IsMeeting};
+ghost use Rattle.sb_fraction.specs.Steps.{turn_between, share_of, is_share, is_met, meet_once};
 
 use crate::products::of_crosses;
 use crate::span::Span;
@@ -24,7 +24,7 @@ use crate::{HPoint, Segment};
 pub fn meet(a: &Segment, b: &Segment) -> Option<HPoint>
     requires first_in { IsTrue (is_in_range (edge_of a.now)) }
     requires second_in { IsTrue (is_in_range (edge_of b.now)) }
-    ensures none { (result ≡ None) ↔ (IsTrue (are_parallel (edge_of a.now) (edge_of b.now)) ⊎ HaveNoCommonPoint (edge_of a.now) (edge_of b.now)) }
+    ensures none { (result ≡ None) ↔ AreApart (edge_of a.now) (edge_of b.now) }
     ensures some { IfSome result (IsMeeting (edge_of a.now) (edge_of b.now)) }
 {
     if have_one_point(a, b) {
@@ -55,7 +55,7 @@ fn have_one_point(a: &Segment, b: &Segment) -> bool
 fn is_met(a: &Segment, b: &Segment) -> bool
     requires first_in { IsTrue (is_in_range (edge_of a.now)) }
     requires second_in { IsTrue (is_in_range (edge_of b.now)) }
-    ensures value { result ≡ is_share (turn_between (edge_of a.now) (edge_of b.now)) (share_of (edge_of a.now) (edge_of b.now)) }
+    ensures value { result ≡ is_met (edge_of a.now) (edge_of b.now) }
 {
     is_part(turn(a, b), share(a, b))
 }

@@ -1,18 +1,17 @@
 //! The order of numbers, and of edges over an abscissa.
 
-ghost use Rattle.std.specs.Prelude.{◌≡◌, ◌≤◌, ◌↔◌, ◌+◌, ◌+ℤ◌, ◌-ℤ◌, ◌*ℤ◌, ◌<ℤ◌, pos, IsTrue, unsigned_abs};
+ghost use Rattle.std.specs.Prelude.{◌≡◌, ◌≤◌, ◌↔◌, ◌+◌, ◌+ℤ◌, ◌-ℤ◌, ◌*ℤ◌, ◌<ℤ◌};
+ghost use Rattle.std.specs.Prelude.{pos, unsigned_abs, IsTrue};
 ghost use Rattle.std.specs.declared.cmp.Ordering.TheVariants.{Equal};
-ghost use Rattle.theory_numbers.specs.Arrows.{Arrow};
-ghost use Rattle.theory_numbers.specs.Rationals.{value_at};
-ghost use Rattle.theory_plane.specs.Leads.{order_on, order_past};
+ghost use Rattle.theory_plane.specs.Leads.{order_past};
 ghost use Rattle.sb_fraction.specs.Plane.{is_plan_point};
 ghost use Rattle.sb_fraction.specs.Edges.{edge_of, is_in_range, are_collinear};
 ghost use Rattle.sb_fraction.specs.Numbers.{number, order_of};
 ghost use Rattle.sb_fraction.specs.Bounds.{is_abscissa_size, greatest_cross, greatest_offset};
 ghost use Rattle.sb_fraction.specs.Bounds.{greatest_square};
-ghost use Rattle.sb_fraction.specs.Lines.{arrow_along, place, span_along, line_over};
-ghost use Rattle.sb_fraction.specs.Lines.{reaches_past, IsBeforeNext};
-ghost use Rattle.sb_fraction.specs.Steps.{gap_between, gap_over, gap_order};
+ghost use Rattle.sb_fraction.specs.Lines.{place, span_along};
+ghost use Rattle.sb_fraction.specs.Orders.{line_of, is_over, HoldsUntilBreak};
+ghost use Rattle.sb_fraction.specs.Steps.{gap_between, gap_order, order_of_gap};
 
 use crate::products::{of_crosses, with_offset};
 use crate::span::Span;
@@ -48,11 +47,11 @@ pub fn order_at<L: Ledger>(
 ) -> Ordering
     requires first_in { IsTrue (is_in_range (edge_of a.now)) }
     requires second_in { IsTrue (is_in_range (edge_of b.now)) }
-    requires first_reaches { IsTrue (reaches_past (arrow_along d) (number at.now) (edge_of a.now)) }
-    requires second_reaches { IsTrue (reaches_past (arrow_along d) (number at.now) (edge_of b.now)) }
+    requires first_reaches { IsTrue (is_over d a.now at.now) }
+    requires second_reaches { IsTrue (is_over d b.now at.now) }
     requires size { IsTrue (is_abscissa_size at.now) }
-    ensures past { result ≡ order_past (number at.now) (line_over (arrow_along d) (edge_of a.now)) (line_over (arrow_along d) (edge_of b.now)) }
-    ensures order { (u : Arrow) → IsBeforeNext (arrow_along d) (edge_of a.now) (edge_of b.now) (number at.now) u → result ≡ order_on (line_over (arrow_along d) (edge_of a.now)) (line_over (arrow_along d) (edge_of b.now)) u }
+    ensures order { HoldsUntilBreak d a.now b.now at.now result }
+    ensures past { result ≡ order_past (number at.now) (line_of d a.now) (line_of d b.now) }
     ensures equal { (result ≡ Equal) ↔ IsTrue (are_collinear (edge_of a.now) (edge_of b.now)) }
     ensures counted { steps.new ≡ steps.old + 1 }
 {
@@ -65,14 +64,14 @@ fn order_by_gap(way: Span, a: &Segment, b: &Segment, at: &Fraction) -> Ordering
     requires first_in { IsTrue (is_in_range (edge_of a.now)) }
     requires second_in { IsTrue (is_in_range (edge_of b.now)) }
     requires size { IsTrue (is_abscissa_size at.now) }
-    ensures value { result ≡ gap_order (value_at (gap_over way (edge_of a.now) (edge_of b.now)) (number at.now)) (gap_over way (edge_of a.now) (edge_of b.now)).y }
+    ensures value { result ≡ order_of_gap way (edge_of a.now) (edge_of b.now) (number at.now) }
     ensures positive { pos 0 <ℤ at.now.den }
 {
     let first = turned_along(way, a);
     let second = turned_along(way, b);
     let slope = first.cross(second);
     let offset = offset_between(way, first, a.a, second, b.a);
-    order_of_gap(gap_at(offset, slope, at), slope)
+    order_by(gap_at(offset, slope, at), slope)
 }
 
 /// The vector of a segment, turned so that it runs along `way`.
@@ -126,7 +125,7 @@ fn gap_at(offset: i128, slope: i64, at: &Fraction) -> i128
 
 /// The order that a gap shows, or where it is 0 its slope.
 #[tactic(auto, using(crate::proofs::FractionsInOrder::fractions))]
-fn order_of_gap(gap: i128, slope: i64) -> Ordering
+fn order_by(gap: i128, slope: i64) -> Ordering
     ensures value { result ≡ gap_order gap slope }
 {
     if gap == 0 {

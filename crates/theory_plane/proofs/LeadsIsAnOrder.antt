@@ -5,7 +5,7 @@ use Rattle.std.proofs.Common.{neg_ℤ, Bool, true, false, ◌&&◌, ◌||◌}
 use Rattle.std.proofs.lemmas.Int.{ints}
 use Rattle.std.proofs.lemmas.Bool.{and_from}
 use Rattle.std.specs.Ordering.{int_eq}
-use Rattle.std.specs.Cmp.{signed_Decides}
+use Rattle.std.specs.Cmp.{signed_Decides, IsStrictWeakOrder}
 use Rattle.theory_numbers.specs.Tests.{is_positive}
 use Rattle.theory_numbers.specs.Arrows.{Arrow}
 use Rattle.theory_numbers.proofs.Shapes.{var, minus, plus, times, negated, equal}
@@ -176,3 +176,13 @@ leads_chain u l m n l_in m_in n_in low high =
     (clearance l n).y (clearance l m).y (clearance m n).y (slope_three l m n)
     (not_up_from (clearance_at l m u) (clearance l m).y low)
     (not_up_from (clearance_at m n u) (clearance m n).y high))
+
+-- so things that stand for lines may be sorted by it, as std's sorts ask
+pub leads_sorts : {X : Type 0} (side : X → LineSide) (u : Arrow) → ((x : X) → IsLineSide (side x))
+    → IsStrictWeakOrder (λ x y. leads u (side x) (side y))
+leads_sorts side u are_sides = record {
+  one_way = λ x y. leads_one_way u (side x) (side y);
+  chain =
+      λ x y z.
+      leads_chain u (side x) (side y) (side z) (are_sides x) (are_sides y) (are_sides z);
+}
