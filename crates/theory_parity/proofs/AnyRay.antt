@@ -63,7 +63,7 @@ opposed_left r a b left right level =
 
 -- two vectors on one line through the origin, on different sides of a ray or one of them on its
 -- line, point in opposite directions, or one is 0
-opposed : (r a b : Arrow) (s t : Bool) → is_positive (cross r a) ≡ s
+pub opposed : (r a b : Arrow) (s t : Bool) → is_positive (cross r a) ≡ s
     → is_positive (cross r b) ≡ t → s ≡ not t → cross a b ≡ pos 0 → dot a b ≤ℤ pos 0
 opposed r a b true false a_bit b_bit relation level =
     opposed_left r a b (less_from (pos 0) (cross r a) a_bit)

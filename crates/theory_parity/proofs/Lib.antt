@@ -7,3 +7,6 @@ pub mod InsideByBelow
 pub mod BelowByValue
 pub mod Heights
 pub mod Moves
+pub mod StayNear
+pub mod Across
+mod Examples
