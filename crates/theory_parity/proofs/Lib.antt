@@ -10,3 +10,7 @@ pub mod Moves
 pub mod StayNear
 pub mod Across
 mod Examples
+pub mod NearALine
+pub mod NoEdgeInside
+pub mod AwayFromCorners
+pub mod InsideThroughout
