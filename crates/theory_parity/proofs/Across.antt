@@ -2,10 +2,10 @@
 -- answer changes by the number of edges that pass through the point.
 
 use Rattle.std.proofs.Common.{◌≡◌, refl, sym, ap, ap₂, ◌∙◌, ◌⊎◌, inl, inr, arith, ℤ, pos, neg_ℤ}
-use Rattle.std.proofs.Common.{◌<ℤ◌, ◌≤ℤ◌, ◌+ℤ◌, ◌-ℤ◌, ◌*ℤ◌, Bool, true, false, not, ◌&&◌, int_lt}
-use Rattle.std.proofs.Common.{int_le, List, [], ◌∷◌}
+use Rattle.std.proofs.Common.{◌<ℤ◌, ◌≤ℤ◌, ◌*ℤ◌, Bool, true, false, not, int_lt}
+use Rattle.std.proofs.Common.{int_le, List}
 use Rattle.std.specs.Ordering.{int_eq}
-use Rattle.std.specs.List.{AllByRecursion, list_any}
+use Rattle.std.specs.List.{AllByRecursion}
 use Rattle.std.proofs.lemmas.Int.{ints}
 use Rattle.std.proofs.lemmas.Bool.{and_parts, and_from, false≢true}
 use Rattle.std.proofs.lemmas.Bool.Decides.{Decides-int_eq}
@@ -13,10 +13,9 @@ use Rattle.theory_lists.specs.Parity.{differ, is_odd_number}
 use Rattle.theory_lists.proofs.Parity.{odd_where_same, is_odd_number-differ}
 use Rattle.theory_lists.proofs.Members.{all_follow}
 use Rattle.theory_numbers.specs.Tests.{is_positive}
-use Rattle.theory_numbers.specs.Arrows.{Arrow, arrow, cross, dot}
-use Rattle.theory_numbers.proofs.Arrows.{cross-turn, dot_comm, cross-self}
-use Rattle.theory_numbers.proofs.Shapes.{var, minus, times, equal, cross_by}
-use Rattle.theory_numbers.proofs.Signs.{less_from, not_less_from, test_less, test_not_less}
+use Rattle.theory_numbers.specs.Arrows.{Arrow, cross, dot}
+use Rattle.theory_numbers.proofs.Arrows.{cross-turn, dot_comm}
+use Rattle.theory_numbers.proofs.Signs.{test_less, test_not_less}
 use Rattle.theory_numbers.proofs.Signs.{test_at_most, at_most_from, sign_cases}
 use Rattle.theory_numbers.proofs.Products.{weak_negative_product, weak_negative_factor, weak_factor}
 use Rattle.theory_numbers.proofs.Products.{weak_product_of_negatives, zero_of_positive}
@@ -26,10 +25,10 @@ use Rattle.theory_numbers.proofs.ThreeTerms.{cycle}
 use Rattle.theory_numbers.proofs.SignTables.{hit_of}
 use Rattle.sb_fraction.specs.declared.point.Point.{Point}
 use Rattle.sb_fraction.specs.Spots.{Spot, IsSpot}
-use Rattle.sb_fraction.specs.Edges.{Edge, seen_from, turn_at, reach_at, is_on, span_of}
+use Rattle.sb_fraction.specs.Edges.{Edge, seen_from, turn_at, reach_at, is_on}
 use Rattle.theory_plans.specs.Rays.{is_left_of, is_struck}
 use Rattle.theory_parity.specs.Halves.{height_over, left_half}
-use Rattle.theory_parity.proofs.AnyRay.{decided, opposed}
+use Rattle.theory_parity.proofs.AnyRay.{opposed}
 use Rattle.theory_parity.proofs.Heights.{turn_by_height}
 use Rattle.theory_parity.proofs.StayNear.{HasSignOf}
 

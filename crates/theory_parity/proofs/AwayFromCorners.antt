@@ -1,31 +1,25 @@
 -- On an edge that passes through an intersection of open half-planes there is a point of it that is
 -- no corner.
 
-use Rattle.std.proofs.Common.{◌≡◌, refl, sym, ap, ap₂, ◌∙◌, ◌⊎◌, inl, inr, arith, ℤ, pos, neg_ℤ}
-use Rattle.std.proofs.Common.{◌<ℤ◌, ◌≤ℤ◌, ◌+ℤ◌, ◌-ℤ◌, ◌*ℤ◌, Bool, true, false, not, ◌&&◌, int_le}
+use Rattle.std.proofs.Common.{◌≡◌, ap, ◌∙◌, arith, ℤ, pos, neg_ℤ}
+use Rattle.std.proofs.Common.{◌<ℤ◌, ◌+ℤ◌, ◌-ℤ◌, ◌*ℤ◌, true}
 use Rattle.std.proofs.Common.{List, [], ◌∷◌, ◌++◌, map}
-use Rattle.std.specs.Ordering.{int_eq}
 use Rattle.std.specs.List.{AllByRecursion}
 use Rattle.std.proofs.lemmas.Int.{ints}
-use Rattle.std.proofs.lemmas.Bool.{and_parts, and_from}
-use Rattle.std.proofs.lemmas.Bool.Decides.{Decides-int_eq}
 use Rattle.theory_lists.proofs.Members.{all_follow, all_both, all_of_images, all_images}
 use Rattle.theory_lists.proofs.Blocks.{all-append}
-use Rattle.theory_numbers.specs.Arrows.{Arrow, arrow, cross, dot}
+use Rattle.theory_numbers.specs.Arrows.{Arrow, cross, dot}
 use Rattle.theory_numbers.specs.Rationals.{IsForm}
-use Rattle.theory_numbers.proofs.Shapes.{var, num, plus, minus, negated, times, equal, cross_by}
+use Rattle.theory_numbers.proofs.Shapes.{var, num, plus, minus, negated, times, equal}
 use Rattle.theory_numbers.proofs.Shapes.{dot_by}
-use Rattle.theory_numbers.proofs.Signs.{test_at_most, at_most_from, above_or_not}
-use Rattle.theory_numbers.proofs.Products.{zero_of_positive, positive_product, weak_product}
-use Rattle.theory_numbers.proofs.Products.{weak_square, weak_negative_product, weak_negative_factor}
+use Rattle.theory_numbers.proofs.Products.{weak_square}
 use Rattle.theory_numbers.proofs.Products.{positive_factor, positive_square}
 use Rattle.theory_numbers.proofs.Ring.{mul-zero}
 use Rattle.theory_numbers.proofs.ThreeTerms.{frame_dot}
 use Rattle.sb_fraction.specs.declared.point.Point.{Point}
-use Rattle.sb_fraction.specs.Spots.{Spot, spot, spot_at, IsSpot}
-use Rattle.sb_fraction.specs.Edges.{Edge, edge, span_of, seen_from, turn_at, reach_at, is_on}
+use Rattle.sb_fraction.specs.Spots.{Spot, spot_at}
+use Rattle.sb_fraction.specs.Edges.{Edge, seen_from}
 use Rattle.theory_parity.specs.Halves.{Half, half, height_over, is_in_all, on_way}
-use Rattle.theory_parity.proofs.Heights.{height-on_way}
 use Rattle.theory_parity.proofs.StayNear.{HasSignOf, IsNear, form_on, stay_near, still_in_all}
 use Rattle.theory_parity.proofs.StayNear.{all_parts, in_all_are_forms}
 use Rattle.theory_parity.proofs.NoEdgeInside.{IsNoEnd}

@@ -14,3 +14,4 @@ pub mod NearALine
 pub mod NoEdgeInside
 pub mod AwayFromCorners
 pub mod InsideThroughout
+pub mod PointOfAnEdge

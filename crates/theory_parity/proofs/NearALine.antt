@@ -1,42 +1,29 @@
 -- A way that is parallel to none of finitely many lines leads from a point of a line to its two
 -- sides.
 
-use Rattle.std.proofs.Common.{◌≡◌, refl, sym, ap, ap₂, ◌∙◌, ◌⊎◌, inl, inr, arith, ℤ, pos, neg_ℤ}
-use Rattle.std.proofs.Common.{◌<ℤ◌, ◌≤ℤ◌, ◌+ℤ◌, ◌-ℤ◌, ◌*ℤ◌, Bool, true, false, not, ◌&&◌, int_lt}
-use Rattle.std.proofs.Common.{List, [], ◌∷◌, ◌++◌, map}
-use Rattle.std.specs.Ordering.{int_eq}
-use Rattle.std.specs.List.{AllByRecursion, list_any, list_all}
+use Rattle.std.proofs.Common.{◌≡◌, sym, ap, ◌∙◌, ◌⊎◌, inl, inr, arith, ℤ, pos, neg_ℤ}
+use Rattle.std.proofs.Common.{◌<ℤ◌, ◌+ℤ◌, ◌*ℤ◌, int_lt}
+use Rattle.std.proofs.Common.{List, map}
+use Rattle.std.specs.List.{AllByRecursion}
 use Rattle.std.proofs.lemmas.Int.{ints}
-use Rattle.std.proofs.lemmas.Bool.{and_parts, and_from, false≢true, false_from_ne_true}
-use Rattle.std.proofs.lemmas.Bool.Decides.{Decides-int_eq}
-use Rattle.theory_lists.specs.Parity.{differ, is_odd_number}
-use Rattle.theory_lists.proofs.Members.{all_follow, all_both, all_of_images, all_images}
-use Rattle.theory_lists.proofs.Blocks.{all-append}
-use Rattle.theory_numbers.specs.Arrows.{Arrow, arrow, cross, dot, opposite}
+use Rattle.theory_lists.proofs.Members.{all_follow, all_of_images, all_images}
+use Rattle.theory_numbers.specs.Arrows.{Arrow, arrow, cross, opposite}
 use Rattle.theory_numbers.specs.Rationals.{IsForm, IsBelow, value_at}
 use Rattle.theory_numbers.specs.Intervals.{avoiding}
-use Rattle.theory_numbers.proofs.Avoid.{IsAvoiding, avoiding_is, IsOffZero}
-use Rattle.theory_numbers.proofs.Shapes.{var, num, plus, minus, negated, times, equal, cross_by, dot_by}
+use Rattle.theory_numbers.proofs.Avoid.{avoiding_is, IsOffZero}
+use Rattle.theory_numbers.proofs.Shapes.{var, num, plus, negated, times, equal, cross_by, dot_by}
 use Rattle.theory_numbers.proofs.Shapes.{dot_eq}
-use Rattle.theory_numbers.proofs.Signs.{sign_cases, less_from, test_less}
+use Rattle.theory_numbers.proofs.Signs.{sign_cases}
 use Rattle.theory_numbers.proofs.Products.{positive_product, negative_product, weak_square}
-use Rattle.theory_numbers.proofs.Products.{zero_of_positive}
-use Rattle.theory_numbers.proofs.Ring.{mul-zero}
 use Rattle.sb_fraction.specs.declared.point.Point.{Point}
-use Rattle.sb_fraction.specs.Spots.{Spot, spot, IsSpot}
-use Rattle.sb_fraction.specs.Edges.{Edge, span_of, seen_from, is_on}
-use Rattle.theory_plans.specs.LoopEdges.{edges_of}
-use Rattle.theory_plans.specs.Inside.{is_in_plan}
-use Rattle.theory_plans.specs.Rays.{is_left_of, is_struck}
+use Rattle.sb_fraction.specs.Spots.{Spot, spot}
+use Rattle.theory_plans.specs.Rays.{is_left_of}
 use Rattle.theory_plans.proofs.PointsAlike.{sign_of_multiple}
 use Rattle.theory_parity.specs.Below.{IsWay}
-use Rattle.theory_parity.specs.Halves.{Half, height_over, is_in_half, is_in_all, is_off, left_half}
+use Rattle.theory_parity.specs.Halves.{Half, height_over}
 use Rattle.theory_parity.specs.Halves.{half_right_of, on_way}
-use Rattle.theory_parity.proofs.InsideByBelow.{inside_by_ray}
 use Rattle.theory_parity.proofs.Heights.{height-on_way, left_by_height}
-use Rattle.theory_parity.proofs.StayNear.{HasSignOf, IsNear, form_on, stay_near, still_in_all}
-use Rattle.theory_parity.proofs.StayNear.{all_parts, in_all_are_forms}
-use Rattle.theory_parity.proofs.Across.{AreOpposite, IsAcross, parity_changes}
+use Rattle.theory_parity.proofs.Across.{AreOpposite}
 
 -- ---- ways, as points that are infinitely far
 

@@ -1,13 +1,13 @@
 -- Where the points off finitely many lines lie inside a plan, no edge of it passes alone: a point of
 -- an intersection of open half-planes that is no corner lies on an even number of edges.
 
-use Rattle.std.proofs.Common.{◌≡◌, refl, sym, ap, ap₂, ◌∙◌, ◌⊎◌, inl, inr, arith, ℤ, pos, neg_ℤ}
-use Rattle.std.proofs.Common.{◌<ℤ◌, ◌≤ℤ◌, ◌+ℤ◌, ◌-ℤ◌, ◌*ℤ◌, Bool, true, false, not, ◌&&◌}
+use Rattle.std.proofs.Common.{◌≡◌, refl, sym, ap, ap₂, ◌∙◌, arith, ℤ, pos, neg_ℤ}
+use Rattle.std.proofs.Common.{◌<ℤ◌, ◌+ℤ◌, ◌-ℤ◌, ◌*ℤ◌, true, false, not}
 use Rattle.std.proofs.Common.{List, [], ◌∷◌, ◌++◌, map}
 use Rattle.std.specs.Ordering.{int_eq}
-use Rattle.std.specs.List.{AllByRecursion, list_any, list_all}
+use Rattle.std.specs.List.{AllByRecursion, list_any}
 use Rattle.std.proofs.lemmas.Int.{ints}
-use Rattle.std.proofs.lemmas.Bool.{and_parts, and_from, false≢true, false_from_ne_true}
+use Rattle.std.proofs.lemmas.Bool.{and_parts, and_from, false_from_ne_true}
 use Rattle.std.proofs.lemmas.Bool.Decides.{Decides-int_eq}
 use Rattle.theory_lists.specs.Parity.{differ, is_odd_number}
 use Rattle.theory_lists.proofs.Members.{all_follow, all_both, all_of_images, all_images}
@@ -24,12 +24,11 @@ use Rattle.sb_fraction.specs.Lines.{place}
 use Rattle.theory_plans.specs.LoopEdges.{edges_of}
 use Rattle.theory_plans.specs.Inside.{is_in_plan}
 use Rattle.theory_plans.specs.Rays.{is_struck}
-use Rattle.theory_parity.specs.Below.{IsWay}
 use Rattle.theory_parity.specs.Halves.{Half, height_over, is_in_all, is_off, left_half, on_way}
 use Rattle.theory_parity.proofs.InsideByBelow.{inside_by_ray}
 use Rattle.theory_parity.proofs.StayNear.{HasSignOf, IsNear, form_on, stay_near, still_in_all}
 use Rattle.theory_parity.proofs.StayNear.{all_parts, in_all_are_forms}
-use Rattle.theory_parity.proofs.Across.{IsAcross, parity_changes}
+use Rattle.theory_parity.proofs.Across.{parity_changes}
 use Rattle.theory_parity.proofs.NearALine.{far_along, IsLine, IsSlanted, opposite_slope, IsFreeWay}
 use Rattle.theory_parity.proofs.NearALine.{free_way, left_along, left_against, opposite_heights}
 

@@ -1,16 +1,16 @@
 -- On the way from a point to any other, near enough to the point, it stays in open half-planes, and
 -- on its side of lines.
 
-use Rattle.std.proofs.Common.{◌≡◌, refl, sym, ap, ◌∙◌, ◌⊎◌, inl, inr, arith, ℤ, pos, ◌<ℤ◌, ◌≤ℤ◌}
-use Rattle.std.proofs.Common.{◌+ℤ◌, ◌*ℤ◌, Bool, true, ◌&&◌, List, [], ◌∷◌, ◌++◌, map}
-use Rattle.std.specs.List.{AllByRecursion, list_all}
+use Rattle.std.proofs.Common.{◌≡◌, refl, sym, ◌∙◌, inl, inr, arith, ℤ, pos, ◌<ℤ◌}
+use Rattle.std.proofs.Common.{true, List, [], ◌∷◌, ◌++◌, map}
+use Rattle.std.specs.List.{AllByRecursion}
 use Rattle.std.proofs.lemmas.Int.{ints}
 use Rattle.std.proofs.lemmas.Bool.{and_parts, and_from}
-use Rattle.theory_numbers.specs.Arrows.{Arrow, arrow, cross, dot, opposite}
+use Rattle.theory_numbers.specs.Arrows.{Arrow, arrow, cross, opposite}
 use Rattle.theory_numbers.specs.Rationals.{IsRational, IsBelow, IsForm, value_at, mediant}
 use Rattle.theory_numbers.specs.Intervals.{Keeps, AllKeep, clear_end}
 use Rattle.theory_numbers.proofs.Arrows.{opposite-dot}
-use Rattle.theory_numbers.proofs.Shapes.{var, num, plus, minus, times, equal, dot_by, cross_by}
+use Rattle.theory_numbers.proofs.Shapes.{var, num, plus, times, equal, dot_by, cross_by}
 use Rattle.theory_numbers.proofs.Signs.{less_from, test_less}
 use Rattle.theory_numbers.proofs.Rationals.{mediant-IsRational, mediant_between}
 use Rattle.theory_numbers.proofs.Clear.{clear_to, weak_at_low}
