@@ -11,12 +11,12 @@ use Rattle.std.proofs.lemmas.Bool.Decides.{Decides-int_eq}
 use Rattle.theory_lists.specs.Parity.{differ, is_odd_number}
 use Rattle.theory_numbers.specs.Tests.{is_positive}
 use Rattle.theory_numbers.specs.Arrows.{Arrow, cross, dot, turned}
-use Rattle.theory_numbers.proofs.Arrows.{cross-turn, dot_comm, dot-turned}
+use Rattle.theory_numbers.proofs.Arrows.{cross-turn, dot_comm}
 use Rattle.theory_numbers.proofs.Shapes.{var, negated, equal, cross_by, dot_is, dot_eq}
 use Rattle.theory_numbers.proofs.Signs.{less_from, not_less_from, test_less, test_not_less}
 use Rattle.theory_numbers.proofs.Signs.{test_at_most, sign_cases}
 use Rattle.theory_numbers.proofs.Products.{weak_factor, weak_negative_factor, weak_square}
-use Rattle.theory_numbers.proofs.Products.{weak_negative_product, positive_product, zero_product}
+use Rattle.theory_numbers.proofs.Products.{weak_negative_product, positive_product}
 use Rattle.theory_numbers.proofs.Ring.{mul_comm, neg-mul, zero-mul}
 use Rattle.theory_numbers.proofs.ThreeTerms.{three_terms, cycle, frame_dot}
 use Rattle.theory_numbers.proofs.SignTables.{alike_up, apart_down, turn_table}
@@ -63,7 +63,7 @@ opposed_left r a b left right level =
 
 -- two vectors on one line through the origin, on different sides of a ray or one of them on its
 -- line, point in opposite directions, or one is 0
-opposed : (r a b : Arrow) (s t : Bool) → is_positive (cross r a) ≡ s
+pub opposed : (r a b : Arrow) (s t : Bool) → is_positive (cross r a) ≡ s
     → is_positive (cross r b) ≡ t → s ≡ not t → cross a b ≡ pos 0 → dot a b ≤ℤ pos 0
 opposed r a b true false a_bit b_bit relation level =
     opposed_left r a b (less_from (pos 0) (cross r a) a_bit)

@@ -1,13 +1,12 @@
 -- At the point (u, v) in the frame of a direction an edge lies below where it reaches past u with a
 -- lesser value.
 
-use Rattle.std.proofs.Common.{◌≡◌, sym, ap, ap₂, ◌∙◌, arith, ℤ, pos, ◌<ℤ◌, ◌+ℤ◌, ◌-ℤ◌, ◌*ℤ◌}
-use Rattle.std.proofs.Common.{Bool, ◌&&◌, int_lt, ◌↔◌}
+use Rattle.std.proofs.Common.{◌≡◌, ap, ap₂, ◌∙◌, arith, ℤ, pos, ◌<ℤ◌, ◌+ℤ◌, ◌-ℤ◌, ◌*ℤ◌}
+use Rattle.std.proofs.Common.{◌&&◌}
 use Rattle.std.proofs.lemmas.Int.{ints}
 use Rattle.theory_lists.specs.Parity.{differ}
-use Rattle.theory_numbers.specs.Tests.{is_positive}
 use Rattle.theory_numbers.specs.Arrows.{Arrow, arrow, cross, dot}
-use Rattle.theory_numbers.specs.Rationals.{IsRational, IsBelow, is_below, rational}
+use Rattle.theory_numbers.specs.Rationals.{IsRational, is_below, rational}
 use Rattle.theory_numbers.proofs.Shapes.{var, plus, minus, times, equal, cross_by, dot_by, dot_is}
 use Rattle.theory_numbers.proofs.Shapes.{cross_is}
 use Rattle.theory_numbers.proofs.Signs.{less_from, test_less, same_less, same_tests}

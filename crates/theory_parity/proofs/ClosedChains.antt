@@ -1,7 +1,7 @@
 -- Two tests of edges that differ by a test of points at the ends of each edge pass an odd number of
 -- the edges of closed loops alike.
 
-use Rattle.std.proofs.Common.{◌≡◌, refl, ap, ap₂, ◌∙◌, Bool, true, false, List, [], ◌∷◌, ◌++◌}
+use Rattle.std.proofs.Common.{◌≡◌, refl, ap₂, ◌∙◌, Bool, true, false, List, [], ◌∷◌, ◌++◌}
 use Rattle.std.specs.List.{list_any}
 use Rattle.std.proofs.lemmas.Bool.{or_parts}
 use Rattle.theory_lists.specs.Parity.{differ, is_odd_number}

@@ -1,9 +1,9 @@
 -- The height over a line is linear on the way from one point to another; the turn of an edge and the
 -- side of a ray are such heights.
 
-use Rattle.std.proofs.Common.{◌≡◌, ◌⊎◌, inl, inr, arith, ℤ, pos, ◌<ℤ◌, ◌≤ℤ◌, ◌+ℤ◌, ◌-ℤ◌, ◌*ℤ◌}
+use Rattle.std.proofs.Common.{◌≡◌, ◌⊎◌, inl, inr, arith, ℤ, pos, ◌<ℤ◌, ◌≤ℤ◌, ◌+ℤ◌, ◌*ℤ◌}
 use Rattle.std.proofs.lemmas.Int.{ints}
-use Rattle.theory_numbers.specs.Arrows.{Arrow, arrow, cross}
+use Rattle.theory_numbers.specs.Arrows.{Arrow, cross}
 use Rattle.theory_numbers.proofs.Shapes.{var, plus, minus, negated, times, equal, cross_by}
 use Rattle.theory_numbers.proofs.Products.{weak_product, positive_product}
 use Rattle.theory_numbers.proofs.Signs.{above_or_not}

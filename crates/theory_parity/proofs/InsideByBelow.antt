@@ -1,7 +1,7 @@
 -- A point lies inside a plan where it is on no edge and an odd number of edges lie below it, along
 -- any direction.
 
-use Rattle.std.proofs.Common.{◌≡◌, refl, sym, ap, ap₂, ◌∙◌, arith, ℤ, pos, neg_ℤ, ◌<ℤ◌, ◌+ℤ◌}
+use Rattle.std.proofs.Common.{◌≡◌, refl, sym, ap, ap₂, ◌∙◌, arith, ℤ, pos, neg_ℤ, ◌+ℤ◌}
 use Rattle.std.proofs.Common.{◌-ℤ◌, ◌*ℤ◌, Bool, true, false, not, ◌&&◌, int_lt, List}
 use Rattle.std.specs.List.{list_any}
 use Rattle.std.proofs.lemmas.Int.{ints}
@@ -16,7 +16,6 @@ use Rattle.theory_numbers.proofs.Signs.{less_from, not_less_from, test_less, tes
 use Rattle.theory_numbers.proofs.Signs.{same_less}
 use Rattle.theory_numbers.proofs.Products.{positive_product, positive_factor, negative_product}
 use Rattle.theory_numbers.proofs.Products.{negative_factor, scale_less, unscale_less}
-use Rattle.theory_numbers.proofs.Products.{weak_negative_factor}
 use Rattle.theory_numbers.proofs.Ring.{mul_assoc, neg-mul}
 use Rattle.theory_numbers.proofs.ThreeTerms.{frame_cross}
 use Rattle.theory_numbers.proofs.SignTables.{hit_of}

@@ -6,19 +6,17 @@ use Rattle.std.proofs.Common.{List, [], ◌∷◌}
 use Rattle.std.specs.List.{AllByRecursion, list_any}
 use Rattle.std.proofs.lemmas.Int.{ints}
 use Rattle.std.proofs.lemmas.Bool.{or_parts, false≢true}
-use Rattle.theory_lists.specs.Parity.{is_odd_number}
 use Rattle.theory_lists.proofs.Parity.{odd_where_same}
 use Rattle.theory_lists.proofs.Members.{all_follow}
 use Rattle.theory_numbers.specs.Arrows.{Arrow, arrow, cross, dot}
 use Rattle.theory_numbers.proofs.Shapes.{var, num, plus, minus, negated, times, equal, dot_eq}
-use Rattle.theory_numbers.proofs.Signs.{same_less, less_or_not, above_or_not, test_not_less}
-use Rattle.theory_numbers.proofs.Products.{positive_product, positive_factor, negative_product}
-use Rattle.theory_numbers.proofs.Products.{negative_factor, weak_square, zero_product}
-use Rattle.theory_numbers.proofs.Ring.{mul_comm, mul-zero, neg-mul, mul-neg, mul_left_comm}
+use Rattle.theory_numbers.proofs.Signs.{same_less, less_or_not, above_or_not}
+use Rattle.theory_numbers.proofs.Products.{weak_square, zero_product}
+use Rattle.theory_numbers.proofs.Ring.{mul_comm, mul-zero}
 use Rattle.theory_numbers.proofs.SignTables.{hit_of}
 use Rattle.sb_fraction.specs.declared.point.Point.{Point}
 use Rattle.sb_fraction.specs.Spots.{Spot, spot, IsSpot}
-use Rattle.sb_fraction.specs.Edges.{Edge, seen_from, turn_at, is_on}
+use Rattle.sb_fraction.specs.Edges.{Edge, turn_at, is_on}
 use Rattle.sb_fraction.specs.Lines.{place}
 use Rattle.theory_plans.specs.LoopEdges.{edges_of}
 use Rattle.theory_plans.specs.Inside.{is_in_plan}
@@ -26,7 +24,7 @@ use Rattle.theory_plans.specs.Rays.{is_left_of, is_struck}
 use Rattle.theory_plans.proofs.PointsAlike.{alike_inside, sign_of_multiple}
 use Rattle.theory_plans.proofs.PointsAlike.{other_sign_of_multiple}
 use Rattle.theory_parity.specs.Below.{IsWay}
-use Rattle.theory_parity.specs.Halves.{Half, height_over, left_half, half_right_of, on_way}
+use Rattle.theory_parity.specs.Halves.{height_over, left_half, half_right_of, on_way}
 use Rattle.theory_parity.proofs.AnyRay.{decided}
 use Rattle.theory_parity.proofs.InsideByBelow.{inside_by_ray}
 use Rattle.theory_parity.proofs.Heights.{height-on_way, on_way_is, turn_by_height, left_by_height}
