@@ -17,4 +17,5 @@ pub mod NoEdgeInside
 pub mod AwayFromCorners
 pub mod PointOfAnEdge
 pub mod InsideThroughout
+pub mod OddIfAlone
 mod Examples
