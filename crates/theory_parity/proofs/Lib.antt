@@ -5,13 +5,17 @@ pub mod ClosedChains
 pub mod AnyRay
 pub mod InsideByBelow
 pub mod BelowByValue
+pub mod BelowFlips
+-- from one point to another
 pub mod Heights
 pub mod Moves
 pub mod StayNear
 pub mod Across
-mod Examples
+-- whole regions
 pub mod NearALine
 pub mod NoEdgeInside
 pub mod AwayFromCorners
-pub mod InsideThroughout
 pub mod PointOfAnEdge
+pub mod InsideThroughout
+pub mod OddIfAlone
+mod Examples

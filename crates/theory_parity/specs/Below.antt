@@ -2,7 +2,8 @@
 -- u = p·d, and v = p·(-dy, dx) says how high it lies.
 
 use Rattle.std.specs.Prelude.{pos, neg_ℤ, ◌<ℤ◌, ◌+ℤ◌, ◌-ℤ◌, ◌*ℤ◌, Bool, ◌&&◌}
-use Rattle.theory_numbers.specs.Arrows.{Arrow, arrow, dot}
+use Rattle.std.specs.Ordering.{int_eq}
+use Rattle.theory_numbers.specs.Arrows.{Arrow, arrow, cross, dot}
 use Rattle.theory_numbers.specs.Rationals.{is_below}
 use Rattle.theory_plane.specs.Sides.{value_on}
 use Rattle.theory_plane.specs.Points.{FacePoint, abscissa_of, is_above_side, point_at}
@@ -43,3 +44,7 @@ value_of d u e = value_on (line_over d e) u
 -- the edge reaches past u and has a lesser v than this one there
 abbrev pub is_lower_at : Arrow → Arrow → Arrow → Edge → Bool
 is_lower_at d u v e = reaches_past d u e && is_below (value_of d u e) v
+
+-- the edge reaches past u and has this v there: it passes through (u, v)
+abbrev pub is_through : Arrow → Arrow → Arrow → Edge → Bool
+is_through d u v e = reaches_past d u e && int_eq (cross (value_of d u e) v) (pos 0)
