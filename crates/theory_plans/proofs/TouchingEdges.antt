@@ -26,20 +26,20 @@ use Rattle.sb_fraction.specs.declared.point.Point.{Point}
 use Rattle.sb_fraction.specs.Spots.{Spot, IsSpot, spot_at}
 use Rattle.sb_fraction.specs.Edges.{Edge, seen_from, turn_at, reach_at, is_on}
 use Rattle.theory_lists.specs.Members.{AllOfTwo}
-use Rattle.theory_lists.proofs.Members.{all_follow}
+use Rattle.theory_lists.proofs.Members.{two_follow}
 use Rattle.theory_plans.specs.LoopEdges.{edges_of}
 use Rattle.theory_plans.specs.Plans.{do_touch, is_parted, is_plan, is_same_point, is_consecutive}
 use Rattle.theory_plans.specs.Plans.{is_of_each_two, corners_in}
 use Rattle.theory_plans.proofs.EdgesOfPlans.{plan_is}
 
 -- the way from a to b
-abbrev from_to : Arrow → Arrow → Arrow
+abbrev pub from_to : Arrow → Arrow → Arrow
 from_to a b = arrow (b.x -ℤ a.x) (b.y -ℤ a.y)
 
 -- ---- vectors on one line
 
--- a vector of length 0 has no product with any
-no_length : (a : Arrow) → dot a a ≡ pos 0 → (a.x ≡ pos 0) × (a.y ≡ pos 0)
+-- a vector of length 0 is 0
+pub no_length : (a : Arrow) → dot a a ≡ pos 0 → (a.x ≡ pos 0) × (a.y ≡ pos 0)
 no_length a none =
     let x = weak_square a.x in
     let y = weak_square a.y in
@@ -54,7 +54,8 @@ no_length a none =
         (λ up. let above = positive_product z z up up in absurd (omega (arith, ints)))
         (λ low. omega (arith, ints)))
 
-some_length : (a : Arrow) → (dot a a ≡ pos 0 → ⊥) → pos 0 <ℤ dot a a
+-- and one of another length is long
+pub some_length : (a : Arrow) → (dot a a ≡ pos 0 → ⊥) → pos 0 <ℤ dot a a
 some_length a some =
     let x = weak_square a.x in
     let y = weak_square a.y in
@@ -62,7 +63,7 @@ some_length a some =
     by_lt_z (pos 0) (dot a a) (λ above. above) (λ low. absurd (some (omega (arith, ints))))
 
 -- of vectors on one line the second sees a third one as the first does, but for a factor
-seen_by : (a b g : Arrow) → cross a b ≡ pos 0 → dot a a *ℤ cross b g ≡ dot a b *ℤ cross a g
+pub seen_by : (a b g : Arrow) → cross a b ≡ pos 0 → dot a a *ℤ cross b g ≡ dot a b *ℤ cross a g
 seen_by a b g line =
     whole ∙ ap (λ n. (dot a b *ℤ cross a g) -ℤ (n *ℤ dot a g)) line ∙ left
   where
@@ -109,7 +110,8 @@ turns_over a b g line across long =
 
 -- ---- what is seen from an end
 
-seen_cross : (a g d : Arrow)
+-- the product of the ways from an end
+pub seen_cross : (a g d : Arrow)
     → cross (from_to a g) (from_to a d) ≡ (cross g d +ℤ cross a g) -ℤ cross a d
 seen_cross a g d =
     equal
@@ -412,7 +414,8 @@ seen_between p a g =
         equal (minus (minus (times (var s) (var w)) (var x)) (minus (times (var t) (var w)) (var x)))
         (times (var w) (minus (times (var s) (num 1)) (var t))) (omega arith)
 
-turn_seen : (p : Spot) (a : Point) (e : Edge)
+-- the turn of an edge at a corner, by what is seen from p
+pub turn_seen : (p : Spot) (a : Point) (e : Edge)
     → cross (from_to (seen_from p a) (seen_from p e.a)) (from_to (seen_from p a) (seen_from p e.b))
     ≡ p.w *ℤ (p.w *ℤ turn_at e (spot_at a))
 turn_seen p a e =
@@ -523,12 +526,6 @@ abbrev pub MeetAtEnds : Edge → Edge → Type 0
 MeetAtEnds e f = (p : Spot) → IsSpot p → is_on p e ≡ true → is_on p f ≡ true
     → is_consecutive e f ≡ true
 
-two_follow : {X : Type 0} (P Q : X → X → Type 0) → ((x y : X) → P x y → Q x y) → (xs : List X)
-    → AllOfTwo P xs → AllOfTwo Q xs
-two_follow P Q step [] all = tt
-two_follow P Q step (x ∷ xs) all =
-    (all_follow (λ y holds. step x y holds) xs all.0, two_follow P Q step xs all.1)
-
 -- two edges of a plan, at different places, that have a point in common are consecutive
 pub plan_edges_meet_at_ends : (loops : List (List Point)) → IsTrue (is_plan loops)
     → AllOfTwo MeetAtEnds (edges_of loops)
@@ -537,9 +534,9 @@ plan_edges_meet_at_ends loops is =
     (is_of_each_two (λ e f. is_consecutive e f || not (do_touch e f)) (edges_of loops))
     (plan_is loops is).apart in
     two_follow (λ e f. (is_consecutive e f || not (do_touch e f)) ≡ true) MeetAtEnds
-    (λ e f apart p p_is on_e on_f. first_of_two (is_consecutive e f) (do_touch e f) apart
-    (common_point_touches e f p p_is on_e on_f))
     (edges_of loops)
+    (λ e f at_e at_f apart p p_is on_e on_f. first_of_two (is_consecutive e f) (do_touch e f) apart
+    (common_point_touches e f p p_is on_e on_f))
     (each_two_pass (λ e f. is_consecutive e f || not (do_touch e f)) (edges_of loops) parts.1)
   where
     first_of_two : (b c : Bool) → (b || not c) ≡ true → c ≡ true → b ≡ true
