@@ -7,7 +7,7 @@ use Rattle.std.proofs.Common.{List, [], ◌∷◌, ◌++◌, map}
 use Rattle.std.specs.List.{AllByRecursion}
 use Rattle.std.proofs.lemmas.Int.{ints}
 use Rattle.theory_lists.proofs.Members.{all_follow, all_both, all_of_images, all_images}
-use Rattle.theory_lists.proofs.Blocks.{all-append}
+use Rattle.theory_lists.proofs.Blocks.{all-append, all_in_parts}
 use Rattle.theory_numbers.specs.Arrows.{Arrow, cross, dot}
 use Rattle.theory_numbers.specs.Rationals.{IsForm}
 use Rattle.theory_numbers.proofs.Shapes.{var, num, plus, minus, negated, times, equal}
@@ -21,7 +21,7 @@ use Rattle.sb_fraction.specs.Spots.{Spot, spot_at}
 use Rattle.sb_fraction.specs.Edges.{Edge, seen_from}
 use Rattle.theory_parity.specs.Halves.{Half, half, height_over, is_in_all, on_way}
 use Rattle.theory_parity.proofs.StayNear.{HasSignOf, IsNear, form_on, stay_near, still_in_all}
-use Rattle.theory_parity.proofs.StayNear.{all_parts, in_all_are_forms}
+use Rattle.theory_parity.proofs.StayNear.{in_all_are_forms}
 use Rattle.theory_parity.proofs.NoEdgeInside.{IsNoEnd}
 
 -- the line through a plan point at right angles to d
@@ -131,8 +131,8 @@ module _ (d : Arrow) (t : Spot) (o : Point) (halves : List Half) (es : List Edge
           → (s : Arrow) × IsOffCorners t o halves es s
       from (s, near) =
           let m = on_way s.x t s.y (spot_at o) in
-          let parts = all_parts (Has m) halves (map at_a es ++ map at_b es) near.signs in
-          let ends = all_parts (Has m) (map at_a es) (map at_b es) parts.1 in (
+          let parts = all_in_parts (Has m) halves (map at_a es ++ map at_b es) near.signs in
+          let ends = all_in_parts (Has m) (map at_a es) (map at_b es) parts.1 in (
             s,
             record {
               rational = near.rational;

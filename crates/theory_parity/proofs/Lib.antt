@@ -16,6 +16,7 @@ pub mod NearALine
 pub mod NoEdgeInside
 pub mod AwayFromCorners
 pub mod PointOfAnEdge
+pub mod OneEdgeThroughAPoint
 pub mod InsideThroughout
-pub mod OddIfAlone
+pub mod RegionIsFourHalves
 mod Examples

@@ -24,7 +24,7 @@ use Rattle.theory_plans.specs.Rays.{is_left_of, is_struck}
 use Rattle.theory_plans.proofs.PointsAlike.{alike_inside, sign_of_multiple}
 use Rattle.theory_plans.proofs.PointsAlike.{other_sign_of_multiple}
 use Rattle.theory_parity.specs.Below.{IsWay}
-use Rattle.theory_parity.specs.Halves.{height_over, left_half, half_right_of, on_way}
+use Rattle.theory_parity.specs.Halves.{height_over, left_half, half_right_of, on_way, AreClearOf}
 use Rattle.theory_parity.proofs.AnyRay.{decided}
 use Rattle.theory_parity.proofs.InsideByBelow.{inside_by_ray}
 use Rattle.theory_parity.proofs.Heights.{height-on_way, on_way_is, turn_by_height, left_by_height}
@@ -237,12 +237,6 @@ module _ (p q : Spot) (e : Edge) (p_is : IsSpot p) (q_is : IsSpot q) where
       (left_at_end p q e.a p_is q_is) (left_at_end p q e.b p_is q_is))
 
 -- ---- closed loops
-
--- no edge of the list has a point on the way from p to q, both taken in
-abbrev pub AreClearOf : Spot → Spot → List Edge → Type 0
-AreClearOf p q es =
-    (m n : ℤ) → pos 0 ≤ℤ m → pos 0 ≤ℤ n → pos 0 <ℤ (m +ℤ n)
-    → list_any (is_on (on_way m p n q)) es ≡ false
 
 each_is_clear : (p q : Spot) (es : List Edge) → AreClearOf p q es
     → AllByRecursion (IsClearOf p q) es

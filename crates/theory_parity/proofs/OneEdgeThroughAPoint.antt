@@ -1,46 +1,42 @@
--- Edges pass alone through the points of no corner where no two of them pass through one.
+-- Through a point that is no corner at most one edge of a plan passes.
 
-use Rattle.std.proofs.Common.{◌≡◌, refl, sym, ap, ◌∙◌, Bool, true, false, not, ◌||◌, List, [], ◌∷◌}
-use Rattle.std.specs.List.{AllByRecursion, list_any}
-use Rattle.std.proofs.lemmas.Bool.{false≢true, false_from_ne_true}
-use Rattle.theory_lists.specs.Members.{AllOfTwo}
-use Rattle.theory_lists.specs.Parity.{differ, is_odd_number}
-use Rattle.theory_lists.proofs.Members.{all_follow}
-use Rattle.theory_lists.proofs.Parity.{is_odd_number-none}
-use Rattle.theory_lists.proofs.Blocks.{none_where}
+use Rattle.std.proofs.Common.{◌≡◌, ◌⊎◌, inl, inr, arith, pos, ◌*ℤ◌, ◌+ℤ◌, ◌<ℤ◌, true, IsTrue, List}
+use Rattle.std.specs.List.{AllByRecursion}
+use Rattle.std.proofs.lemmas.Int.{ints}
+use Rattle.std.proofs.Common.{ap₂, ◌∙◌}
+use Rattle.theory_lists.specs.OneOf.{AtMostOne}
+use Rattle.theory_lists.proofs.Members.{all_stands, two_follow}
+use Rattle.theory_numbers.specs.Arrows.{dot}
+use Rattle.theory_numbers.proofs.Shapes.{dot_eq}
 use Rattle.sb_fraction.specs.declared.point.Point.{Point}
 use Rattle.sb_fraction.specs.Spots.{Spot, IsSpot}
-use Rattle.sb_fraction.specs.Edges.{is_on}
+use Rattle.sb_fraction.specs.Edges.{Edge, seen_from, is_on}
 use Rattle.theory_plans.specs.LoopEdges.{edges_of}
+use Rattle.theory_plans.specs.Plans.{is_plan}
+use Rattle.theory_plans.proofs.CommonPointIsCorner.{IsAt, MeetAtCorner, plan_edges_meet_at_corners}
 use Rattle.theory_parity.proofs.NoEdgeInside.{IsNoEnd}
-use Rattle.theory_parity.proofs.InsideThroughout.{DoPassAlone}
 
--- no two items at different places pass the test
-abbrev pub IsOnceAtMost : {X : Type 0} → (X → Bool) → List X → Type 0
-IsOnceAtMost test xs = AllOfTwo (λ x y. test x ≡ true → test y ≡ true → ⊥) xs
+-- a corner is seen at no distance from where it is
+no_distance : (p : Spot) (v : Point) → IsAt p v → pos 0 <ℤ dot (seen_from p v) (seen_from p v) → ⊥
+no_distance p v at long =
+    let none : dot (seen_from p v) (seen_from p v) ≡ (pos 0 *ℤ pos 0) +ℤ (pos 0 *ℤ pos 0) =
+    dot_eq (seen_from p v) (seen_from p v)
+    ∙ ap₂ (λ s t. (s *ℤ s) +ℤ (t *ℤ t)) at.0 at.1
+    in
+    absurd (omega (arith, ints))
 
--- then one passes it where any does, which is an odd number
-pub odd_if_alone : {X : Type 0} (test : X → Bool) (xs : List X) → IsOnceAtMost test xs
-    → list_any test xs ≡ true → is_odd_number test xs ≡ true
-odd_if_alone test [] once some = absurd (false≢true some)
-odd_if_alone test (x ∷ xs) once some = by (test x) refl (odd_if_alone test xs once.1)
+-- so two edges that pass through one point have an end there
+pub at_most_one_passes : (loops : List (List Point)) → IsTrue (is_plan loops) → (m : Spot)
+    → IsSpot m → AllByRecursion (IsNoEnd m) (edges_of loops)
+    → AtMostOne (is_on m) (edges_of loops)
+at_most_one_passes loops is m m_is no_corner =
+    two_follow MeetAtCorner (λ e f. is_on m e ≡ true → is_on m f ≡ true → ⊥) (edges_of loops)
+    (λ e f at_e at_f meet on_e on_f.
+    refused e f (all_stands (IsNoEnd m) e (edges_of loops) no_corner at_e)
+    (all_stands (IsNoEnd m) f (edges_of loops) no_corner at_f) (meet m m_is on_e on_f))
+    (plan_edges_meet_at_corners loops is)
   where
-    by : (b : Bool) → test x ≡ b → (list_any test xs ≡ true → is_odd_number test xs ≡ true)
-        → is_odd_number test (x ∷ xs) ≡ true
-    by true passes rest =
-        ap (λ b. differ b (is_odd_number test xs)) passes
-        ∙ ap not
-        (is_odd_number-none test xs
-        (none_where test xs
-        (all_follow (λ y known. false_from_ne_true (test y) (known passes)) xs once.0)))
-    by false fails rest =
-        ap (λ b. differ b (is_odd_number test xs)) fails
-        ∙ rest (sym (ap (λ b. b || list_any test xs) fails) ∙ some)
-
--- of the edges of loops
-pub alone_if_once : (loops : List (List Point))
-    → ((m : Spot) → IsSpot m → AllByRecursion (IsNoEnd m) (edges_of loops)
-    → IsOnceAtMost (is_on m) (edges_of loops))
-    → DoPassAlone loops
-alone_if_once loops once m m_is no_corner some =
-    odd_if_alone (is_on m) (edges_of loops) (once m m_is no_corner) some
+    refused : (e f : Edge) → IsNoEnd m e → IsNoEnd m f
+        → ((e.b ≡ f.a) × IsAt m e.b) ⊎ ((f.b ≡ e.a) × IsAt m f.b) → ⊥
+    refused e f no_end_e no_end_f (inl first) = no_distance m e.b first.1 no_end_e.b_apart
+    refused e f no_end_e no_end_f (inr second) = no_distance m f.b second.1 no_end_f.b_apart

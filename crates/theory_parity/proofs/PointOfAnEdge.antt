@@ -20,10 +20,9 @@ use Rattle.theory_numbers.proofs.Ring.{mul-zero, neg-mul}
 use Rattle.sb_fraction.specs.declared.point.Point.{Point}
 use Rattle.sb_fraction.specs.Spots.{Spot, spot_at, IsSpot}
 use Rattle.sb_fraction.specs.Edges.{Edge, span_of, seen_from, turn_at, reach_at, is_on}
-use Rattle.theory_parity.specs.Halves.{Half, is_in_all, left_half, on_way}
+use Rattle.theory_parity.specs.Halves.{Half, IsLine, is_in_all, left_half, on_way}
 use Rattle.theory_parity.proofs.Heights.{on_way_is}
 use Rattle.theory_parity.proofs.AnyRay.{weak_length}
-use Rattle.theory_parity.proofs.NearALine.{IsLine}
 use Rattle.theory_parity.proofs.NoEdgeInside.{IsNoEnd}
 use Rattle.theory_parity.proofs.AwayFromCorners.{IsOffCorners, off_corners}
 

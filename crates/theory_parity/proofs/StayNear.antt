@@ -2,7 +2,7 @@
 -- on its side of lines.
 
 use Rattle.std.proofs.Common.{◌≡◌, refl, sym, ◌∙◌, inl, inr, arith, ℤ, pos, ◌<ℤ◌}
-use Rattle.std.proofs.Common.{true, List, [], ◌∷◌, ◌++◌, map}
+use Rattle.std.proofs.Common.{true, List, [], ◌∷◌, map}
 use Rattle.std.specs.List.{AllByRecursion}
 use Rattle.std.proofs.lemmas.Int.{ints}
 use Rattle.std.proofs.lemmas.Bool.{and_parts, and_from}
@@ -150,13 +150,6 @@ still_in_all t p (h ∷ halves) signs at =
     (test_less (pos 0) (height_over h p)
     (signs.0.above (less_from (pos 0) (height_over h t) parts.0)))
     (still_in_all t p halves signs.1 parts.1)
-
--- what holds of each of two blocks together holds of each
-pub all_parts : {X : Type 0} (P : X → Type 0) (xs ys : List X) → AllByRecursion P (xs ++ ys)
-    → AllByRecursion P xs × AllByRecursion P ys
-all_parts P [] ys all = (tt, all)
-all_parts P (x ∷ xs) ys all =
-    let rest = all_parts P xs ys all.1 in ((all.0, rest.0), rest.1)
 
 -- a half-plane that holds the point gives a form that is not 0
 pub in_all_are_forms : (t o : Spot) (halves : List Half) → is_in_all halves t ≡ true
