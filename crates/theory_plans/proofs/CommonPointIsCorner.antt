@@ -1,4 +1,5 @@
--- Two edges of a plan have no point in common but the corner where one ends and the other begins.
+-- Two edges of a plan have no point in common but the corner where one ends and the other begins. So
+-- it is with all loops that are bent at each corner and have edges that are apart.
 
 use Rattle.std.proofs.Common.{◌≡◌, ◌⊎◌, inl, inr, refl, ap, ap₂, sym, ◌∙◌, arith, pos, neg_ℤ}
 use Rattle.std.proofs.Common.{◌*ℤ◌, ◌<ℤ◌, true, not, IsTrue, int_le, subst}
@@ -22,12 +23,12 @@ use Rattle.sb_fraction.specs.declared.point.Point.{Point}
 use Rattle.sb_fraction.specs.Spots.{Spot, IsSpot, spot_at}
 use Rattle.sb_fraction.specs.Edges.{Edge, edge, seen_from, turn_at, reach_at, is_on}
 use Rattle.theory_plans.specs.LoopEdges.{edges_back, edges_of_loop, edges_of}
-use Rattle.theory_plans.specs.Loops.{bend, is_bent, are_bent, is_loop}
-use Rattle.theory_plans.specs.Plans.{is_plan, is_same_point, corners_in}
+use Rattle.theory_plans.specs.Loops.{bend, is_bent, are_bent, is_bent_loop, is_loop}
+use Rattle.theory_plans.specs.Plans.{is_plan, is_same_point, are_apart, corners_in}
 use Rattle.theory_plans.proofs.EdgesOfPlans.{same_point, loop_is, plan_is, bent_is_not_0}
 use Rattle.theory_plans.proofs.TouchingEdges.{from_to, no_length, some_length, seen_by, seen_cross}
-use Rattle.theory_plans.proofs.TouchingEdges.{turn_seen, MeetAtEnds, plan_edges_meet_at_ends}
-use Rattle.theory_plans.proofs.TouchingEdges.{plan_corners_are_once}
+use Rattle.theory_plans.proofs.TouchingEdges.{turn_seen, MeetAtEnds, edges_meet_at_ends}
+use Rattle.theory_plans.proofs.TouchingEdges.{corners_are_once}
 
 -- ---- one edge begins at a corner
 
@@ -57,10 +58,10 @@ same_as_itself a b one =
     ((Decides-int_eq a.x b.x).1 (ap (λ p. p.x) one))
     ((Decides-int_eq a.y b.y).1 (ap (λ p. p.y) one))
 
--- two edges of a plan that begin at one point are one
-pub one_edge_begins : (loops : List (List Point)) → IsTrue (is_plan loops) → (e f : Edge)
+-- two edges that begin at one point are one
+pub one_edge_begins : (loops : List (List Point)) → are_apart loops ≡ true → (e f : Edge)
     → Stands e (edges_of loops) → Stands f (edges_of loops) → e.a ≡ f.a → e ≡ f
-one_edge_begins loops is e f at_e at_f same =
+one_edge_begins loops apart e f at_e at_f same =
     from
     (one_or_two (λ g h. not (is_same_point g.a h.a) ≡ true) e f (edges_of loops) starts at_e at_f)
   where
@@ -68,7 +69,7 @@ one_edge_begins loops is e f at_e at_f same =
     starts =
         two_of_images (λ a b. not (is_same_point a b) ≡ true) start (edges_of loops)
         (subst (AllOfTwo (λ a b. not (is_same_point a b) ≡ true)) (sym (starts-edges_of loops))
-        (plan_corners_are_once loops is))
+        (corners_are_once loops apart))
 
     refused : (a b : Point) → a ≡ b → not (is_same_point a b) ≡ true → ⊥
     refused a b one other = false≢true (sym (ap not (same_as_itself a b one)) ∙ other)
@@ -115,44 +116,44 @@ followed_back es a b (c ∷ cs) first second bent there begin =
       followed_back es b c cs first second parts.1 (λ g stands. there g (inr stands)) begin,
     )
 
-loop_is_followed : (es : List Edge) (points : List Point) → is_loop points ≡ true
+loop_is_followed : (es : List Edge) (points : List Point) → is_bent_loop points ≡ true
     → ((g : Edge) → Stands g (edges_of_loop points) → Stands g es)
     → AllByRecursion (IsFollowed es) (edges_of_loop points)
-loop_is_followed es [] is there = tt
-loop_is_followed es (a ∷ []) is there = absurd (false≢true is)
-loop_is_followed es (a ∷ b ∷ rest) is there =
-    followed_back es a b rest a b (loop_is (a ∷ b ∷ rest) is).bent there
-    (there (edge a b) (inl refl))
+loop_is_followed es [] bent there = tt
+loop_is_followed es (a ∷ []) bent there = absurd (false≢true bent)
+loop_is_followed es (a ∷ b ∷ rest) bent there =
+    followed_back es a b rest a b bent there (there (edge a b) (inl refl))
 
-loops_are_followed : (es : List Edge) (loops : List (List Point)) → list_all is_loop loops ≡ true
+loops_are_followed : (es : List Edge) (loops : List (List Point))
+    → list_all is_bent_loop loops ≡ true
     → ((g : Edge) → Stands g (edges_of loops) → Stands g es)
     → AllByRecursion (IsFollowed es) (edges_of loops)
-loops_are_followed es [] all there = tt
-loops_are_followed es (points ∷ loops) all there =
-    let parts = and_parts (is_loop points) (list_all is_loop loops) all in
+loops_are_followed es [] bent there = tt
+loops_are_followed es (points ∷ loops) bent there =
+    let parts = and_parts (is_bent_loop points) (list_all is_bent_loop loops) bent in
     all-append (IsFollowed es) (edges_of_loop points) (edges_of loops)
     (loop_is_followed es points parts.0
     (λ g at. there g (stands_before g (edges_of_loop points) (edges_of loops) at)))
     (loops_are_followed es loops parts.1
     (λ g at. there g (stands_behind g (edges_of_loop points) (edges_of loops) at)))
 
--- so it is with each edge of a plan
-pub plan_edges_are_followed : (loops : List (List Point)) → IsTrue (is_plan loops)
+-- each edge of bent loops is followed by one of them
+pub edges_are_followed : (loops : List (List Point)) → list_all is_bent_loop loops ≡ true
     → AllByRecursion (IsFollowed (edges_of loops)) (edges_of loops)
-plan_edges_are_followed loops is =
-    loops_are_followed (edges_of loops) loops (plan_is loops is).each (λ g stands. stands)
+edges_are_followed loops bent =
+    loops_are_followed (edges_of loops) loops bent (λ g stands. stands)
 
--- where one edge of a plan begins as another ends the way over the corner is bent
-pub bent_at_corner : (loops : List (List Point)) → IsTrue (is_plan loops) → (e f : Edge)
+-- where one edge begins as another ends the way over the corner is bent
+pub bent_at_corner : (loops : List (List Point)) → list_all is_bent_loop loops ≡ true
+    → are_apart loops ≡ true → (e f : Edge)
     → Stands e (edges_of loops) → Stands f (edges_of loops) → e.b ≡ f.a
     → is_bent e.a e.b f.b ≡ true
-bent_at_corner loops is e f at_e at_f same =
+bent_at_corner loops bent apart e f at_e at_f same =
     let followed =
-    all_stands (IsFollowed (edges_of loops)) e (edges_of loops) (plan_edges_are_followed loops is)
-    at_e
+    all_stands (IsFollowed (edges_of loops)) e (edges_of loops) (edges_are_followed loops bent) at_e
     in
     subst (λ g. is_bent e.a e.b g.b ≡ true)
-    (one_edge_begins loops is followed.next f followed.stands at_f (followed.begins ∙ same))
+    (one_edge_begins loops apart followed.next f followed.stands at_f (followed.begins ∙ same))
     followed.bent
 
 -- ---- a point on two edges in a row
@@ -217,10 +218,10 @@ on_line p e on =
     (Decides-int_eq (turn_at e p) (pos 0)).0
     (and_parts (int_eq (turn_at e p) (pos 0)) (int_le (reach_at e p) (pos 0)) on).0
 
-at_corner : (loops : List (List Point)) → IsTrue (is_plan loops) → (e f : Edge)
-    → Stands e (edges_of loops) → Stands f (edges_of loops) → e.b ≡ f.a
+at_corner : (loops : List (List Point)) → list_all is_bent_loop loops ≡ true
+    → are_apart loops ≡ true → (e f : Edge) → Stands e (edges_of loops) → Stands f (edges_of loops) → e.b ≡ f.a
     → (p : Spot) → IsSpot p → is_on p e ≡ true → is_on p f ≡ true → IsAt p e.b
-at_corner loops is e f at_e at_f same p p_is on_e on_f =
+at_corner loops bent apart e f at_e at_f same p p_is on_e on_f =
     from (equal_or_not (dot (seen_from p e.b) (seen_from p e.b)) (pos 0))
   where
     second : cross (seen_from p e.b) (seen_from p f.b) ≡ pos 0
@@ -232,19 +233,19 @@ at_corner loops is e f at_e at_f same p p_is on_e on_f =
     from (inl none) = no_length (seen_from p e.b) none
     from (inr some) =
         absurd
-        (bent_is_not_0 (bend e.a e.b f.b) (bent_at_corner loops is e f at_e at_f same)
+        (bent_is_not_0 (bend e.a e.b f.b) (bent_at_corner loops bent apart e f at_e at_f same)
         (straight_through p p_is e.a e.b f.b (on_line p e on_e) second
         (some_length (seen_from p e.b) some)))
 
--- so it is with each two edges of a plan
-pub plan_edges_meet_at_corners : (loops : List (List Point)) → IsTrue (is_plan loops)
-    → AllOfTwo MeetAtCorner (edges_of loops)
-plan_edges_meet_at_corners loops is =
+-- so it is with each two edges of loops that are bent and apart
+pub edges_meet_at_corners : (loops : List (List Point)) → list_all is_bent_loop loops ≡ true
+    → are_apart loops ≡ true → AllOfTwo MeetAtCorner (edges_of loops)
+edges_meet_at_corners loops bent apart =
     two_follow MeetAtEnds MeetAtCorner (edges_of loops)
     (λ e f at_e at_f meet p p_is on_e on_f.
     from e f at_e at_f p p_is on_e on_f
     (or_cases (is_same_point e.b f.a) (is_same_point f.b e.a) (meet p p_is on_e on_f)))
-    (plan_edges_meet_at_ends loops is)
+    (edges_meet_at_ends loops apart)
   where
     from : (e f : Edge) → Stands e (edges_of loops) → Stands f (edges_of loops)
         → (p : Spot) → IsSpot p → is_on p e ≡ true → is_on p f ≡ true
@@ -252,7 +253,22 @@ plan_edges_meet_at_corners loops is =
         → ((e.b ≡ f.a) × IsAt p e.b) ⊎ ((f.b ≡ e.a) × IsAt p f.b)
     from e f at_e at_f p p_is on_e on_f (inl first) =
         let same = same_point e.b f.a first in
-        inl (same, at_corner loops is e f at_e at_f same p p_is on_e on_f)
+        inl (same, at_corner loops bent apart e f at_e at_f same p p_is on_e on_f)
     from e f at_e at_f p p_is on_e on_f (inr second) =
         let same = same_point f.b e.a second in
-        inr (same, at_corner loops is f e at_f at_e same p p_is on_f on_e)
+        inr (same, at_corner loops bent apart f e at_f at_e same p p_is on_f on_e)
+
+loops_are_bent : (loops : List (List Point)) → list_all is_loop loops ≡ true
+    → list_all is_bent_loop loops ≡ true
+loops_are_bent [] all = refl
+loops_are_bent (points ∷ loops) all =
+    let parts = and_parts (is_loop points) (list_all is_loop loops) all in
+    and_from (is_bent_loop points) (list_all is_bent_loop loops) (loop_is points parts.0).bent
+    (loops_are_bent loops parts.1)
+
+-- and with each two of a plan
+pub plan_edges_meet_at_corners : (loops : List (List Point)) → IsTrue (is_plan loops)
+    → AllOfTwo MeetAtCorner (edges_of loops)
+plan_edges_meet_at_corners loops is =
+    edges_meet_at_corners loops (loops_are_bent loops (plan_is loops is).each)
+    (plan_is loops is).apart

@@ -29,7 +29,7 @@ use Rattle.theory_lists.specs.Members.{AllOfTwo}
 use Rattle.theory_lists.proofs.Members.{two_follow}
 use Rattle.theory_plans.specs.LoopEdges.{edges_of}
 use Rattle.theory_plans.specs.Plans.{do_touch, is_parted, is_plan, is_same_point, is_consecutive}
-use Rattle.theory_plans.specs.Plans.{is_of_each_two, corners_in}
+use Rattle.theory_plans.specs.Plans.{is_of_each_two, corners_in, are_apart}
 use Rattle.theory_plans.proofs.EdgesOfPlans.{plan_is}
 
 -- the way from a to b
@@ -526,16 +526,15 @@ abbrev pub MeetAtEnds : Edge → Edge → Type 0
 MeetAtEnds e f = (p : Spot) → IsSpot p → is_on p e ≡ true → is_on p f ≡ true
     → is_consecutive e f ≡ true
 
--- two edges of a plan, at different places, that have a point in common are consecutive
-pub plan_edges_meet_at_ends : (loops : List (List Point)) → IsTrue (is_plan loops)
+-- two edges that are apart, at different places, and have a point in common are consecutive
+pub edges_meet_at_ends : (loops : List (List Point)) → are_apart loops ≡ true
     → AllOfTwo MeetAtEnds (edges_of loops)
-plan_edges_meet_at_ends loops is =
+edges_meet_at_ends loops apart =
     let parts = and_parts (is_of_each_two (λ a b. not (is_same_point a b)) (corners_in loops))
-    (is_of_each_two (λ e f. is_consecutive e f || not (do_touch e f)) (edges_of loops))
-    (plan_is loops is).apart in
+    (is_of_each_two (λ e f. is_consecutive e f || not (do_touch e f)) (edges_of loops)) apart in
     two_follow (λ e f. (is_consecutive e f || not (do_touch e f)) ≡ true) MeetAtEnds
     (edges_of loops)
-    (λ e f at_e at_f apart p p_is on_e on_f. first_of_two (is_consecutive e f) (do_touch e f) apart
+    (λ e f at_e at_f free p p_is on_e on_f. first_of_two (is_consecutive e f) (do_touch e f) free
     (common_point_touches e f p p_is on_e on_f))
     (each_two_pass (λ e f. is_consecutive e f || not (do_touch e f)) (edges_of loops) parts.1)
   where
@@ -544,11 +543,15 @@ plan_edges_meet_at_ends loops is =
     first_of_two false true holds touch = absurd (false≢true holds)
     first_of_two false false holds touch = touch
 
--- no point is a corner of a plan twice
-pub plan_corners_are_once : (loops : List (List Point)) → IsTrue (is_plan loops)
+-- so it is with those of a plan
+pub plan_edges_meet_at_ends : (loops : List (List Point)) → IsTrue (is_plan loops)
+    → AllOfTwo MeetAtEnds (edges_of loops)
+plan_edges_meet_at_ends loops is = edges_meet_at_ends loops (plan_is loops is).apart
+
+-- no point is a corner twice of loops that are apart
+pub corners_are_once : (loops : List (List Point)) → are_apart loops ≡ true
     → AllOfTwo (λ a b. not (is_same_point a b) ≡ true) (corners_in loops)
-plan_corners_are_once loops is =
-    let parts = and_parts (is_of_each_two (λ a b. not (is_same_point a b)) (corners_in loops))
-    (is_of_each_two (λ e f. is_consecutive e f || not (do_touch e f)) (edges_of loops))
-    (plan_is loops is).apart in
-    each_two_pass (λ a b. not (is_same_point a b)) (corners_in loops) parts.0
+corners_are_once loops apart =
+    each_two_pass (λ a b. not (is_same_point a b)) (corners_in loops)
+    (and_parts (is_of_each_two (λ a b. not (is_same_point a b)) (corners_in loops))
+    (is_of_each_two (λ e f. is_consecutive e f || not (do_touch e f)) (edges_of loops)) apart).0
