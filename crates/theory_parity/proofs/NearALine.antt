@@ -18,7 +18,7 @@ use Rattle.theory_numbers.proofs.Products.{positive_product, negative_product, w
 use Rattle.sb_fraction.specs.declared.point.Point.{Point}
 use Rattle.sb_fraction.specs.Spots.{Spot, spot}
 use Rattle.theory_plans.specs.Rays.{is_left_of}
-use Rattle.theory_plans.proofs.PointsAlike.{sign_of_multiple}
+use Rattle.theory_numbers.proofs.Multiples.{sign_of_multiple}
 use Rattle.theory_parity.specs.Below.{IsWay}
 use Rattle.theory_parity.specs.Halves.{Half, IsLine, height_over}
 use Rattle.theory_parity.specs.Halves.{half_right_of, on_way}

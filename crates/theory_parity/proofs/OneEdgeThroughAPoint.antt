@@ -1,13 +1,12 @@
 -- Through a point that is no corner at most one edge of a plan passes.
 
-use Rattle.std.proofs.Common.{◌≡◌, ◌⊎◌, inl, inr, arith, pos, ◌*ℤ◌, ◌+ℤ◌, ◌<ℤ◌, true, IsTrue, List}
+use Rattle.std.proofs.Common.{◌≡◌, ◌⊎◌, inl, inr, arith, pos, ◌<ℤ◌, true, IsTrue, List}
 use Rattle.std.specs.List.{AllByRecursion}
 use Rattle.std.proofs.lemmas.Int.{ints}
-use Rattle.std.proofs.Common.{ap₂, ◌∙◌}
 use Rattle.theory_lists.specs.OneOf.{AtMostOne}
 use Rattle.theory_lists.proofs.Members.{all_stands, two_follow}
 use Rattle.theory_numbers.specs.Arrows.{dot}
-use Rattle.theory_numbers.proofs.Shapes.{dot_eq}
+use Rattle.theory_numbers.proofs.Lengths.{length_of_zero}
 use Rattle.sb_fraction.specs.declared.point.Point.{Point}
 use Rattle.sb_fraction.specs.Spots.{Spot, IsSpot}
 use Rattle.sb_fraction.specs.Edges.{Edge, seen_from, is_on}
@@ -19,11 +18,7 @@ use Rattle.theory_parity.proofs.NoEdgeInside.{IsNoEnd}
 -- a corner is seen at no distance from where it is
 no_distance : (p : Spot) (v : Point) → IsAt p v → pos 0 <ℤ dot (seen_from p v) (seen_from p v) → ⊥
 no_distance p v at long =
-    let none : dot (seen_from p v) (seen_from p v) ≡ (pos 0 *ℤ pos 0) +ℤ (pos 0 *ℤ pos 0) =
-    dot_eq (seen_from p v) (seen_from p v)
-    ∙ ap₂ (λ s t. (s *ℤ s) +ℤ (t *ℤ t)) at.0 at.1
-    in
-    absurd (omega (arith, ints))
+    let none = length_of_zero (seen_from p v) at.0 at.1 in absurd (omega (arith, ints))
 
 -- so two edges that pass through one point have an end there
 pub at_most_one_passes : (loops : List (List Point)) → IsTrue (is_plan loops) → (m : Spot)

@@ -15,7 +15,7 @@ use Rattle.theory_numbers.specs.Tests.{is_positive}
 use Rattle.theory_numbers.specs.Arrows.{Arrow, arrow, cross, dot}
 use Rattle.theory_numbers.specs.Rationals.{IsRational}
 use Rattle.theory_numbers.proofs.Shapes.{var, plus, minus, negated, times, equal, cross_by, dot_by}
-use Rattle.theory_numbers.proofs.Shapes.{dot_eq}
+use Rattle.theory_numbers.proofs.Lengths.{length_of_zero}
 use Rattle.theory_numbers.proofs.Signs.{same_less}
 use Rattle.theory_numbers.proofs.Products.{positive_product, zero_of_positive}
 use Rattle.theory_numbers.proofs.Ring.{mul-zero}
@@ -141,9 +141,7 @@ region_inside_throughout loops plan d r cuts cuts_in inside q q_is at =
 
 way_is_not_0 : (d : Arrow) → IsWay d → d.x ≡ pos 0 → d.y ≡ pos 0 → ⊥
 way_is_not_0 d d_is x_none y_none =
-    let none : dot d d ≡ (pos 0 *ℤ pos 0) +ℤ (pos 0 *ℤ pos 0) =
-    dot_eq d d ∙ ap₂ (λ s t. (s *ℤ s) +ℤ (t *ℤ t)) x_none y_none in
-    absurd (omega (arith, ints))
+    let none = length_of_zero d x_none y_none in absurd (omega (arith, ints))
 
 -- each abscissa is a line
 pub beyond_is_line : (d u : Arrow) → IsWay d → IsRational u → IsLine (half_beyond d u)

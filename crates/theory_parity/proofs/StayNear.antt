@@ -6,6 +6,7 @@ use Rattle.std.proofs.Common.{true, List, [], ◌∷◌, map}
 use Rattle.std.specs.List.{AllByRecursion}
 use Rattle.std.proofs.lemmas.Int.{ints}
 use Rattle.std.proofs.lemmas.Bool.{and_parts, and_from}
+use Rattle.theory_lists.proofs.Members.{all_images}
 use Rattle.theory_numbers.specs.Arrows.{Arrow, arrow, cross, opposite}
 use Rattle.theory_numbers.specs.Rationals.{IsRational, IsBelow, IsForm, value_at, mediant}
 use Rattle.theory_numbers.specs.Intervals.{Keeps, AllKeep, clear_end}
@@ -109,11 +110,6 @@ module _ (end s : Arrow) (end_in : IsRational end) (wide : IsBelow begins end)
         signs_kept t o hs kept.1,
       )
 
-forms_are : (t o : Spot) (hs : List Half) → AllByRecursion (λ h. IsForm (form_on t o h)) hs
-    → AllByRecursion IsForm (map (form_on t o) hs)
-forms_are t o [] all = tt
-forms_are t o (h ∷ hs) all = (all.0, forms_are t o hs all.1)
-
 -- there are such weights
 pub stay_near : (t o : Spot) (hs : List Half) → AllByRecursion (λ h. IsForm (form_on t o h)) hs
     → (s : Arrow) × IsNear t o hs s
@@ -123,7 +119,7 @@ stay_near t o hs are_forms =
     let wide : IsBelow begins ends = rw (below_is_up ends) (omega (arith, ints)) in
     let found =
     clear_to begins ends (omega (arith, ints)) (omega (arith, ints)) wide forms
-    (forms_are t o hs are_forms)
+    (all_images IsForm (form_on t o) hs are_forms)
     in
     let s = mediant begins end in
     let inside = mediant_between begins end found.after in

@@ -16,6 +16,7 @@ use Rattle.theory_lists.proofs.Blocks.{stands_before, stands_behind, all-append}
 use Rattle.theory_numbers.specs.Arrows.{cross, dot}
 use Rattle.theory_numbers.proofs.Arrows.{cross-turn}
 use Rattle.theory_numbers.proofs.Products.{zero_of_positive}
+use Rattle.theory_numbers.proofs.Lengths.{no_length, some_length, seen_by}
 use Rattle.theory_numbers.proofs.Ring.{mul-zero}
 use Rattle.theory_numbers.proofs.Shapes.{var, num, minus, negated, times, equal, cross_by}
 use Rattle.theory_numbers.proofs.Signs.{equal_or_not}
@@ -26,7 +27,7 @@ use Rattle.theory_plans.specs.LoopEdges.{edges_back, edges_of_loop, edges_of}
 use Rattle.theory_plans.specs.Loops.{bend, is_bent, are_bent, is_bent_loop, is_loop}
 use Rattle.theory_plans.specs.Plans.{is_plan, is_same_point, are_apart, corners_in}
 use Rattle.theory_plans.proofs.EdgesOfPlans.{same_point, loop_is, plan_is, bent_is_not_0}
-use Rattle.theory_plans.proofs.TouchingEdges.{from_to, no_length, some_length, seen_by, seen_cross}
+use Rattle.theory_plans.proofs.TouchingEdges.{from_to, seen_cross}
 use Rattle.theory_plans.proofs.TouchingEdges.{turn_seen, MeetAtEnds, edges_meet_at_ends}
 use Rattle.theory_plans.proofs.TouchingEdges.{corners_are_once}
 
@@ -230,7 +231,7 @@ at_corner loops bent apart e f at_e at_f same p p_is on_e on_f =
     from : (dot (seen_from p e.b) (seen_from p e.b) ≡ pos 0)
         ⊎ (dot (seen_from p e.b) (seen_from p e.b) ≡ pos 0 → ⊥)
         → IsAt p e.b
-    from (inl none) = no_length (seen_from p e.b) none
+    from (inl none) = no_length (seen_from p e.b) (omega (arith, ints))
     from (inr some) =
         absurd
         (bent_is_not_0 (bend e.a e.b f.b) (bent_at_corner loops bent apart e f at_e at_f same)
