@@ -1,11 +1,13 @@
 -- What holds of a list that is put together from blocks: what stands there, none, exactly one, each
 -- one, each two.
-use Rattle.std.proofs.Common.{◌≡◌, refl, inl, inr, Bool, true, false, List, [], ◌∷◌, ◌++◌}
+use Rattle.std.proofs.Common.{◌≡◌, refl, sym, ap, ◌∙◌, inl, inr, Bool, true, false, ◌||◌}
+use Rattle.std.proofs.Common.{List, [], ◌∷◌, ◌++◌}
 use Rattle.std.specs.Bool.{MatchBool}
 use Rattle.std.specs.List.{AllByRecursion, list_any}
-use Rattle.std.proofs.lemmas.Bool.{or_parts, or_from}
+use Rattle.std.proofs.lemmas.Bool.{or_parts, or_from, false≢true, false_from_ne_true}
 use Rattle.theory_lists.specs.Members.{Stands, AllOfTwo}
-use Rattle.theory_lists.specs.OneOf.{ExactlyOne}
+use Rattle.theory_lists.specs.OneOf.{ExactlyOne, AtMostOne}
+use Rattle.theory_lists.proofs.Members.{all_follow}
 
 -- ---- what stands there
 
@@ -69,6 +71,22 @@ pub one_behind : {X : Type 0} (test : X → Bool) (x : X) (xs : List X) → test
     → ExactlyOne test xs → ExactlyOne test (x ∷ xs)
 one_behind test x xs not_here there =
     match_false (test x) (list_any test xs ≡ false) (ExactlyOne test xs) not_here there
+
+-- at most one, and some
+pub one_of_at_most : {X : Type 0} (test : X → Bool) (xs : List X) → AtMostOne test xs
+    → list_any test xs ≡ true → ExactlyOne test xs
+one_of_at_most test [] once some = absurd (false≢true some)
+one_of_at_most test (x ∷ xs) once some = by (test x) refl (one_of_at_most test xs once.1)
+  where
+    by : (b : Bool) → test x ≡ b → (list_any test xs ≡ true → ExactlyOne test xs)
+        → ExactlyOne test (x ∷ xs)
+    by true passes rest =
+        first_alone test x xs passes
+        (none_where test xs
+        (all_follow (λ y known. false_from_ne_true (test y) (known passes)) xs once.0))
+    by false fails rest =
+        one_behind test x xs fails
+        (rest (sym (ap (λ b. b || list_any test xs) fails) ∙ some))
 
 -- one in the first block, none in the second
 pub one_in_first : {X : Type 0} (test : X → Bool) (xs ys : List X) → ExactlyOne test xs

@@ -159,6 +159,15 @@ module _ {X : Type 0} where
           ap (λ b. differ b (is_odd_number test xs)) fails
           ∙ rest (sym (ap (λ b. b || list_any test xs) fails) ∙ some)
 
+  -- of a test that at most one place passes it says whether some place does
+  pub odd_is_any : (test : X → Bool) (xs : List X) → AtMostOne test xs
+      → is_odd_number test xs ≡ list_any test xs
+  odd_is_any test xs once = by (list_any test xs) refl
+    where
+      by : (b : Bool) → list_any test xs ≡ b → is_odd_number test xs ≡ list_any test xs
+      by true some = odd_if_alone test xs once some ∙ sym some
+      by false none = is_odd_number-none test xs none ∙ sym none
+
 -- of a list that is mapped it is that of the composed test
 pub is_odd_number-map : {X Y : Type 0} (test : Y → Bool) (f : X → Y) (xs : List X)
     → is_odd_number test (map f xs) ≡ is_odd_number (λ x. test (f x)) xs

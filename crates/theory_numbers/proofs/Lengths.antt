@@ -1,19 +1,22 @@
 -- The length of a vector, its inner product with itself: 0 for the vector 0 alone, else above 0. And
 -- vectors on one line through the origin.
-use Rattle.std.proofs.Common.{◌≡◌, ap, ap₂, sym, ◌∙◌, arith, subst, Bool, true, false, not}
+use Rattle.std.proofs.Common.{◌≡◌, ◌⊎◌, inl, inr, refl, ap, ap₂, sym, ◌∙◌, arith, subst}
+use Rattle.std.proofs.Common.{Bool, true, false, not}
 use Rattle.std.proofs.Common.{pos, neg_ℤ, ◌<ℤ◌, ◌≤ℤ◌, ◌+ℤ◌, ◌-ℤ◌, ◌*ℤ◌}
 use Rattle.std.proofs.lemmas.Int.{ints, by_lt_z}
 use Rattle.theory_numbers.specs.Tests.{is_positive}
 use Rattle.theory_numbers.specs.Arrows.{Arrow, cross, dot}
 use Rattle.theory_numbers.proofs.Arrows.{cross-turn, dot_comm}
 use Rattle.theory_numbers.proofs.Shapes.{var, num, minus, times, equal, cross_is, dot_is}
-use Rattle.theory_numbers.proofs.Shapes.{dot_eq}
+use Rattle.theory_numbers.proofs.Shapes.{dot_eq, cross_eq}
 use Rattle.theory_numbers.proofs.Products.{positive_product, negative_product, product_of_negatives}
 use Rattle.theory_numbers.proofs.Products.{weak_square, positive_square, square_of_zero}
 use Rattle.theory_numbers.proofs.Products.{positive_factor, negative_factor}
 use Rattle.theory_numbers.proofs.Products.{weak_negative_product, weak_negative_factor}
-use Rattle.theory_numbers.proofs.Ring.{mul_comm, neg-mul, zero-mul}
-use Rattle.theory_numbers.proofs.Signs.{less_from, not_less_from}
+use Rattle.theory_numbers.proofs.Products.{weak_product_of_negatives}
+use Rattle.theory_numbers.proofs.Ring.{mul_comm, mul-zero, neg-mul, zero-mul}
+use Rattle.theory_numbers.proofs.Signs.{less_from, not_less_from, test_less, test_not_less}
+use Rattle.theory_numbers.proofs.Signs.{sign_cases}
 use Rattle.theory_numbers.proofs.ThreeTerms.{cycle, frame_dot}
 
 -- ---- lengths
@@ -54,6 +57,17 @@ long_from d s apart d_long =
     let square = positive_square (dot d s) apart in
     let other = weak_square (cross d s) in
     positive_factor (dot d d) (dot s s) d_long (omega (arith, ints))
+
+-- and one that does not lie on the line of another
+pub long_aside : (r a : Arrow) → (cross r a ≡ pos 0 → ⊥) → pos 0 <ℤ dot a a
+long_aside r a aside =
+    some_length a (λ none.
+    let zero = no_length a (omega (arith, ints)) in
+    let spread : cross r a ≡ (r.x *ℤ pos 0) -ℤ (r.y *ℤ pos 0) =
+    cross_eq r a ∙ ap₂ (λ s t. (r.x *ℤ t) -ℤ (r.y *ℤ s)) zero.0 zero.1 in
+    let first = mul-zero r.x in
+    let second = mul-zero r.y in
+    aside (omega (arith, ints)))
 
 -- ---- two vectors on one line
 
@@ -136,3 +150,51 @@ opposed r a b false true a_bit b_bit relation level =
     omega (arith, ints)
 opposed r a b true true a_bit b_bit relation level = cc
 opposed r a b false false a_bit b_bit relation level = cc
+
+-- and where they point in opposite directions, none of them on its line, they lie on different sides
+pub parted : (r a b : Arrow) → cross a b ≡ pos 0 → dot a b ≤ℤ pos 0 → (cross r a ≡ pos 0 → ⊥)
+    → (cross r b ≡ pos 0 → ⊥) → is_positive (cross r a) ≡ not (is_positive (cross r b))
+parted r a b level near off_a off_b = from (sign_cases (cross r a)) (sign_cases (cross r b))
+  where
+    same : dot a a *ℤ cross b r ≡ dot a b *ℤ cross a r
+    same = seen_by a b r level
+
+    long : pos 0 <ℤ dot a a
+    long = long_aside r a off_a
+
+    both_left : pos 0 <ℤ cross r a → pos 0 <ℤ cross r b → ⊥
+    both_left left_a left_b =
+        let turn_a = cross-turn r a in
+        let turn_b = cross-turn r b in
+        let one = negative_product (dot a a) (cross b r) long (omega (arith, ints)) in
+        let other =
+        weak_product_of_negatives (dot a b) (cross a r) near (omega (arith, ints)) in
+        absurd (omega (arith, ints, same))
+
+    both_right : cross r a <ℤ pos 0 → cross r b <ℤ pos 0 → ⊥
+    both_right right_a right_b =
+        let turn_a = cross-turn r a in
+        let turn_b = cross-turn r b in
+        let one = positive_product (dot a a) (cross b r) long (omega (arith, ints)) in
+        let swap = mul_comm (dot a b) (cross a r) in
+        let other = weak_negative_product (cross a r) (dot a b) (omega (arith, ints)) near in
+        absurd (omega (arith, ints, same))
+
+    from : ((pos 0 <ℤ cross r a) ⊎ (cross r a ≡ pos 0)) ⊎ (cross r a <ℤ pos 0)
+        → ((pos 0 <ℤ cross r b) ⊎ (cross r b ≡ pos 0)) ⊎ (cross r b <ℤ pos 0)
+        → is_positive (cross r a) ≡ not (is_positive (cross r b))
+    from (inl (inl left_a)) (inl (inl left_b)) = absurd (both_left left_a left_b)
+    from (inl (inl left_a)) (inl (inr none)) = absurd (off_b none)
+    from (inl (inl left_a)) (inr right_b) =
+        rw (
+          test_less (pos 0) (cross r a) left_a,
+          test_not_less (pos 0) (cross r b) (omega (arith, ints)),
+        ) refl
+    from (inl (inr none)) side = absurd (off_a none)
+    from (inr right_a) (inl (inl left_b)) =
+        rw (
+          test_less (pos 0) (cross r b) left_b,
+          test_not_less (pos 0) (cross r a) (omega (arith, ints)),
+        ) refl
+    from (inr right_a) (inl (inr none)) = absurd (off_b none)
+    from (inr right_a) (inr right_b) = absurd (both_right right_a right_b)

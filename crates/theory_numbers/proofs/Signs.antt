@@ -62,6 +62,13 @@ same_less a b c d to from =
     (λ answer. test_less c d (to (less_from a b answer)))
     (λ answer. test_less a b (from (less_from c d answer)))
 
+-- and so do two tests of equality
+pub same_equal : (a b c d : ℤ) → (a ≡ b → c ≡ d) → (c ≡ d → a ≡ b) → int_eq a b ≡ int_eq c d
+same_equal a b c d to from =
+    same_tests (int_eq a b) (int_eq c d)
+    (λ answer. (Decides-int_eq c d).1 (to ((Decides-int_eq a b).0 answer)))
+    (λ answer. (Decides-int_eq a b).1 (from ((Decides-int_eq c d).0 answer)))
+
 -- ---- cases on a sign
 
 -- above 0, 0 or below 0

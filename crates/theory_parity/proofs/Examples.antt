@@ -6,7 +6,7 @@ use Rattle.std.specs.List.{list_any}
 use Rattle.theory_lists.specs.Parity.{differ, is_odd_number}
 use Rattle.theory_numbers.specs.Arrows.{arrow, cross, dot}
 use Rattle.theory_numbers.specs.Rationals.{rational}
-use Rattle.theory_plane.specs.Sides.{level}
+use Rattle.theory_plane.specs.Sides.{level, value_on}
 use Rattle.theory_plane.specs.Points.{is_above_side}
 use Rattle.theory_plane.specs.Regions.{Region}
 use Rattle.sb_fraction.specs.declared.point.Point.{Point}
@@ -17,7 +17,7 @@ use Rattle.theory_plans.specs.LoopEdges.{edges_of}
 use Rattle.theory_plans.specs.Inside.{is_in_plan}
 use Rattle.theory_plans.specs.Plans.{is_plan}
 use Rattle.theory_plans.specs.Rectangles.{corner, rectangle}
-use Rattle.theory_parity.specs.Below.{is_below_at, is_in_along, spot_in}
+use Rattle.theory_parity.specs.Below.{is_below_at, is_in_along, spot_in, is_lower_at, is_up_to_at}
 use Rattle.theory_parity.specs.Halves.{is_in_all, on_way}
 use Rattle.theory_parity.specs.RegionsAlong.{four_halves, is_in_region}
 
@@ -165,3 +165,30 @@ common_edge :
     ≡ false ∷ true ∷ true ∷ false ∷ []
 unfolding cross dot
 common_edge = refl
+
+-- ---- by the values on a line
+
+-- a plan with a corner at (5, 5), from which two edges run to greater x
+abbrev indented : List (List Point)
+indented = (at 0 0 ∷ at 10 0 ∷ at 5 5 ∷ at 10 10 ∷ at 0 10 ∷ []) ∷ []
+
+-- whether an odd number of edges have a value below y at x, whether at most y, and inside
+abbrev by_values : ℕ → ℕ → List Bool
+by_values x y =
+    is_odd_number (is_lower_at (arrow (pos 1) (pos 0)) (rational (pos x) (pos 1)) (rational (pos y) (pos 1)))
+    (edges_of indented)
+    ∷ is_odd_number (is_up_to_at (arrow (pos 1) (pos 0)) (rational (pos x) (pos 1)) (rational (pos y) (pos 1)))
+    (edges_of indented)
+    ∷ is_in_plan indented (spot_by x y 1) ∷ []
+
+-- at x = 6 the values are 0, 4, 6 and 10: 3 is inside, 4 is not, since it is a value, 5 is not
+on_a_line_without_a_corner :
+    by_values 6 3 ∷ by_values 6 4 ∷ by_values 6 5 ∷ []
+    ≡ (true ∷ true ∷ true ∷ []) ∷ (true ∷ false ∷ false ∷ []) ∷ (false ∷ false ∷ false ∷ []) ∷ []
+unfolding cross dot span_along value_on
+on_a_line_without_a_corner = refl
+
+-- at the corner both numbers are odd, and the point is not inside: the line has to hold no corner
+at_a_corner : is_plan indented ∷ by_values 5 5 ≡ true ∷ true ∷ true ∷ false ∷ []
+unfolding cross dot span_along value_on
+at_a_corner = refl

@@ -19,4 +19,6 @@ pub mod PointOfAnEdge
 pub mod OneEdgeThroughAPoint
 pub mod InsideThroughout
 pub mod RegionIsFourHalves
+-- lines without a corner
+pub mod InsideByValues
 mod Examples

@@ -6,7 +6,7 @@ use Rattle.std.specs.Ordering.{int_eq}
 use Rattle.std.specs.List.{list_any}
 use Rattle.theory_lists.specs.Parity.{is_odd_number}
 use Rattle.theory_numbers.specs.Arrows.{Arrow, arrow, cross, dot}
-use Rattle.theory_numbers.specs.Rationals.{IsBelow, IsAtMost, IsSame, is_below}
+use Rattle.theory_numbers.specs.Rationals.{IsBelow, IsAtMost, IsSame, is_below, is_at_most}
 use Rattle.theory_plane.specs.Sides.{value_on}
 use Rattle.theory_plane.specs.Points.{FacePoint, abscissa_of, is_above_side, point_at}
 use Rattle.sb_fraction.specs.declared.point.Point.{Point}
@@ -53,6 +53,10 @@ value_of d u e = value_on (line_over d e) u
 -- the edge reaches past u and has a lesser v than this one there
 abbrev pub is_lower_at : Arrow → Arrow → Arrow → Edge → Bool
 is_lower_at d u v e = reaches_past d u e && is_below (value_of d u e) v
+
+-- the edge reaches past u and has at most this v there
+abbrev pub is_up_to_at : Arrow → Arrow → Arrow → Edge → Bool
+is_up_to_at d u v e = reaches_past d u e && is_at_most (value_of d u e) v
 
 -- the edge reaches past u and has this v there: it passes through (u, v)
 abbrev pub is_through : Arrow → Arrow → Arrow → Edge → Bool

@@ -1,15 +1,13 @@
 -- "Leads just after u" is a strict weak order of all lines, whether or not they stand for edges
 -- that reach over u.
 use Rattle.std.proofs.Common.{◌≡◌, ◌⊎◌, inl, inr, refl, arith, ℤ, pos, ◌<ℤ◌, ◌≤ℤ◌, ◌+ℤ◌, ◌*ℤ◌}
-use Rattle.std.proofs.Common.{neg_ℤ, Bool, true, false, ◌&&◌, ◌||◌}
+use Rattle.std.proofs.Common.{neg_ℤ, Bool, true, false}
 use Rattle.std.proofs.lemmas.Int.{ints}
-use Rattle.std.proofs.lemmas.Bool.{and_from}
 use Rattle.std.specs.Ordering.{int_eq}
 use Rattle.std.specs.Cmp.{signed_Decides, IsStrictWeakOrder}
-use Rattle.theory_numbers.specs.Tests.{is_positive}
 use Rattle.theory_numbers.specs.Arrows.{Arrow}
 use Rattle.theory_numbers.proofs.Shapes.{var, minus, plus, times, negated, equal}
-use Rattle.theory_numbers.proofs.Signs.{test_less, test_not_less, less_from, not_less_from}
+use Rattle.theory_numbers.proofs.Signs.{test_less, test_not_less}
 use Rattle.theory_numbers.proofs.Signs.{sign_cases, above_or_not}
 use Rattle.theory_numbers.proofs.Products.{negative_product, weak_negative_product}
 use Rattle.theory_numbers.proofs.Products.{negative_factor, weak_negative_factor}

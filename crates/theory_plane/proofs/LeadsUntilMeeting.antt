@@ -1,7 +1,6 @@
 -- What leads stays above until the two lines meet.
 use Rattle.std.proofs.Common.{◌≡◌, ◌⊎◌, inl, inr, arith, ℤ, pos, ◌<ℤ◌, ◌+ℤ◌, ◌*ℤ◌, neg_ℤ}
 use Rattle.std.proofs.Common.{Bool, true, false, sym, refl, Less, Equal, Greater, if◌then◌else◌}
-use Rattle.std.specs.Ordering.{int_cmp}
 use Rattle.std.specs.Cmp.{int_cmp_is}
 use Rattle.std.proofs.lemmas.Int.{ints}
 use Rattle.theory_numbers.specs.Arrows.{Arrow, cross, dot}

@@ -122,6 +122,14 @@ under_at l u v =
       λ order. (under_rise l (point_at u v)).1 (omega (arith, ints)),
     )
 
+-- and the test on it
+pub on_at : (l : LineSide) (u v : Arrow)
+    → (is_on_side l (point_at u v) ≡ true) ↔ IsSame (value_on l u) v
+on_at l u v = (
+  λ answer. rw (rise-point_at l u v) at ((on_rise l (point_at u v)).0 answer),
+  λ same. (on_rise l (point_at u v)).1 (rw (rise-point_at l u v) same),
+)
+
 -- ---- inner points of a region
 
 cross-abscissa_of : (r u v : Arrow) → cross r (abscissa_of (point_at u v)) ≡ v.x *ℤ cross r u
