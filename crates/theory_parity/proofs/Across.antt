@@ -17,8 +17,7 @@ use Rattle.theory_numbers.specs.Arrows.{Arrow, cross, dot}
 use Rattle.theory_numbers.proofs.Arrows.{cross-turn, dot_comm}
 use Rattle.theory_numbers.proofs.Signs.{test_less, test_not_less}
 use Rattle.theory_numbers.proofs.Signs.{test_at_most, at_most_from, sign_cases}
-use Rattle.theory_numbers.proofs.Products.{weak_negative_product, weak_negative_factor, weak_factor}
-use Rattle.theory_numbers.proofs.Products.{weak_product_of_negatives, zero_of_positive}
+use Rattle.theory_numbers.proofs.Products.{zero_of_positive}
 use Rattle.theory_numbers.proofs.Products.{positive_product, negative_product}
 use Rattle.theory_numbers.proofs.Ring.{mul_comm, neg-mul, zero-mul, mul-zero}
 use Rattle.theory_numbers.proofs.ThreeTerms.{cycle}
@@ -28,7 +27,7 @@ use Rattle.sb_fraction.specs.Spots.{Spot, IsSpot}
 use Rattle.sb_fraction.specs.Edges.{Edge, seen_from, turn_at, reach_at, is_on}
 use Rattle.theory_plans.specs.Rays.{is_left_of, is_struck}
 use Rattle.theory_parity.specs.Halves.{height_over, left_half}
-use Rattle.theory_numbers.proofs.Lengths.{opposed}
+use Rattle.theory_numbers.proofs.Lengths.{opposed, parted}
 use Rattle.theory_parity.proofs.Heights.{turn_by_height}
 use Rattle.theory_parity.proofs.StayNear.{HasSignOf}
 
@@ -74,36 +73,7 @@ module _ (n a b : Arrow) (level : cross a b ≡ pos 0) (near : dot a b ≤ℤ po
       slanted (zero ∙ sym (zero_of_positive (dot b b) (cross n a) b_long (omega (arith, ints))))
 
   parted_by_way : is_positive (cross n a) ≡ not (is_positive (cross n b))
-  parted_by_way = from (sign_cases (cross n a))
-    where
-      from : ((pos 0 <ℤ cross n a) ⊎ (cross n a ≡ pos 0)) ⊎ (cross n a <ℤ pos 0)
-          → is_positive (cross n a) ≡ not (is_positive (cross n b))
-      from (inl (inl left)) =
-          let low = weak_negative_product (cross n a) (dot a b) (omega (arith, ints)) near in
-          let swap = mul_comm (cross n b) (dot a a) in
-          let same = same_product in
-          let right = weak_negative_factor (dot a a) (cross n b) a_long (omega (arith, ints)) in
-          rw (test_less (pos 0) (cross n a) left, test_not_less (pos 0) (cross n b) right) refl
-      from (inl (inr zero)) = absurd (first_off zero)
-      from (inr right) =
-          let high =
-          weak_product_of_negatives (cross n a) (dot a b) (omega (arith, ints)) near in
-          let swap = mul_comm (cross n b) (dot a a) in
-          let same = same_product in
-          let weak = weak_factor (dot a a) (cross n b) a_long (omega (arith, ints)) in
-          let left : pos 0 <ℤ cross n b = above_if_not_0 (cross n b) weak second_off in
-          rw (
-            test_less (pos 0) (cross n b) left,
-            test_not_less (pos 0) (cross n a) (omega (arith, ints)),
-          ) refl
-        where
-          above_if_not_0 : (z : ℤ) → pos 0 ≤ℤ z → (z ≡ pos 0 → ⊥) → pos 0 <ℤ z
-          above_if_not_0 z weak_z apart = by (sign_cases z)
-            where
-              by : ((pos 0 <ℤ z) ⊎ (z ≡ pos 0)) ⊎ (z <ℤ pos 0) → pos 0 <ℤ z
-              by (inl (inl above)) = above
-              by (inl (inr none)) = absurd (apart none)
-              by (inr low) = absurd (omega (arith, ints))
+  parted_by_way = parted n a b level near first_off second_off
 
 -- ---- one edge
 

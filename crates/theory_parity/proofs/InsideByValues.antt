@@ -36,7 +36,7 @@ use Rattle.theory_plans.specs.Rays.{is_left_of}
 use Rattle.theory_parity.specs.Below.{IsWay, down_from, is_below_at, spot_in, value_of}
 use Rattle.theory_parity.specs.Below.{is_lower_at, is_up_to_at, is_through, IsFree}
 use Rattle.theory_parity.proofs.InsideByBelow.{inside_by_below, beyond_by_turn, beyond_is_left}
-use Rattle.theory_parity.proofs.InsideByBelow.{on_line_over}
+use Rattle.theory_parity.proofs.OnLineOver.{on_line_over}
 use Rattle.theory_parity.proofs.BelowByValue.{below_by_value, spot_in_is, abscissa_of_spot, on_spot}
 use Rattle.theory_parity.proofs.BelowByValue.{reaches_past_spot}
 use Rattle.theory_parity.proofs.BelowFlips.{below_flips}

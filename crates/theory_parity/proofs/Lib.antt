@@ -20,5 +20,6 @@ pub mod OneEdgeThroughAPoint
 pub mod InsideThroughout
 pub mod RegionIsFourHalves
 -- lines without a corner
+pub mod OnLineOver
 pub mod InsideByValues
 mod Examples
