@@ -18,4 +18,20 @@ pub mod AwayFromCorners
 pub mod PointOfAnEdge
 pub mod InsideThroughout
 pub mod OddIfAlone
+-- the solid on the left
+pub mod EachMember
+pub mod RaysAnywhere
+pub mod OwnPoints
+pub mod RaysFromEdges
+pub mod RoundACorner
+pub mod Followers
+pub mod EdgesApart
+pub mod OneSideALoop
+pub mod TurnedLoops
+pub mod AlongAnEdge
+pub mod Soon
+pub mod BesideAnEdge
+pub mod NearAnEdge
+pub mod SensesAlternate
 mod Examples
+mod ExampleSides

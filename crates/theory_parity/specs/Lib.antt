@@ -1,3 +1,5 @@
 -- What the laws speak of, in reading order.
 pub mod Below
 pub mod Halves
+pub mod Sides
+pub mod SideLaws

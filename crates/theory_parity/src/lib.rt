@@ -3,3 +3,5 @@
 //!
 //! Start with `specs/Below.antt`: which edges lie below a point.
 #![tactic(auto)]
+
+pub mod sides;
