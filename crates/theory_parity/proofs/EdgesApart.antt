@@ -216,7 +216,7 @@ module _ (loops : List (List Point)) (are : AreBentApart loops) where
       long_if_bent e.a e.b next.next.b next.bent
 
   -- where one edge ends and another begins the way is bent
-  bent_between : (e g : Edge) → Stands e (edges_of loops) → Stands g (edges_of loops) → e.b ≡ g.a
+  pub bent_between : (e g : Edge) → Stands e (edges_of loops) → Stands g (edges_of loops) → e.b ≡ g.a
       → is_bent e.a e.b g.b ≡ true
   bent_between e g e_in g_in meets =
       let next = all_stands (HasFollower (edges_of loops)) e (edges_of loops)

@@ -28,6 +28,8 @@ pub mod Followers
 pub mod EdgesApart
 pub mod OneSideALoop
 pub mod TurnedLoops
+pub mod TurnedIsApart
+pub mod TurnedIsPlan
 pub mod AlongAnEdge
 pub mod Soon
 pub mod BesideAnEdge

@@ -32,7 +32,8 @@ use Rattle.theory_parity.proofs.OwnPoints.{IsOwn, IsLong, own_from_within, middl
 use Rattle.theory_parity.proofs.RaysFromEdges.{IsAloneAt, right_ray}
 use Rattle.theory_parity.proofs.Soon.{Soon, soon_both}
 
-bent_loops : (loops : List (List Point)) → list_all is_loop loops ≡ true
+-- loops are bent
+pub bent_loops : (loops : List (List Point)) → list_all is_loop loops ≡ true
     → list_all is_bent_loop loops ≡ true
 bent_loops [] all = refl
 bent_loops (points ∷ loops) all =

@@ -48,7 +48,8 @@ struck-turned r p e =
 
 -- ---- the edges of a loop turned round
 
-way-more : (a : Point) (points : List Point) (b last : Point)
+-- a way with one point more
+pub way-more : (a : Point) (points : List Point) (b last : Point)
     → edges_back a (points ++ (b ∷ [])) last ≡ edges_back a points b ++ (edge b last ∷ [])
 way-more a [] b last = refl
 way-more a (c ∷ points) b last = ap (λ t. edge a c ∷ t) (way-more c points b last)
@@ -126,18 +127,21 @@ same_answer edges loops e =
 
 -- ---- lists
 
-stands_first : {X : Type 0} (x : X) (xs ys : List X) → Stands x xs → Stands x (xs ++ ys)
+-- what stands in the first of two lists stands in both together
+pub stands_first : {X : Type 0} (x : X) (xs ys : List X) → Stands x xs → Stands x (xs ++ ys)
 stands_first x [] ys stands = absurd stands
 stands_first x (y ∷ xs) ys (inl same) = inl same
 stands_first x (y ∷ xs) ys (inr later) = inr (stands_first x xs ys later)
 
-stands_later : {X : Type 0} (x : X) (xs ys : List X) → Stands x ys → Stands x (xs ++ ys)
+-- so does what stands in the second
+pub stands_later : {X : Type 0} (x : X) (xs ys : List X) → Stands x ys → Stands x (xs ++ ys)
 stands_later x [] ys stands = stands
 stands_later x (y ∷ xs) ys stands = inr (stands_later x xs ys stands)
 
 -- ---- put on the left
 
-list_all_from : {X : Type 0} (test : X → Bool) (xs : List X)
+-- a test that each item passes
+pub list_all_from : {X : Type 0} (test : X → Bool) (xs : List X)
     → AllByRecursion (λ x. test x ≡ true) xs → list_all test xs ≡ true
 list_all_from test [] all = refl
 list_all_from test (x ∷ xs) all =

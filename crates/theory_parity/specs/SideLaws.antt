@@ -12,7 +12,8 @@ use Rattle.sb_fraction.specs.Edges.{Edge, span_of, is_within}
 use Rattle.sb_fraction.specs.Crossings.{ends_over}
 use Rattle.sb_fraction.specs.Lines.{flat, reaches_past}
 use Rattle.theory_plans.specs.LoopEdges.{edges_of_loop, edges_of}
-use Rattle.theory_plans.specs.Plans.{is_plan, is_solid_left_of, keep_left}
+use Rattle.theory_plans.specs.Loops.{are_loops}
+use Rattle.theory_plans.specs.Plans.{is_plan, are_apart, is_solid_left_of, keep_left}
 use Rattle.theory_parity.specs.Below.{IsWay, value_of, is_lower_at}
 use Rattle.theory_parity.specs.Sides.{AreBentApart, turned_edge, turned_loop, put_left}
 use Rattle.theory_parity.specs.Sides.{IsClosenessAt}
@@ -56,6 +57,12 @@ abbrev pub HasPutLeft : Type 0
 HasPutLeft =
     (loops : List (List Point)) → AreBentApart loops
     → keep_left (map (put_left (edges_of loops)) loops) ≡ true
+
+-- so normalised loops with edges that are apart are a plan once they are turned so
+abbrev pub HasPutLeftPlan : Type 0
+HasPutLeftPlan =
+    (loops : List (List Point)) → are_loops loops ≡ true → are_apart loops ≡ true
+    → is_plan (map (put_left (edges_of loops)) loops) ≡ true
 
 -- and loops that keep it there are left as they are
 abbrev pub HasPutLeftOnce : Type 0

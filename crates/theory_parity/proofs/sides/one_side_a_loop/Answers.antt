@@ -1,5 +1,6 @@
 -- The laws are their lemmas.
 use Rattle.theory_parity.proofs.OneSideALoop.{one_side_a_loop}
+use Rattle.theory_parity.proofs.TurnedIsPlan.{put_left_is_plan}
 use Rattle.theory_parity.proofs.TurnedLoops.{edges_of_turned, others_as_before, turned_among}
 use Rattle.theory_parity.proofs.TurnedLoops.{put_left_keeps_left, put_left_once}
 use Rattle.theory_parity.proofs.sides.one_side_a_loop.Goals as goal
@@ -25,6 +26,10 @@ returns-clause-turned g before points after are e stands =
 -- put on the left
 pub returns-clause-put_left : goal.returns-clause-put_left
 returns-clause-put_left g loops are = put_left_keeps_left loops are
+
+-- a plan
+pub returns-clause-plan : goal.returns-clause-plan
+returns-clause-plan g loops loops_are apart = put_left_is_plan loops loops_are apart
 
 -- once
 pub returns-clause-once : goal.returns-clause-once
