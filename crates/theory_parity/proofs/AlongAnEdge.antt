@@ -164,7 +164,7 @@ module _ (p q : Spot) (g : Edge) (p_is : IsSpot p) (q_is : IsSpot q) (clear : Is
 
 -- ---- two points of an edge
 
-way_by_ends : (e : Edge) (p q : Spot) (s : Arrow)
+pub way_by_ends : (e : Edge) (p q : Spot) (s : Arrow)
     → cross s (way_to p q)
     ≡ (q.w *ℤ cross s (seen_from p e.b)) -ℤ (p.w *ℤ cross s (seen_from q e.b))
 way_by_ends e p q s =

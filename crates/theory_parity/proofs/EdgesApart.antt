@@ -148,7 +148,7 @@ no_vector_dot r v none =
     ∙ equal (dot_by r (arrow (pos 0) (pos 0)) (var r.x) (var r.y) (num 0) (num 0)) (num 0)
     (omega arith)
 
-any_where : {X : Type 0} (test : X → Bool) (x : X) (xs : List X) → Stands x xs → test x ≡ true
+pub any_where : {X : Type 0} (test : X → Bool) (x : X) (xs : List X) → Stands x xs → test x ≡ true
     → list_any test xs ≡ true
 any_where test x [] stands holds = absurd stands
 any_where test x (y ∷ ys) (inl same) holds =

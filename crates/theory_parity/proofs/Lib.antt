@@ -35,5 +35,6 @@ pub mod Soon
 pub mod BesideAnEdge
 pub mod NearAnEdge
 pub mod SensesAlternate
+pub mod LeftIsInside
 mod Examples
 mod ExampleSides

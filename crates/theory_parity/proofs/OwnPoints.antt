@@ -219,7 +219,7 @@ seen_on_way k p l q a =
         (times (var l) (minus (times (var b) (var q.w)) (var y))))
         (omega arith)
 
-cross_on_way : (s : Arrow) (k : ℤ) (p : Spot) (l : ℤ) (q : Spot) (a : Point)
+pub cross_on_way : (s : Arrow) (k : ℤ) (p : Spot) (l : ℤ) (q : Spot) (a : Point)
     → cross s (seen_from (on_way k p l q) a)
     ≡ (k *ℤ cross s (seen_from p a)) +ℤ (l *ℤ cross s (seen_from q a))
 cross_on_way s k p l q a =
@@ -227,7 +227,7 @@ cross_on_way s k p l q a =
     ∙ cross-add s (scale k (seen_from p a)) (scale l (seen_from q a))
     ∙ ap₂ (λ t u. t +ℤ u) (cross-scale k s (seen_from p a)) (cross-scale l s (seen_from q a))
 
-dot_on_way : (s : Arrow) (k : ℤ) (p : Spot) (l : ℤ) (q : Spot) (a : Point)
+pub dot_on_way : (s : Arrow) (k : ℤ) (p : Spot) (l : ℤ) (q : Spot) (a : Point)
     → dot s (seen_from (on_way k p l q) a)
     ≡ (k *ℤ dot s (seen_from p a)) +ℤ (l *ℤ dot s (seen_from q a))
 dot_on_way s k p l q a =

@@ -127,7 +127,7 @@ beyond d u v a =
         (omega arith)
 
 -- a vector that is no multiple of a way is long
-long_across : (n v : Arrow) → pos 0 <ℤ dot n n → (cross n v ≡ pos 0 → ⊥) → pos 0 <ℤ dot v v
+pub long_across : (n v : Arrow) → pos 0 <ℤ dot n n → (cross n v ≡ pos 0 → ⊥) → pos 0 <ℤ dot v v
 long_across n v n_long apart =
     let whole = frame_dot n v v in
     let square = positive_square (cross n v) apart in

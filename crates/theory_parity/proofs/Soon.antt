@@ -78,7 +78,7 @@ soon_all P [] all = soon_always (λ t t_in t_up. tt)
 soon_all P (x ∷ xs) all = soon_both all.0 (soon_all P xs all.1)
 
 -- the number that lies as far from 0 as the form needs
-more_than_0 : (b : ℤ) → pos 0 <ℤ ((pos 1 +ℤ (b *ℤ b)) +ℤ b)
+pub more_than_0 : (b : ℤ) → pos 0 <ℤ ((pos 1 +ℤ (b *ℤ b)) +ℤ b)
 more_than_0 b = from (less_or_not b (pos 0))
   where
     from : (b <ℤ pos 0) ⊎ (pos 0 ≤ℤ b) → pos 0 <ℤ ((pos 1 +ℤ (b *ℤ b)) +ℤ b)

@@ -8,15 +8,16 @@ use Rattle.theory_numbers.specs.Rationals.{IsRational}
 use Rattle.theory_numbers.specs.Tests.{is_positive}
 use Rattle.sb_fraction.specs.declared.point.Point.{Point}
 use Rattle.sb_fraction.specs.Spots.{Spot, IsSpot}
-use Rattle.sb_fraction.specs.Edges.{Edge, span_of, is_within}
+use Rattle.sb_fraction.specs.Edges.{Edge, span_of, turn_at, is_within}
 use Rattle.sb_fraction.specs.Crossings.{ends_over}
 use Rattle.sb_fraction.specs.Lines.{flat, reaches_past}
 use Rattle.theory_plans.specs.LoopEdges.{edges_of_loop, edges_of}
+use Rattle.theory_plans.specs.Inside.{is_in_plan}
 use Rattle.theory_plans.specs.Loops.{are_loops}
 use Rattle.theory_plans.specs.Plans.{is_plan, are_apart, is_solid_left_of, keep_left}
 use Rattle.theory_parity.specs.Below.{IsWay, value_of, is_lower_at}
 use Rattle.theory_parity.specs.Sides.{AreBentApart, turned_edge, turned_loop, put_left}
-use Rattle.theory_parity.specs.Sides.{IsClosenessAt}
+use Rattle.theory_parity.specs.Sides.{IsFreeTo, IsClosenessAt}
 
 -- ---- one answer a loop
 
@@ -80,6 +81,16 @@ HasInsideOnTheLeft =
     → (e : Edge) → Stands e (edges_of loops)
     → (m : Spot) → IsSpot m → is_within m e ≡ true
     → (most : Arrow) × IsClosenessAt loops e m most
+
+-- a point lies inside the plan exactly where it lies left of an edge, if no edge passes between it
+-- and some point strictly inside this one
+abbrev pub HasInsideWhereLeft : Type 0
+HasInsideWhereLeft =
+    (loops : List (List Point)) → IsTrue (is_plan loops)
+    → (e : Edge) → Stands e (edges_of loops)
+    → (m : Spot) → IsSpot m → is_within m e ≡ true
+    → (p : Spot) → IsSpot p → IsFreeTo loops p m
+    → is_in_plan loops p ≡ is_positive (turn_at e p)
 
 -- ---- along a direction
 

@@ -1,16 +1,18 @@
 -- On which side of its edges the solid of loops lies, and loops turned round.
 
-use Rattle.std.specs.Prelude.{◌≡◌, pos, ◌+ℤ◌, ◌*ℤ◌, ◌<ℤ◌, Bool, true, false, List, [], ◌∷◌}
-use Rattle.std.specs.Prelude.{if◌then◌else◌, reverse}
-use Rattle.std.specs.List.{list_all}
+use Rattle.std.specs.Prelude.{◌≡◌, pos, ◌+ℤ◌, ◌*ℤ◌, ◌<ℤ◌, ◌≤ℤ◌, Bool, true, false, List, []}
+use Rattle.std.specs.Prelude.{◌∷◌, ℤ, if◌then◌else◌, reverse}
+use Rattle.std.specs.List.{list_all, list_any}
 use Rattle.theory_numbers.specs.Arrows.{Arrow, turned, mirror}
 use Rattle.theory_numbers.specs.Rationals.{IsRational, IsAtMost}
 use Rattle.sb_fraction.specs.declared.point.Point.{Point}
 use Rattle.sb_fraction.specs.Spots.{Spot, spot}
-use Rattle.sb_fraction.specs.Edges.{Edge, edge, span_of}
+use Rattle.sb_fraction.specs.Edges.{Edge, edge, span_of, is_on}
+use Rattle.theory_plans.specs.LoopEdges.{edges_of}
 use Rattle.theory_plans.specs.Inside.{is_in_plan}
 use Rattle.theory_plans.specs.Loops.{is_bent_loop}
 use Rattle.theory_plans.specs.Plans.{are_apart, is_solid_left_of}
+use Rattle.theory_parity.specs.Halves.{on_way}
 
 -- the loops are bent, and their edges apart: they are a plan but for their range, their first points
 -- and the side of the solid
@@ -40,6 +42,12 @@ abbrev pub put_left : List Edge → List Point → List Point
 put_left edges points = if is_left_at_first edges points then points else turned_loop points
 
 -- ---- points beside an edge
+
+-- on the way from p to m no edge passes, but for m itself
+abbrev pub IsFreeTo : List (List Point) → Spot → Spot → Type 0
+IsFreeTo loops p m =
+    (k l : ℤ) → pos 0 <ℤ k → pos 0 ≤ℤ l
+    → list_any (is_on (on_way k p l m)) (edges_of loops) ≡ false
 
 -- the point m + t·n
 abbrev pub aside : Arrow → Spot → Arrow → Spot
