@@ -1,10 +1,24 @@
--- What holds of a list that is put together from blocks: none, exactly one, each one, each two.
-use Rattle.std.proofs.Common.{◌≡◌, refl, Bool, true, false, List, [], ◌∷◌, ◌++◌}
+-- What holds of a list that is put together from blocks: what stands there, none, exactly one, each
+-- one, each two.
+use Rattle.std.proofs.Common.{◌≡◌, refl, inl, inr, Bool, true, false, List, [], ◌∷◌, ◌++◌}
 use Rattle.std.specs.Bool.{MatchBool}
 use Rattle.std.specs.List.{AllByRecursion, list_any}
 use Rattle.std.proofs.lemmas.Bool.{or_parts, or_from}
-use Rattle.theory_lists.specs.Members.{AllOfTwo}
+use Rattle.theory_lists.specs.Members.{Stands, AllOfTwo}
 use Rattle.theory_lists.specs.OneOf.{ExactlyOne}
+
+-- ---- what stands there
+
+-- what stands in the first block
+pub stands_before : {X : Type 0} (x : X) (xs ys : List X) → Stands x xs → Stands x (xs ++ ys)
+stands_before x [] ys stands = absurd stands
+stands_before x (y ∷ xs) ys (inl same) = inl same
+stands_before x (y ∷ xs) ys (inr later) = inr (stands_before x xs ys later)
+
+-- and in the second
+pub stands_behind : {X : Type 0} (x : X) (xs ys : List X) → Stands x ys → Stands x (xs ++ ys)
+stands_behind x [] ys stands = stands
+stands_behind x (y ∷ xs) ys stands = inr (stands_behind x xs ys stands)
 
 -- ---- any
 
@@ -15,6 +29,15 @@ none-append test [] ys left right = right
 none-append test (x ∷ xs) ys left right =
     let parts = or_parts (test x) (list_any test xs) left in
     or_from (test x) (list_any test (xs ++ ys)) parts.0 (none-append test xs ys parts.1 right)
+
+-- and none in the two, none in each
+pub none_in_parts : {X : Type 0} (test : X → Bool) (xs ys : List X)
+    → list_any test (xs ++ ys) ≡ false → (list_any test xs ≡ false) × (list_any test ys ≡ false)
+none_in_parts test [] ys none = (refl, none)
+none_in_parts test (x ∷ xs) ys none =
+    let parts = or_parts (test x) (list_any test (xs ++ ys)) none in
+    let rest = none_in_parts test xs ys parts.1 in
+    (or_from (test x) (list_any test xs) parts.0 rest.0, rest.1)
 
 -- none where each item fails the test
 pub none_where : {X : Type 0} (test : X → Bool) (xs : List X)
@@ -72,6 +95,13 @@ pub all-append : {X : Type 0} (P : X → Type 0) (xs ys : List X) → AllByRecur
 all-append P [] ys left right = right
 all-append P (x ∷ xs) ys left right = (left.0, all-append P xs ys left.1 right)
 
+-- what holds of each item of the two holds of each item of either
+pub all_in_parts : {X : Type 0} (P : X → Type 0) (xs ys : List X) → AllByRecursion P (xs ++ ys)
+    → AllByRecursion P xs × AllByRecursion P ys
+all_in_parts P [] ys all = (tt, all)
+all_in_parts P (x ∷ xs) ys all =
+    let rest = all_in_parts P xs ys all.1 in ((all.0, rest.0), rest.1)
+
 -- ---- each two
 
 -- each two of a block, and each one of the first with each one of the second
@@ -80,3 +110,13 @@ pub two-append : {X : Type 0} (R : X → X → Type 0) (xs ys : List X) → AllO
 two-append R [] ys left right across = right
 two-append R (x ∷ xs) ys left right across =
     (all-append (R x) xs ys left.0 across.0, two-append R xs ys left.1 right across.1)
+
+-- what holds of each two of the two blocks together holds of each two of either, and of each one of
+-- the first with each one of the second
+pub two_in_parts : {X : Type 0} (R : X → X → Type 0) (xs ys : List X) → AllOfTwo R (xs ++ ys)
+    → (AllOfTwo R xs × AllOfTwo R ys) × AllByRecursion (λ x. AllByRecursion (R x) ys) xs
+two_in_parts R [] ys two = ((tt, two), tt)
+two_in_parts R (x ∷ xs) ys two =
+    let first = all_in_parts (R x) xs ys two.0 in
+    let rest = two_in_parts R xs ys two.1 in
+    (((first.0, rest.0.0), rest.0.1), (first.1, rest.1))

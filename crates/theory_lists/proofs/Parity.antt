@@ -1,12 +1,17 @@
 -- Exclusive or, and the parity of how often a test answers true in a list.
-use Rattle.std.proofs.Common.{◌≡◌, refl, sym, ap, ap₂, ◌∙◌, Bool, true, false, not}
+use Rattle.std.proofs.Common.{◌≡◌, refl, sym, ap, ap₂, ◌∙◌}
+use Rattle.std.proofs.Common.{Bool, true, false, not, ◌||◌}
 use Rattle.std.proofs.Common.{List, [], ◌∷◌, ◌++◌, map}
 use Rattle.std.proofs.Common.{ℕ, zero, suc, ◌+◌, cond, count_by, IsPermutation, one-add, zero-add}
-use Rattle.std.proofs.lemmas.Bool.{or_parts}
+use Rattle.std.proofs.lemmas.Bool.{or_parts, false≢true, false_from_ne_true}
 use Rattle.std.proofs.lemmas.List.Sums.{sum_by-cons}
 use Rattle.std.proofs.lemmas.List.Sorted.{sum_by-IsPermutation}
+use Rattle.std.specs.Bool.{MatchBool}
 use Rattle.std.specs.List.{AllByRecursion, list_any}
+use Rattle.theory_lists.specs.OneOf.{ExactlyOne, AtMostOne}
 use Rattle.theory_lists.specs.Parity.{differ, is_odd_number}
+use Rattle.theory_lists.proofs.Blocks.{none_where}
+use Rattle.theory_lists.proofs.Members.{all_follow}
 
 -- ---- exclusive or
 
@@ -75,6 +80,11 @@ differ-differ false b false d = refl
 
 -- ---- the fold of exclusive or over a list
 
+one_and_rest : {P Q : Type 0} (b rest : Bool) → (P → rest ≡ false) → (Q → rest ≡ true)
+    → MatchBool b P Q → differ b rest ≡ true
+one_and_rest true rest here there one = ap not (here one)
+one_and_rest false rest here there one = there one
+
 module _ {X : Type 0} where
   -- over two lists joined it is the exclusive or of the two
   pub is_odd_number-append : (test : X → Bool) (xs ys : List X)
@@ -112,6 +122,32 @@ module _ {X : Type 0} where
   is_odd_number-differ f g (x ∷ xs) =
       ap (differ (differ (f x) (g x))) (is_odd_number-differ f g xs)
       ∙ differ-differ (f x) (g x) (is_odd_number f xs) (is_odd_number g xs)
+
+  -- exactly one place is an odd number of places
+  pub one_is_odd : (test : X → Bool) (xs : List X) → ExactlyOne test xs
+      → is_odd_number test xs ≡ true
+  one_is_odd test [] one = absurd one
+  one_is_odd test (x ∷ xs) one =
+      one_and_rest (test x) (is_odd_number test xs) (is_odd_number-none test xs)
+      (one_is_odd test xs) one
+
+  -- so is at most one, where some place passes
+  pub odd_if_alone : (test : X → Bool) (xs : List X) → AtMostOne test xs
+      → list_any test xs ≡ true → is_odd_number test xs ≡ true
+  odd_if_alone test [] once some = absurd (false≢true some)
+  odd_if_alone test (x ∷ xs) once some = by (test x) refl (odd_if_alone test xs once.1)
+    where
+      by : (b : Bool) → test x ≡ b → (list_any test xs ≡ true → is_odd_number test xs ≡ true)
+          → is_odd_number test (x ∷ xs) ≡ true
+      by true passes rest =
+          ap (λ b. differ b (is_odd_number test xs)) passes
+          ∙ ap not
+          (is_odd_number-none test xs
+          (none_where test xs
+          (all_follow (λ y known. false_from_ne_true (test y) (known passes)) xs once.0)))
+      by false fails rest =
+          ap (λ b. differ b (is_odd_number test xs)) fails
+          ∙ rest (sym (ap (λ b. b || list_any test xs) fails) ∙ some)
 
 -- of a list that is mapped it is that of the composed test
 pub is_odd_number-map : {X Y : Type 0} (test : Y → Bool) (f : X → Y) (xs : List X)

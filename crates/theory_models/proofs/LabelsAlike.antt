@@ -19,8 +19,9 @@ use Rattle.sb_fraction.specs.Edges.{Edge}
 use Rattle.sb_fraction.specs.Directions.{axis_x, direction_of}
 use Rattle.sb_fraction.specs.Crossings.{ends_over, cross_over, cross_at, meeting_of, abscissa_at}
 use Rattle.theory_plans.specs.Alike.{scaled, AreAlike, SeesNoFactor}
-use Rattle.theory_plans.proofs.PointsAlike.{same_of_alike, order_of_multiples, zero_of_multiple}
-use Rattle.theory_plans.proofs.PointsAlike.{equality_of_multiples, on_sees_no_factor}
+use Rattle.theory_numbers.proofs.Multiples.{order_of_multiples, zero_of_multiple}
+use Rattle.theory_numbers.proofs.Multiples.{equality_of_multiples}
+use Rattle.theory_plans.proofs.PointsAlike.{same_of_alike, on_sees_no_factor}
 use Rattle.theory_plans.proofs.PointsAlike.{inside_sees_no_factor}
 use Rattle.sb_model.specs.declared.face.FaceKind.{FaceKind}
 use Rattle.sb_model.specs.declared.face.FaceKind.TheVariants as kind

@@ -11,7 +11,7 @@ use Rattle.std.proofs.lemmas.Bool.{false≢true, eq-eqb, leb-true, leb-false}
 use Rattle.std.proofs.lemmas.Option.{none-some}
 use Rattle.theory_lists.specs.Members.{Stands, AllOfTwo}
 use Rattle.theory_lists.proofs.Members.{all_follow, all_images, one_or_two}
-use Rattle.theory_lists.proofs.Blocks.{all-append, two-append}
+use Rattle.theory_lists.proofs.Blocks.{stands_before, stands_behind, all-append, two-append}
 use Rattle.sb_model.specs.declared.products.Space.{Space}
 use Rattle.sb_model.specs.declared.products.Element.{Element}
 use Rattle.sb_model.specs.declared.products.Opening.{Opening}
@@ -279,15 +279,6 @@ stands_in_order x [] stands = absurd stands
 stands_in_order x (p ∷ ps) (inl same) = stands_placed x p (in_order ps) (inl same)
 stands_in_order x (p ∷ ps) (inr later) =
     stands_placed x p (in_order ps) (inr (stands_in_order x ps later))
-
-stands_before : {X : Type 0} (x : X) (xs ys : List X) → Stands x xs → Stands x (xs ++ ys)
-stands_before x [] ys stands = absurd stands
-stands_before x (y ∷ xs) ys (inl same) = inl same
-stands_before x (y ∷ xs) ys (inr later) = inr (stands_before x xs ys later)
-
-stands_behind : {X : Type 0} (x : X) (xs ys : List X) → Stands x ys → Stands x (xs ++ ys)
-stands_behind x [] ys stands = stands
-stands_behind x (y ∷ xs) ys stands = inr (stands_behind x xs ys stands)
 
 stands_made : {X Y : Type 0} (f : X → Y) (x : X) (xs : List X) → Stands x xs
     → Stands (f x) (map f xs)

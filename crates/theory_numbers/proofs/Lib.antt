@@ -8,10 +8,14 @@ pub mod Ring
 pub mod Signs
 -- signs of products; scaling an inequality
 pub mod Products
+-- tests of numbers and of their positive multiples
+pub mod Multiples
 -- cross and inner products of sums, multiples and mirror images
 pub mod Arrows
 -- three terms, cycle, the frame of a direction
 pub mod ThreeTerms
+-- the length of a vector; vectors on one line
+pub mod Lengths
 -- signs as Boolean variables
 pub mod SignTables
 -- order, mediant, a form between two numbers, its one zero

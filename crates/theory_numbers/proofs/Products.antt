@@ -135,6 +135,15 @@ zero_factor a b apart product = from (zero_product a b product)
     from (inl zero) = absurd (apart zero)
     from (inr zero) = zero
 
+-- a square at most 0 is that of 0
+pub square_of_zero : (a : ℤ) → (a *ℤ a) ≤ℤ pos 0 → a ≡ pos 0
+square_of_zero a low =
+    let weak = weak_square a in from (zero_product a a (omega (arith, ints)))
+  where
+    from : (a ≡ pos 0) ⊎ (a ≡ pos 0) → a ≡ pos 0
+    from (inl zero) = zero
+    from (inr zero) = zero
+
 -- ---- an inequality is multiplied by a factor, and freed of one
 
 -- a strict inequality, by a factor above 0

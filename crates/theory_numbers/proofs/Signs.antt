@@ -1,6 +1,6 @@
 -- What a test of order tells, how a fact answers a test, and cases on a sign.
 use Rattle.std.proofs.Common.{◌≡◌, refl, ◌⊎◌, Bool, true, false, ◌↔◌, inl, inr, sym, arith, ℤ, pos}
-use Rattle.std.proofs.Common.{◌<ℤ◌, ◌≤ℤ◌, ◌-ℤ◌, int_lt, int_le}
+use Rattle.std.proofs.Common.{◌<ℤ◌, ◌≤ℤ◌, ◌-ℤ◌, int_lt, int_le, not}
 use Rattle.std.proofs.lemmas.Int.{ints, by_lt_z}
 
 -- ---- a test answers true or false by the facts
@@ -82,6 +82,18 @@ equal_or_not a b =
     by_lt_z a b (λ less. inr (λ answer. omega (arith, ints)))
     (λ low.
     by_lt_z b a (λ more. inr (λ answer. omega (arith, ints))) (λ high. inl (omega (arith, ints))))
+
+-- a number other than 0 is above 0 exactly where it is not below
+pub opposite_tests : (n : ℤ) → (n ≡ pos 0 → ⊥) → int_lt (pos 0) n ≡ not (int_lt n (pos 0))
+opposite_tests n apart = from (sign_cases n)
+  where
+    from : ((pos 0 <ℤ n) ⊎ (n ≡ pos 0)) ⊎ (n <ℤ pos 0)
+        → int_lt (pos 0) n ≡ not (int_lt n (pos 0))
+    from (inl (inl above)) =
+        rw (test_less (pos 0) n above, test_not_less n (pos 0) (omega (arith, ints))) refl
+    from (inl (inr zero)) = absurd (apart zero)
+    from (inr below) =
+        rw (test_less n (pos 0) below, test_not_less (pos 0) n (omega (arith, ints))) refl
 
 -- ---- order of differences
 

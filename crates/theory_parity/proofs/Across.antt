@@ -28,7 +28,7 @@ use Rattle.sb_fraction.specs.Spots.{Spot, IsSpot}
 use Rattle.sb_fraction.specs.Edges.{Edge, seen_from, turn_at, reach_at, is_on}
 use Rattle.theory_plans.specs.Rays.{is_left_of, is_struck}
 use Rattle.theory_parity.specs.Halves.{height_over, left_half}
-use Rattle.theory_parity.proofs.AnyRay.{opposed}
+use Rattle.theory_numbers.proofs.Lengths.{opposed}
 use Rattle.theory_parity.proofs.Heights.{turn_by_height}
 use Rattle.theory_parity.proofs.StayNear.{HasSignOf}
 

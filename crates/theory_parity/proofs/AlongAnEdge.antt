@@ -12,21 +12,22 @@ use Rattle.theory_numbers.specs.Tests.{is_positive}
 use Rattle.theory_numbers.specs.Arrows.{Arrow, cross, dot, opposite}
 use Rattle.theory_numbers.proofs.Arrows.{opposite-cross, opposite-dot, dot_comm}
 use Rattle.theory_numbers.proofs.Shapes.{var, minus, negated, times, equal, cross_by, dot_by}
-use Rattle.theory_numbers.proofs.Shapes.{dot_eq}
-use Rattle.theory_numbers.proofs.Products.{zero_product, weak_square, zero_of_positive}
 use Rattle.theory_numbers.proofs.Ring.{mul_comm, mul-zero, zero-mul}
 use Rattle.theory_numbers.proofs.Signs.{sign_cases}
 use Rattle.theory_numbers.proofs.SignTables.{hit_of}
 use Rattle.theory_numbers.proofs.ThreeTerms.{frame_cross, frame_dot}
+use Rattle.theory_lists.proofs.Members.{all_that_stand}
+use Rattle.theory_numbers.proofs.Multiples.{sign_of_multiple}
+use Rattle.theory_numbers.proofs.Lengths.{no_length}
+use Rattle.theory_numbers.proofs.Products.{weak_negative_factor}
 use Rattle.sb_fraction.specs.declared.point.Point.{Point}
-use Rattle.sb_fraction.specs.Spots.{Spot, spot, IsSpot}
+use Rattle.sb_fraction.specs.Spots.{Spot, IsSpot}
 use Rattle.sb_fraction.specs.Edges.{Edge, span_of, seen_from, turn_at, is_on}
 use Rattle.theory_plans.specs.LoopEdges.{edges_of}
 use Rattle.theory_plans.specs.Rays.{is_struck}
-use Rattle.theory_plans.proofs.PointsAlike.{sign_of_multiple, same_of_alike, struck_sees_no_factor}
+use Rattle.theory_plans.proofs.PointsAlike.{same_of_alike, struck_sees_no_factor}
 use Rattle.theory_parity.specs.Halves.{on_way}
-use Rattle.theory_parity.proofs.EachMember.{all_from_each}
-use Rattle.theory_parity.proofs.Moves.{IsClearOf, way_to, flat_spot, same_ray}
+use Rattle.theory_parity.proofs.Moves.{IsClearOf, way_to, flat_spot, same_flat, same_ray}
 use Rattle.theory_parity.proofs.OwnPoints.{IsOwn, IsLong, level_along, on_along}
 use Rattle.theory_parity.proofs.OwnPoints.{along_between, past_between, before_between}
 use Rattle.theory_parity.proofs.RaysAnywhere.{none_from_line}
@@ -78,12 +79,6 @@ way_back_level p q r =
     (minus (times (var q.y) (var p.w)) (times (var p.y) (var q.w)))))
     (omega arith)
 
-same_flat : {x y w x' y' w' : ℤ} → x ≡ x' → y ≡ y' → w ≡ w'
-    → spot x y (pos 0) w ≡ spot x' y' (pos 0) w'
-same_flat {x} {y} {w} {x'} {y'} {w'} ex ey ew =
-    ap (λ t. spot t y (pos 0) w) ex ∙ ap (λ t. spot x' t (pos 0) w) ey
-    ∙ ap (λ t. spot x' y' (pos 0) t) ew
-
 on_way_back : (m : ℤ) (p : Spot) (n : ℤ) (q : Spot) → on_way m q n p ≡ on_way n p m q
 on_way_back m p n q =
     same_flat (swapped (m *ℤ q.x) (n *ℤ p.x)) (swapped (m *ℤ q.y) (n *ℤ p.y))
@@ -91,20 +86,6 @@ on_way_back m p n q =
   where
     swapped : (a b : ℤ) → a +ℤ b ≡ b +ℤ a
     swapped a b = omega (arith, ints)
-
-no_vector : (w : Arrow) → dot w w ≡ pos 0 → (w.x ≡ pos 0) × (w.y ≡ pos 0)
-no_vector w none =
-    let whole = dot_eq w w in
-    let x = weak_square w.x in
-    let y = weak_square w.y in
-    (root w.x (omega (arith, ints)), root w.y (omega (arith, ints)))
-  where
-    root : (z : ℤ) → z *ℤ z ≡ pos 0 → z ≡ pos 0
-    root z zero = by (zero_product z z zero)
-      where
-        by : (z ≡ pos 0) ⊎ (z ≡ pos 0) → z ≡ pos 0
-        by (inl is) = is
-        by (inr is) = is
 
 module _ (p q : Spot) (g : Edge) (p_is : IsSpot p) (q_is : IsSpot q) (clear : IsClearOf p q g)
     (r : Arrow) (r_long : pos 0 <ℤ dot r r) (level : cross r (way_to p q) ≡ pos 0) where
@@ -129,8 +110,8 @@ module _ (p q : Spot) (g : Edge) (p_is : IsSpot p) (q_is : IsSpot q) (clear : Is
     where
       zero : ((way_to p q).x ≡ pos 0) × ((way_to p q).y ≡ pos 0)
       zero =
-          no_vector (way_to p q)
-          (zero_of_positive (dot r r) (dot (way_to p q) (way_to p q)) r_long
+          no_length (way_to p q)
+          (weak_negative_factor (dot r r) (dot (way_to p q) (way_to p q)) r_long
           (let frame = frame_dot r (way_to p q) (way_to p q) in
           let one : dot r (way_to p q) *ℤ dot r (way_to p q) ≡ pos 0 =
           ap (λ t. t *ℤ dot r (way_to p q)) none ∙ zero-mul (dot r (way_to p q)) in
@@ -239,6 +220,6 @@ module _ (loops : List (List Point)) (e : Edge) (long : IsLong e)
   along_an_edge =
       odd_where_same (is_struck (opposite (span_of e)) p) (is_struck (opposite (span_of e)) q)
       (edges_of loops)
-      (all_from_each
+      (all_that_stand
       (λ g. is_struck (opposite (span_of e)) p g ≡ is_struck (opposite (span_of e)) q g)
       (edges_of loops) (λ g stands. one_edge g stands (is_on p g) refl))

@@ -1,24 +1,24 @@
 -- From a point on no edge of closed loops all rays strike an odd number of edges, or all an even one.
 
-use Rattle.std.proofs.Common.{◌≡◌, refl, sym, ap, ◌∙◌, ◌⊎◌, inl, inr, arith, ℤ, pos, neg_ℤ}
+use Rattle.std.proofs.Common.{◌≡◌, refl, sym, ap, ◌∙◌, ◌⊎◌, inl, inr, arith, pos, neg_ℤ}
 use Rattle.std.proofs.Common.{◌<ℤ◌, ◌≤ℤ◌, ◌*ℤ◌}
-use Rattle.std.proofs.Common.{Bool, true, false, not, ◌&&◌, int_lt, int_le, List}
+use Rattle.std.proofs.Common.{Bool, false, not, ◌&&◌, int_lt, int_le, List}
 use Rattle.std.specs.Ordering.{int_eq}
 use Rattle.std.specs.List.{list_any}
 use Rattle.std.proofs.lemmas.Int.{ints}
 use Rattle.std.proofs.lemmas.Bool.{and_from, false≢true}
 use Rattle.std.proofs.lemmas.Bool.Decides.{Decides-int_eq}
 use Rattle.theory_lists.specs.Parity.{differ, is_odd_number}
-use Rattle.theory_numbers.specs.Tests.{is_positive}
 use Rattle.theory_numbers.specs.Arrows.{Arrow, cross, dot, turned}
-use Rattle.theory_numbers.proofs.Arrows.{cross-turn, dot_comm}
-use Rattle.theory_numbers.proofs.Shapes.{var, negated, equal, cross_by, dot_is, dot_eq}
-use Rattle.theory_numbers.proofs.Signs.{less_from, not_less_from, test_less, test_not_less}
+use Rattle.theory_numbers.proofs.Arrows.{cross-turn}
+use Rattle.theory_numbers.proofs.Shapes.{var, negated, equal, cross_by, dot_is}
+use Rattle.theory_numbers.proofs.Signs.{opposite_tests}
+use Rattle.theory_numbers.proofs.Signs.{test_not_less}
 use Rattle.theory_numbers.proofs.Signs.{test_at_most, sign_cases}
-use Rattle.theory_numbers.proofs.Products.{weak_factor, weak_negative_factor, weak_square}
-use Rattle.theory_numbers.proofs.Products.{weak_negative_product, positive_product}
-use Rattle.theory_numbers.proofs.Ring.{mul_comm, neg-mul, zero-mul}
-use Rattle.theory_numbers.proofs.ThreeTerms.{three_terms, cycle, frame_dot}
+use Rattle.theory_numbers.proofs.Products.{weak_factor, weak_negative_factor}
+use Rattle.theory_numbers.proofs.Products.{positive_product}
+use Rattle.theory_numbers.proofs.Lengths.{opposed}
+use Rattle.theory_numbers.proofs.ThreeTerms.{three_terms, frame_dot}
 use Rattle.theory_numbers.proofs.SignTables.{alike_up, apart_down, turn_table}
 use Rattle.sb_fraction.specs.declared.point.Point.{Point}
 use Rattle.sb_fraction.specs.Spots.{Spot}
@@ -38,57 +38,6 @@ off_edge p e off level near =
     (sym off
     ∙ and_from (int_eq (turn_at e p) (pos 0)) (int_le (reach_at e p) (pos 0))
     ((Decides-int_eq (turn_at e p) (pos 0)).1 level) (test_at_most (reach_at e p) (pos 0) near))
-
--- the square of a vector is at least 0
-pub weak_length : (a : Arrow) → pos 0 ≤ℤ dot a a
-weak_length a =
-    let x = weak_square a.x in
-    let y = weak_square a.y in
-    let spread = dot_eq a a in
-    omega (arith, ints)
-
-opposed_left : (r a b : Arrow) → pos 0 <ℤ cross r a → cross r b ≤ℤ pos 0 → cross a b ≡ pos 0
-    → dot a b ≤ℤ pos 0
-opposed_left r a b left right level =
-    let round = cycle r a b a in
-    let low = weak_negative_product (dot a a) (cross r b) (weak_length a) right in
-    let none : cross a b *ℤ dot r a ≡ pos 0 =
-    ap (λ n. n *ℤ dot r a) level ∙ zero-mul (dot r a) in
-    let turn : cross b r *ℤ dot a a ≡ neg_ℤ (cross r b *ℤ dot a a) =
-    ap (λ n. n *ℤ dot a a) (cross-turn r b) ∙ neg-mul (cross r b) (dot a a) in
-    let swap = mul_comm (dot a a) (cross r b) in
-    let same : cross r a *ℤ dot b a ≡ cross r a *ℤ dot a b =
-    ap (λ n. cross r a *ℤ n) (dot_comm b a) in
-    weak_negative_factor (cross r a) (dot a b) left (omega (arith, ints))
-
--- two vectors on one line through the origin, on different sides of a ray or one of them on its
--- line, point in opposite directions, or one is 0
-pub opposed : (r a b : Arrow) (s t : Bool) → is_positive (cross r a) ≡ s
-    → is_positive (cross r b) ≡ t → s ≡ not t → cross a b ≡ pos 0 → dot a b ≤ℤ pos 0
-opposed r a b true false a_bit b_bit relation level =
-    opposed_left r a b (less_from (pos 0) (cross r a) a_bit)
-    (not_less_from (pos 0) (cross r b) b_bit) level
-opposed r a b false true a_bit b_bit relation level =
-    let turn = cross-turn a b in
-    let same = dot_comm a b in
-    let swapped =
-    opposed_left r b a (less_from (pos 0) (cross r b) b_bit)
-    (not_less_from (pos 0) (cross r a) a_bit) (omega (arith, ints))
-    in
-    omega (arith, ints)
-opposed r a b true true a_bit b_bit relation level = cc
-opposed r a b false false a_bit b_bit relation level = cc
-
-opposite_tests : (n : ℤ) → (n ≡ pos 0 → ⊥) → int_lt (pos 0) n ≡ not (int_lt n (pos 0))
-opposite_tests n apart = from (sign_cases n)
-  where
-    from : ((pos 0 <ℤ n) ⊎ (n ≡ pos 0)) ⊎ (n <ℤ pos 0)
-        → int_lt (pos 0) n ≡ not (int_lt n (pos 0))
-    from (inl (inl above)) =
-        rw (test_less (pos 0) n above, test_not_less n (pos 0) (omega (arith, ints))) refl
-    from (inl (inr zero)) = absurd (apart zero)
-    from (inr below) =
-        rw (test_less n (pos 0) below, test_not_less (pos 0) n (omega (arith, ints))) refl
 
 -- where a ray has one end of an edge on its left and the other not, a point off the edge lies
 -- strictly on one side of it

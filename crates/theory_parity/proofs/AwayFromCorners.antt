@@ -7,21 +7,19 @@ use Rattle.std.proofs.Common.{List, [], ◌∷◌, ◌++◌, map}
 use Rattle.std.specs.List.{AllByRecursion}
 use Rattle.std.proofs.lemmas.Int.{ints}
 use Rattle.theory_lists.proofs.Members.{all_follow, all_both, all_of_images, all_images}
-use Rattle.theory_lists.proofs.Blocks.{all-append}
-use Rattle.theory_numbers.specs.Arrows.{Arrow, cross, dot}
+use Rattle.theory_lists.proofs.Blocks.{all-append, all_in_parts}
+use Rattle.theory_numbers.specs.Arrows.{Arrow, dot}
 use Rattle.theory_numbers.specs.Rationals.{IsForm}
 use Rattle.theory_numbers.proofs.Shapes.{var, num, plus, minus, negated, times, equal}
 use Rattle.theory_numbers.proofs.Shapes.{dot_by}
-use Rattle.theory_numbers.proofs.Products.{weak_square}
-use Rattle.theory_numbers.proofs.Products.{positive_factor, positive_square}
 use Rattle.theory_numbers.proofs.Ring.{mul-zero}
-use Rattle.theory_numbers.proofs.ThreeTerms.{frame_dot}
+use Rattle.theory_numbers.proofs.Lengths.{long_from}
 use Rattle.sb_fraction.specs.declared.point.Point.{Point}
 use Rattle.sb_fraction.specs.Spots.{Spot, spot_at}
 use Rattle.sb_fraction.specs.Edges.{Edge, seen_from}
 use Rattle.theory_parity.specs.Halves.{Half, half, height_over, is_in_all, on_way}
 use Rattle.theory_parity.proofs.StayNear.{HasSignOf, IsNear, form_on, stay_near, still_in_all}
-use Rattle.theory_parity.proofs.StayNear.{all_parts, in_all_are_forms}
+use Rattle.theory_parity.proofs.StayNear.{in_all_are_forms}
 use Rattle.theory_parity.proofs.NoEdgeInside.{IsNoEnd}
 
 -- the line through a plan point at right angles to d
@@ -39,14 +37,6 @@ height_upright d c p =
     (dot_by d (seen_from p c) (var d.x) (var d.y)
     (minus (times (var c.x) (var p.w)) (var p.x)) (minus (times (var c.y) (var p.w)) (var p.y))))
     (omega arith)
-
--- a vector with a product that is not 0 is long
-pub long_from : (d s : Arrow) → (dot d s ≡ pos 0 → ⊥) → pos 0 <ℤ dot d d → pos 0 <ℤ dot s s
-long_from d s apart d_long =
-    let whole = frame_dot d s s in
-    let square = positive_square (dot d s) apart in
-    let other = weak_square (cross d s) in
-    positive_factor (dot d d) (dot s s) d_long (omega (arith, ints))
 
 -- the heights at t and at the plan point o differ where the way between them is not at right angles
 heights_differ : (d : Arrow) (c o : Point) (t : Spot)
@@ -131,8 +121,8 @@ module _ (d : Arrow) (t : Spot) (o : Point) (halves : List Half) (es : List Edge
           → (s : Arrow) × IsOffCorners t o halves es s
       from (s, near) =
           let m = on_way s.x t s.y (spot_at o) in
-          let parts = all_parts (Has m) halves (map at_a es ++ map at_b es) near.signs in
-          let ends = all_parts (Has m) (map at_a es) (map at_b es) parts.1 in (
+          let parts = all_in_parts (Has m) halves (map at_a es ++ map at_b es) near.signs in
+          let ends = all_in_parts (Has m) (map at_a es) (map at_b es) parts.1 in (
             s,
             record {
               rational = near.rational;

@@ -2,16 +2,15 @@
 -- lesser value.
 
 use Rattle.std.proofs.Common.{◌≡◌, ap, ap₂, ◌∙◌, arith, ℤ, pos, ◌<ℤ◌, ◌+ℤ◌, ◌-ℤ◌, ◌*ℤ◌}
-use Rattle.std.proofs.Common.{◌&&◌}
-use Rattle.std.proofs.lemmas.Int.{ints}
+use Rattle.std.proofs.Common.{◌&&◌, int_lt}
 use Rattle.theory_lists.specs.Parity.{differ}
 use Rattle.theory_numbers.specs.Arrows.{Arrow, arrow, cross, dot}
 use Rattle.theory_numbers.specs.Rationals.{IsRational, is_below, rational}
 use Rattle.theory_numbers.proofs.Shapes.{var, plus, minus, times, equal, cross_by, dot_by, dot_is}
-use Rattle.theory_numbers.proofs.Shapes.{cross_is}
-use Rattle.theory_numbers.proofs.Signs.{less_from, test_less, same_less, same_tests}
-use Rattle.theory_numbers.proofs.Products.{positive_product, positive_factor, scale_less}
-use Rattle.theory_numbers.proofs.Products.{unscale_less}
+use Rattle.theory_numbers.proofs.Signs.{less_from, test_less, same_tests}
+use Rattle.theory_numbers.proofs.Arrows.{scale-cross}
+use Rattle.theory_numbers.proofs.Multiples.{sign_of_multiple, order_of_multiples}
+use Rattle.theory_numbers.proofs.Products.{positive_product}
 use Rattle.theory_numbers.proofs.Ring.{mul_comm}
 use Rattle.theory_plane.specs.Sides.{LineSide, value_on}
 use Rattle.theory_plane.specs.Points.{FacePoint, face_point, point_at, abscissa_of, ordinate_of}
@@ -82,28 +81,13 @@ spot_in_is d u v d_is u_in v_in =
 after_scaled : (k : ℤ) (u t : Arrow) → pos 0 <ℤ k
     → is_below (arrow (k *ℤ u.x) (k *ℤ u.y)) t ≡ is_below u t
 after_scaled k u t above =
-    same_less (pos 0) (cross (arrow (k *ℤ u.x) (k *ℤ u.y)) t) (pos 0) (cross u t)
-    (λ less. positive_factor k (cross u t) above (omega (arith, ints, out)))
-    (λ less. omega (arith, ints, out, positive_product k (cross u t) above less))
-  where
-    out : cross (arrow (k *ℤ u.x) (k *ℤ u.y)) t ≡ k *ℤ cross u t
-    out =
-        equal
-        (cross_by (arrow (k *ℤ u.x) (k *ℤ u.y)) t (times (var k) (var u.x))
-        (times (var k) (var u.y)) (var t.x) (var t.y))
-        (times (var k) (cross_is u t)) (omega arith)
+    ap (int_lt (pos 0)) (scale-cross k u t) ∙ sign_of_multiple k (cross u t) above
 
 above_scaled : (k : ℤ) (l : LineSide) (f : FacePoint) → pos 0 <ℤ k
     → is_above_side l (scaled_point k f) ≡ is_above_side l f
 above_scaled k l f above =
-    same_less (l.off *ℤ (k *ℤ f.w)) ((l.dx *ℤ (k *ℤ f.v)) -ℤ (l.dy *ℤ (k *ℤ f.u)))
-    (l.off *ℤ f.w) ((l.dx *ℤ f.v) -ℤ (l.dy *ℤ f.u))
-    (λ less.
-    unscale_less k (l.off *ℤ f.w) ((l.dx *ℤ f.v) -ℤ (l.dy *ℤ f.u)) (omega (arith, ints))
-    (omega (arith, ints, low, high)))
-    (λ less.
-    let more = scale_less k (l.off *ℤ f.w) ((l.dx *ℤ f.v) -ℤ (l.dy *ℤ f.u)) above less in
-    omega (arith, ints, low, high))
+    ap₂ int_lt low high
+    ∙ order_of_multiples k (l.off *ℤ f.w) ((l.dx *ℤ f.v) -ℤ (l.dy *ℤ f.u)) above
   where
     low : l.off *ℤ (k *ℤ f.w) ≡ k *ℤ (l.off *ℤ f.w)
     low =

@@ -1,9 +1,7 @@
 -- Across the only edge through a point of a line u = constant the parity of the edges below flips.
 
 use Rattle.std.proofs.Common.{◌≡◌, refl, sym, ap, ap₂, ◌∙◌, ◌⊎◌, inl, inr, arith, pos, neg_ℤ}
-use Rattle.std.proofs.Common.{◌<ℤ◌, ◌-ℤ◌, Bool, true, false, not, List}
-use Rattle.std.proofs.Common.{[], ◌∷◌}
-use Rattle.std.specs.Bool.{MatchBool}
+use Rattle.std.proofs.Common.{◌<ℤ◌, ◌-ℤ◌, Bool, true, false, List}
 use Rattle.std.specs.Ordering.{int_eq}
 use Rattle.std.specs.List.{AllByRecursion}
 use Rattle.std.proofs.lemmas.Int.{ints}
@@ -12,10 +10,10 @@ use Rattle.std.proofs.lemmas.Bool.Decides.{Decides-int_eq}
 use Rattle.theory_lists.specs.OneOf.{ExactlyOne}
 use Rattle.theory_lists.specs.Parity.{differ, is_odd_number}
 use Rattle.theory_lists.proofs.Members.{all_follow}
-use Rattle.theory_lists.proofs.Parity.{differ-self, is_odd_number-none, is_odd_number-same}
-use Rattle.theory_lists.proofs.Parity.{is_odd_number-differ, odd_where_same}
+use Rattle.theory_lists.proofs.Parity.{differ-self, is_odd_number-same}
+use Rattle.theory_lists.proofs.Parity.{is_odd_number-differ, odd_where_same, one_is_odd}
 use Rattle.theory_numbers.specs.Arrows.{Arrow, cross, dot, opposite}
-use Rattle.theory_numbers.specs.Rationals.{IsRational, IsBelow, IsAtMost, IsSame, is_below, rational}
+use Rattle.theory_numbers.specs.Rationals.{IsRational, IsBelow, IsSame, is_below, rational}
 use Rattle.theory_numbers.proofs.Arrows.{cross-turn}
 use Rattle.theory_numbers.proofs.Rationals.{below_trans, below_at_most_trans, at_most_below_trans}
 use Rattle.theory_numbers.proofs.Shapes.{var, plus, minus, negated, times, equal, dot_by}
@@ -26,6 +24,7 @@ use Rattle.sb_fraction.specs.Edges.{Edge, span_of}
 use Rattle.sb_fraction.specs.Crossings.{abscissa_at}
 use Rattle.sb_fraction.specs.Lines.{flat, span_along, line_over, reaches_past}
 use Rattle.theory_parity.specs.Below.{IsWay, is_below_at, spot_in, value_of, is_lower_at, is_through}
+use Rattle.theory_parity.specs.Below.{IsFree}
 use Rattle.theory_parity.proofs.BelowByValue.{below_by_value}
 
 -- ---- an edge that reaches past u has a value there
@@ -70,10 +69,6 @@ reaching_is_line d u e reaches = from (sign_cases (dot d (span_of e)))
         (omega (arith, ints, opposite_span d (span_of e), against))
 
 -- ---- values beside m
-
--- the number is below v, or is m, or is not below w
-abbrev pub IsFree : Arrow → Arrow → Arrow → Arrow → Type 0
-IsFree v m w f = (IsBelow f v ⊎ IsSame f m) ⊎ IsAtMost w f
 
 not_same : (f m : Arrow) → (IsSame f m → ⊥) → int_eq (cross f m) (pos 0) ≡ false
 not_same f m apart =
@@ -128,18 +123,6 @@ module _ (v m w : Arrow) (v_in : IsRational v) (m_in : IsRational m) (w_in : IsR
           (free reaches))
 
 -- ---- a list of edges
-
-one_more : {P Q : Type 0} (b rest : Bool) → (P → rest ≡ false) → (Q → rest ≡ true)
-    → MatchBool b P Q → differ b rest ≡ true
-one_more true rest here there one = ap not (here one)
-one_more false rest here there one = there one
-
--- exactly one place is an odd number of places
-pub one_is_odd : {X : Type 0} (test : X → Bool) (xs : List X) → ExactlyOne test xs
-    → is_odd_number test xs ≡ true
-one_is_odd test [] one = absurd one
-one_is_odd test (x ∷ xs) one =
-    one_more (test x) (is_odd_number test xs) (is_odd_number-none test xs) (one_is_odd test xs) one
 
 -- where no edge over u has a value between v and w but m, and exactly one passes at m, the number of
 -- edges below is odd at one of (u, v) and (u, w) and even at the other

@@ -27,17 +27,18 @@ use Rattle.theory_numbers.proofs.Shapes.{dot_by, cross_is, dot_is}
 use Rattle.theory_numbers.proofs.Signs.{test_less, test_not_less, at_most_from, sign_cases}
 use Rattle.theory_numbers.proofs.Signs.{above_or_not}
 use Rattle.theory_numbers.proofs.SignTables.{hit_of}
+use Rattle.theory_lists.proofs.Members.{all_that_stand}
+use Rattle.theory_numbers.proofs.Multiples.{sign_of_multiple}
+use Rattle.theory_numbers.proofs.Lengths.{weak_length}
 use Rattle.sb_fraction.specs.declared.point.Point.{Point}
 use Rattle.sb_fraction.specs.Spots.{Spot, IsSpot}
 use Rattle.sb_fraction.specs.Edges.{Edge, span_of, seen_from, turn_at, reach_at, is_on}
 use Rattle.theory_plans.specs.LoopEdges.{edges_of}
 use Rattle.theory_plans.specs.Inside.{is_in_plan}
 use Rattle.theory_plans.specs.Rays.{is_left_of, is_struck}
-use Rattle.theory_plans.proofs.PointsAlike.{sign_of_multiple}
 use Rattle.theory_parity.specs.Below.{IsWay}
 use Rattle.theory_parity.specs.Sides.{aside}
-use Rattle.theory_parity.proofs.EachMember.{all_from_each}
-use Rattle.theory_parity.proofs.AnyRay.{decided, weak_length, off_edge}
+use Rattle.theory_parity.proofs.AnyRay.{decided, off_edge}
 use Rattle.theory_parity.proofs.InsideByBelow.{inside_by_ray}
 use Rattle.theory_parity.proofs.OwnPoints.{IsOwn, IsLong, level_along, by_ends_cross}
 use Rattle.theory_parity.proofs.RaysAnywhere.{none_from_line, level_on}
@@ -420,5 +421,5 @@ module _ (k : Arrow) (m : Spot) where
       soon_inside way even =
           soon_then (λ t t_in t_up all. from_all t t_in way even all)
           (soon_all Changes (edges_of loops)
-          (all_from_each (λ g. Soon (Changes g)) (edges_of loops)
+          (all_that_stand (λ g. Soon (Changes g)) (edges_of loops)
           (λ g stands. one_edge g stands (is_on m g) refl)))

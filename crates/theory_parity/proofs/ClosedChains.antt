@@ -1,9 +1,10 @@
 -- Two tests of edges that differ by a test of points at the ends of each edge pass an odd number of
 -- the edges of closed loops alike.
 
-use Rattle.std.proofs.Common.{◌≡◌, refl, ap₂, ◌∙◌, Bool, true, false, List, [], ◌∷◌, ◌++◌}
+use Rattle.std.proofs.Common.{◌≡◌, refl, ap₂, ◌∙◌, Bool, true, false, List, [], ◌∷◌}
 use Rattle.std.specs.List.{list_any}
 use Rattle.std.proofs.lemmas.Bool.{or_parts}
+use Rattle.theory_lists.proofs.Blocks.{none_in_parts}
 use Rattle.theory_lists.specs.Parity.{differ, is_odd_number}
 use Rattle.theory_lists.proofs.Parity.{differ-self, differ-false, differ-differ, same_from_differ}
 use Rattle.theory_lists.proofs.Parity.{is_odd_number-append}
@@ -24,14 +25,6 @@ between_cancels true false false = refl
 between_cancels false true true = refl
 between_cancels false true false = refl
 between_cancels false false c = refl
-
-any_in_parts : {X : Type 0} (test : X → Bool) (xs ys : List X) → list_any test (xs ++ ys) ≡ false
-    → (list_any test xs ≡ false) × (list_any test ys ≡ false)
-any_in_parts test [] ys none = (refl, none)
-any_in_parts test (x ∷ xs) ys none =
-    let parts = or_parts (test x) (list_any test (xs ++ ys)) none in
-    let rest = any_in_parts test xs ys parts.1 in
-    (rw (parts.0) rest.0, rest.1)
 
 module _ {barred f g : Edge → Bool} {w : Point → Bool} (ends : Telescopes barred f g w) where
   -- along an open chain the two parities differ just where the test differs at its two ends
@@ -65,7 +58,7 @@ module _ {barred f g : Edge → Bool} {w : Point → Bool} (ends : Telescopes ba
       → is_odd_number f (edges_of loops) ≡ is_odd_number g (edges_of loops)
   closed_chains [] none = refl
   closed_chains (points ∷ loops) none =
-      let parts = any_in_parts barred (edges_of_loop points) (edges_of loops) none in
+      let parts = none_in_parts barred (edges_of_loop points) (edges_of loops) none in
       rw (
         is_odd_number-append f (edges_of_loop points) (edges_of loops),
         is_odd_number-append g (edges_of_loop points) (edges_of loops),

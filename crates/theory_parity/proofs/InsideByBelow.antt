@@ -1,9 +1,13 @@
 -- A point lies inside a plan where it is on no edge and an odd number of edges lie below it, along
 -- any direction.
 
-use Rattle.std.proofs.Common.{◌≡◌, refl, sym, ap, ap₂, ◌∙◌, arith, ℤ, pos, neg_ℤ, ◌+ℤ◌}
+use Rattle.std.proofs.Common.{◌≡◌, ◌⊎◌, inl, inr, refl, sym, ap, ap₂, ◌∙◌, arith, ℤ, pos, neg_ℤ}
+use Rattle.std.proofs.Common.{◌+ℤ◌, ◌<ℤ◌}
 use Rattle.std.proofs.Common.{◌-ℤ◌, ◌*ℤ◌, Bool, true, false, not, ◌&&◌, int_lt, List}
 use Rattle.std.specs.List.{list_any}
+use Rattle.std.specs.Ordering.{int_eq}
+use Rattle.std.proofs.lemmas.Bool.{and_parts, or_cases}
+use Rattle.std.proofs.lemmas.Bool.Decides.{Decides-int_eq}
 use Rattle.std.proofs.lemmas.Int.{ints}
 use Rattle.theory_lists.specs.Parity.{differ, is_odd_number}
 use Rattle.theory_lists.proofs.Parity.{is_odd_number-same}
@@ -11,24 +15,25 @@ use Rattle.theory_numbers.specs.Tests.{is_positive}
 use Rattle.theory_numbers.specs.Arrows.{Arrow, arrow, cross, dot, opposite}
 use Rattle.theory_numbers.proofs.Arrows.{opposite-cross}
 use Rattle.theory_numbers.proofs.Shapes.{var, num, plus, minus, negated, times, equal, cross_by}
-use Rattle.theory_numbers.proofs.Shapes.{dot_by}
+use Rattle.theory_numbers.proofs.Shapes.{dot_by, dot_eq}
 use Rattle.theory_numbers.proofs.Signs.{less_from, not_less_from, test_less, test_not_less}
 use Rattle.theory_numbers.proofs.Signs.{same_less}
 use Rattle.theory_numbers.proofs.Products.{positive_product, positive_factor, negative_product}
-use Rattle.theory_numbers.proofs.Products.{negative_factor, scale_less, unscale_less}
+use Rattle.theory_numbers.proofs.Products.{negative_factor, scale_less, unscale_less, weak_square}
 use Rattle.theory_numbers.proofs.Ring.{mul_assoc, neg-mul}
 use Rattle.theory_numbers.proofs.ThreeTerms.{frame_cross}
 use Rattle.theory_numbers.proofs.SignTables.{hit_of}
 use Rattle.theory_plane.specs.Sides.{line}
 use Rattle.theory_plane.specs.Points.{is_above_side}
 use Rattle.sb_fraction.specs.declared.point.Point.{Point}
+use Rattle.sb_fraction.specs.Plane.{is_forward}
 use Rattle.sb_fraction.specs.Spots.{Spot, IsSpot}
 use Rattle.sb_fraction.specs.Edges.{Edge, span_of, seen_from, turn_at, is_on}
 use Rattle.sb_fraction.specs.Lines.{place, in_frame, span_along, line_over, lies_after}
 use Rattle.theory_plans.specs.LoopEdges.{edges_of}
 use Rattle.theory_plans.specs.Inside.{is_higher, is_crossed, is_in_plan}
 use Rattle.theory_plans.specs.Rays.{is_left_of, is_struck}
-use Rattle.theory_parity.specs.Below.{IsWay, down_from, abscissa_in, is_below_at}
+use Rattle.theory_parity.specs.Below.{IsWay, down_from, abscissa_in, is_below_at, is_in_along}
 use Rattle.theory_parity.proofs.AnyRay.{any_ray}
 
 -- ---- the ray to the right
@@ -238,10 +243,41 @@ down_is_way d d_is = omega (arith, ints, square, d_is)
 
 -- a point lies inside a plan exactly where it is on no edge and an odd number of edges lie below it
 pub inside_by_below : (d : Arrow) (p : Spot) → IsWay d → IsSpot p → (loops : List (List Point))
-    → is_in_plan loops p
-    ≡ (not (list_any (is_on p) (edges_of loops)) && is_odd_number (is_below_at d p) (edges_of loops))
+    → is_in_plan loops p ≡ is_in_along d loops p
 inside_by_below d p d_is p_is loops =
     inside_by_ray (down_from d) p (down_is_way d d_is) loops
     ∙ ap (λ t. not (list_any (is_on p) (edges_of loops)) && t)
     (is_odd_number-same (is_struck (down_from d) p) (is_below_at d p)
     (λ e. sym (below_is_struck d p e d_is p_is)) (edges_of loops))
+
+-- ---- directions to greater x, and (0, 1)
+
+-- each is a vector that is not 0
+pub forward_is_way : (d : Arrow) → is_forward d.x d.y ≡ true → IsWay d
+forward_is_way d ahead =
+    by (or_cases (int_lt (pos 0) d.x) (int_eq d.x (pos 0) && int_eq d.y (pos 1)) ahead)
+  where
+    whole : dot d d ≡ (d.x *ℤ d.x) +ℤ (d.y *ℤ d.y)
+    whole = dot_eq d d
+
+    by : (int_lt (pos 0) d.x ≡ true) ⊎ ((int_eq d.x (pos 0) && int_eq d.y (pos 1)) ≡ true)
+        → IsWay d
+    by (inl right) =
+        let above = less_from (pos 0) d.x right in
+        let square = positive_product d.x d.x above above in
+        let other = weak_square d.y in
+        omega (arith, ints, whole)
+    by (inr up) =
+        let parts = and_parts (int_eq d.x (pos 0)) (int_eq d.y (pos 1)) up in
+        let other = weak_square d.x in
+        let above : pos 0 <ℤ d.y = omega (arith, ints, (Decides-int_eq d.y (pos 1)).0 parts.1) in
+        let square = positive_product d.y d.y above above in
+        omega (arith, ints, whole)
+
+-- along (0, 1) an edge lies below a point exactly where it crosses the ray to the right: there the
+-- answer is the definition itself
+pub below_is_crossed : (p : Spot) (e : Edge) → IsSpot p
+    → is_below_at (arrow (pos 0) (pos 1)) p e ≡ is_crossed p e
+below_is_crossed p e p_is =
+    below_is_struck (arrow (pos 0) (pos 1)) p e (forward_is_way (arrow (pos 0) (pos 1)) refl) p_is
+    ∙ sym (crossed_is_struck p e)

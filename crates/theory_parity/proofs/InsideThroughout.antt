@@ -1,24 +1,17 @@
--- An intersection of open half-planes whose points off finitely many lines lie inside a plan, with
--- no edge passing through it, lies inside the plan.
+-- An intersection of open half-planes whose points off finitely many lines lie inside a plan lies
+-- inside the plan.
 
-use Rattle.std.proofs.Common.{◌≡◌, refl, sym, ap, ◌∙◌, ◌⊎◌, inl, inr, arith, ℤ, pos, ◌<ℤ◌, ◌≤ℤ◌}
-use Rattle.std.proofs.Common.{◌+ℤ◌, ◌*ℤ◌, Bool, true, false, List, [], ◌∷◌}
-use Rattle.std.specs.List.{AllByRecursion, list_any}
-use Rattle.std.proofs.lemmas.Int.{ints}
+use Rattle.std.proofs.Common.{◌≡◌, refl, sym, ap, ◌∙◌, ◌⊎◌, inl, inr, arith, ℤ, pos, neg_ℤ}
+use Rattle.std.proofs.Common.{◌<ℤ◌, ◌≤ℤ◌, ◌+ℤ◌, ◌-ℤ◌, ◌*ℤ◌, Bool, true, false, not, IsTrue}
+use Rattle.std.proofs.Common.{List, [], ◌∷◌}
+use Rattle.std.specs.List.{AllByRecursion, list_any, list_all}
 use Rattle.std.specs.Ordering.{int_eq}
+use Rattle.std.proofs.lemmas.Int.{ints}
 use Rattle.std.proofs.lemmas.Bool.{and_parts, and_from, false≢true}
 use Rattle.std.proofs.lemmas.Bool.Decides.{Decides-int_eq}
 use Rattle.theory_lists.specs.Members.{Stands}
-use Rattle.theory_lists.specs.Parity.{is_odd_number}
-use Rattle.theory_lists.proofs.Members.{all_stands}
-use Rattle.theory_plans.proofs.EdgesOfPlans.{is_proper_edge, plan_edges_are_proper}
-use Rattle.theory_plans.proofs.StepsOfEdges.{proper_is}
-use Rattle.theory_plans.specs.Plans.{is_plan, is_same_point}
-use Rattle.theory_parity.specs.Halves.{left_half}
-use Rattle.theory_parity.proofs.NoEdgeInside.{IsNoEnd, even_through}
-use Rattle.theory_parity.proofs.PointOfAnEdge.{IsPlain, plain_point}
-use Rattle.std.proofs.Common.{◌||◌, not, IsTrue, neg_ℤ, ◌-ℤ◌}
-use Rattle.std.specs.List.{list_all}
+use Rattle.theory_lists.proofs.Members.{all_stands, any_stands, one_of_any}
+use Rattle.theory_lists.proofs.Parity.{odd_if_alone}
 use Rattle.theory_numbers.specs.Arrows.{Arrow}
 use Rattle.theory_numbers.proofs.Signs.{less_from, test_less, above_or_not}
 use Rattle.theory_numbers.proofs.Products.{positive_product, weak_product}
@@ -27,11 +20,17 @@ use Rattle.sb_fraction.specs.Spots.{Spot, IsSpot}
 use Rattle.sb_fraction.specs.Edges.{Edge, is_on}
 use Rattle.theory_plans.specs.LoopEdges.{edges_of}
 use Rattle.theory_plans.specs.Inside.{is_in_plan}
-use Rattle.theory_parity.specs.Halves.{Half, height_over, is_in_half, is_in_all, on_way}
+use Rattle.theory_plans.specs.Plans.{is_plan, is_same_point}
+use Rattle.theory_plans.proofs.EdgesOfPlans.{is_proper_edge, plan_edges_are_proper}
+use Rattle.theory_plans.proofs.StepsOfEdges.{proper_is}
+use Rattle.theory_parity.specs.Halves.{Half, IsLine, height_over, is_in_half, is_in_all, left_half}
+use Rattle.theory_parity.specs.Halves.{on_way, IsInsideOff, IsInsideThroughout}
 use Rattle.theory_parity.proofs.Heights.{height-on_way, on_way_is}
 use Rattle.theory_parity.proofs.Moves.{moves}
-use Rattle.theory_parity.proofs.NearALine.{far_along, IsLine, IsFreeWay, free_way}
-use Rattle.theory_parity.proofs.NoEdgeInside.{IsInsideOff, IsBeside, beside, beside_is, off_lines}
+use Rattle.theory_parity.proofs.NearALine.{far_along, IsFreeWay, free_way}
+use Rattle.theory_parity.proofs.NoEdgeInside.{IsBeside, beside, beside_is, off_lines, even_through}
+use Rattle.theory_parity.proofs.PointOfAnEdge.{IsPlain, plain_point}
+use Rattle.theory_parity.proofs.OneEdgeThroughAPoint.{at_most_one_passes}
 
 -- the points between two points of open half-planes lie in them
 pub between_in_all : (m : ℤ) (p : Spot) (n : ℤ) (q : Spot) (halves : List Half) → pos 0 ≤ℤ m
@@ -70,7 +69,7 @@ HasNoEdge loops halves =
 
 -- where no edge passes, what holds off the lines holds on them too
 pub inside_throughout_off_edges : (loops : List (List Point)) (cuts halves : List Half)
-    → AllByRecursion IsLine cuts → IsInsideOff loops cuts halves → HasNoEdge loops halves
+    → AllByRecursion IsLine cuts → IsInsideOff loops cuts (is_in_all halves) → HasNoEdge loops halves
     → (q : Spot) → IsSpot q → is_in_all halves q ≡ true → is_in_plan loops q ≡ true
 inside_throughout_off_edges loops cuts halves cuts_in inside no_edge q q_is at =
     from (free_way cuts cuts_in)
@@ -91,67 +90,7 @@ inside_throughout_off_edges loops cuts halves cuts_in inside no_edge q q_is at =
     from : (n : Arrow) × IsFreeWay cuts n → is_in_plan loops q ≡ true
     from (n, free) = with_way n (beside q n halves cuts at free.slanted)
 
--- ---- regions through which edges of a plan pass alone
-
--- an edge of the loops passes alone: a point on one of the edges that is no corner lies on an odd
--- number of them
-abbrev pub DoPassAlone : List (List Point) → Type 0
-DoPassAlone loops =
-    (m : Spot) → IsSpot m → AllByRecursion (IsNoEnd m) (edges_of loops)
-    → list_any (is_on m) (edges_of loops) ≡ true → is_odd_number (is_on m) (edges_of loops) ≡ true
-
-on_one_of : (m : Spot) (e : Edge) (es : List Edge) → Stands e es → is_on m e ≡ true
-    → list_any (is_on m) es ≡ true
-on_one_of m e [] stands on = absurd stands
-on_one_of m e (f ∷ fs) (inl same) on =
-    rw (ap (is_on m) (sym same) ∙ on) refl
-on_one_of m e (f ∷ fs) (inr later) on =
-    or_from_second (is_on m f) (list_any (is_on m) fs) (on_one_of m e fs later on)
-  where
-    or_from_second : (s t : Bool) → t ≡ true → (s || t) ≡ true
-    or_from_second true t second = refl
-    or_from_second false t second = second
-
-found_on : (t : Spot) (es : List Edge) → list_any (is_on t) es ≡ true
-    → (e : Edge) × (Stands e es × (is_on t e ≡ true))
-found_on t [] some = absurd (false≢true some)
-found_on t (e ∷ es) some = by (is_on t e) refl (found_on t es)
-  where
-    by : (b : Bool) → is_on t e ≡ b
-        → (list_any (is_on t) es ≡ true → (f : Edge) × (Stands f es × (is_on t f ≡ true)))
-        → (f : Edge) × (Stands f (e ∷ es) × (is_on t f ≡ true))
-    by true on rest = (e, (inl refl, on))
-    by false off rest = later (rest (sym (ap (λ s. s || list_any (is_on t) es) off) ∙ some))
-      where
-        later : (f : Edge) × (Stands f es × (is_on t f ≡ true))
-            → (f : Edge) × (Stands f (e ∷ es) × (is_on t f ≡ true))
-        later (f, known) = (f, (inr known.0, known.1))
-
--- no point of the half-planes lies on an edge
-pub no_edge_passes : (loops : List (List Point)) (cuts halves : List Half)
-    → AllByRecursion IsLine cuts → AllByRecursion (λ e. IsLine (left_half e)) (edges_of loops)
-    → DoPassAlone loops → IsInsideOff loops cuts halves → HasNoEdge loops halves
-no_edge_passes loops cuts halves cuts_in edges_in alone inside t t_is at =
-    by (list_any (is_on t) (edges_of loops)) refl
-  where
-    clash : (e : Edge) → Stands e (edges_of loops)
-        → (m : Spot) × IsPlain halves (edges_of loops) e m → ⊥
-    clash e stands (m, plain) =
-        false≢true
-        (sym (even_through loops cuts halves cuts_in edges_in inside m plain.is plain.inside
-        plain.no_corner)
-        ∙ alone m plain.is plain.no_corner (on_one_of m e (edges_of loops) stands plain.on))
-
-    none : (e : Edge) × (Stands e (edges_of loops) × (is_on t e ≡ true)) → ⊥
-    none (e, known) =
-        clash e known.0
-        (plain_point halves (edges_of loops) e t t_is
-        (all_stands (λ f. IsLine (left_half f)) e (edges_of loops) edges_in known.0) at known.1)
-
-    by : (b : Bool) → list_any (is_on t) (edges_of loops) ≡ b
-        → list_any (is_on t) (edges_of loops) ≡ false
-    by true some = absurd (none (found_on t (edges_of loops) some))
-    by false off = off
+-- ---- no edge passes
 
 proper_is_line : (e : Edge) → is_proper_edge e ≡ true → IsLine (left_half e)
 proper_is_line e proper zero =
@@ -177,13 +116,41 @@ lines_of (e ∷ es) proper =
     let parts = and_parts (is_proper_edge e) (list_all is_proper_edge es) proper in
     (proper_is_line e parts.0, lines_of es parts.1)
 
--- a convex region whose points off finitely many lines are inside a plan, the edges of which pass
--- alone, lies inside it
-pub inside_throughout_where_alone : (loops : List (List Point)) → IsTrue (is_plan loops)
-    → DoPassAlone loops → (cuts halves : List Half) → AllByRecursion IsLine cuts
-    → IsInsideOff loops cuts halves
-    → (q : Spot) → IsSpot q → is_in_all halves q ≡ true → is_in_plan loops q ≡ true
-inside_throughout_where_alone loops plan alone cuts halves cuts_in inside =
+-- no point of the half-planes lies on an edge
+pub no_edge_passes : (loops : List (List Point)) → IsTrue (is_plan loops) → (cuts halves : List Half)
+    → AllByRecursion IsLine cuts → IsInsideOff loops cuts (is_in_all halves)
+    → HasNoEdge loops halves
+no_edge_passes loops plan cuts halves cuts_in inside t t_is at =
+    by (list_any (is_on t) (edges_of loops)) refl
+  where
+    edges_in : AllByRecursion (λ e. IsLine (left_half e)) (edges_of loops)
+    edges_in = lines_of (edges_of loops) (plan_edges_are_proper loops plan)
+
+    clash : (e : Edge) → Stands e (edges_of loops)
+        → (m : Spot) × IsPlain halves (edges_of loops) e m → ⊥
+    clash e stands (m, plain) =
+        false≢true
+        (sym (even_through loops cuts halves cuts_in edges_in inside m plain.is plain.inside
+        plain.no_corner)
+        ∙ odd_if_alone (is_on m) (edges_of loops)
+        (at_most_one_passes loops plan m plain.is plain.no_corner)
+        (any_stands (is_on m) e (edges_of loops) stands plain.on))
+
+    none : (e : Edge) × (Stands e (edges_of loops) × (is_on t e ≡ true)) → ⊥
+    none (e, known) =
+        clash e known.0
+        (plain_point halves (edges_of loops) e t t_is
+        (all_stands (λ f. IsLine (left_half f)) e (edges_of loops) edges_in known.0) at known.1)
+
+    by : (b : Bool) → list_any (is_on t) (edges_of loops) ≡ b
+        → list_any (is_on t) (edges_of loops) ≡ false
+    by true some = absurd (none (one_of_any (is_on t) (edges_of loops) some))
+    by false off = off
+
+-- a convex region whose points off finitely many lines are inside a plan lies inside it
+pub inside_throughout : (loops : List (List Point)) → IsTrue (is_plan loops)
+    → (cuts halves : List Half) → AllByRecursion IsLine cuts
+    → IsInsideOff loops cuts (is_in_all halves) → IsInsideThroughout loops (is_in_all halves)
+inside_throughout loops plan cuts halves cuts_in inside =
     inside_throughout_off_edges loops cuts halves cuts_in inside
-    (no_edge_passes loops cuts halves cuts_in
-    (lines_of (edges_of loops) (plan_edges_are_proper loops plan)) alone inside)
+    (no_edge_passes loops plan cuts halves cuts_in inside)

@@ -3,10 +3,10 @@
 
 use Rattle.std.proofs.Common.{◌≡◌, refl, sym, ap, ap₂, ◌∙◌, ◌⊎◌, inl, inr, arith, ℤ, pos, neg_ℤ}
 use Rattle.std.proofs.Common.{◌<ℤ◌, ◌≤ℤ◌, ◌+ℤ◌, ◌-ℤ◌, ◌*ℤ◌, Bool, true, false, not, ◌&&◌}
-use Rattle.std.proofs.Common.{int_lt, IsTrue, List, [], ◌∷◌}
+use Rattle.std.proofs.Common.{int_lt, IsTrue, List}
 use Rattle.std.specs.List.{list_any}
 use Rattle.std.proofs.lemmas.Int.{ints}
-use Rattle.std.proofs.lemmas.Bool.{or_parts, false≢true}
+use Rattle.std.proofs.lemmas.Bool.{false_from_ne_true, false≢true}
 use Rattle.theory_lists.specs.Members.{Stands}
 use Rattle.theory_lists.specs.Parity.{differ, is_odd_number}
 use Rattle.theory_lists.proofs.Parity.{differ-self, odd_where_same}
@@ -22,6 +22,8 @@ use Rattle.theory_numbers.proofs.Ring.{neg-mul-neg}
 use Rattle.theory_numbers.proofs.Shapes.{var, num, plus, times, equal}
 use Rattle.theory_numbers.proofs.Signs.{sign_cases, test_less, test_not_less, above_or_not}
 use Rattle.theory_numbers.proofs.SignTables.{hit_of}
+use Rattle.theory_lists.proofs.Members.{all_that_stand}
+use Rattle.theory_lists.proofs.Members.{any_stands}
 use Rattle.sb_fraction.specs.declared.point.Point.{Point}
 use Rattle.sb_fraction.specs.Spots.{Spot, spot, IsSpot}
 use Rattle.sb_fraction.specs.Edges.{Edge, span_of, seen_from, turn_at, is_on}
@@ -34,8 +36,7 @@ use Rattle.theory_plans.proofs.PointsAlike.{on_sees_no_factor}
 use Rattle.theory_parity.specs.Halves.{on_way}
 use Rattle.theory_parity.specs.Sides.{IsFreeTo}
 use Rattle.theory_parity.proofs.AlongAnEdge.{way_by_ends}
-use Rattle.theory_parity.proofs.EachMember.{all_from_each}
-use Rattle.theory_parity.proofs.EdgesApart.{long_edges, alone_inside, odd_inside, any_where}
+use Rattle.theory_parity.proofs.EdgesApart.{long_edges, alone_inside, odd_inside}
 use Rattle.theory_parity.proofs.Heights.{on_way_is}
 use Rattle.theory_parity.proofs.InsideByBelow.{inside_by_ray}
 use Rattle.theory_parity.proofs.Moves.{IsClearOf, way_to, same_ray, left_at_end, way_begins}
@@ -52,11 +53,8 @@ use Rattle.theory_parity.proofs.Soon.{more_than_0}
 
 none_of_edge : (p : Spot) (g : Edge) (es : List Edge) → Stands g es → list_any (is_on p) es ≡ false
     → is_on p g ≡ false
-none_of_edge p g [] stands off = absurd stands
-none_of_edge p g (f ∷ fs) (inl same) off =
-    ap (is_on p) same ∙ (or_parts (is_on p f) (list_any (is_on p) fs) off).0
-none_of_edge p g (f ∷ fs) (inr later) off =
-    none_of_edge p g fs later (or_parts (is_on p f) (list_any (is_on p) fs) off).1
+none_of_edge p g es stands off =
+    false_from_ne_true (is_on p g) (λ on. false≢true (sym off ∙ any_stands (is_on p) g es stands on))
 
 at_its_end : (k l : ℤ) (p m : Spot) → k ≡ pos 0 → on_way k p l m ≡ scaled l (flat_spot m)
 at_its_end k l p m none =
@@ -179,7 +177,7 @@ module _ (loops : List (List Point)) (plan : IsTrue (is_plan loops)) (e : Edge)
       (is_odd_number-differ (is_struck (way_to p m) p) (is_struck (way_to p m) m) (edges_of loops))
       ∙ odd_where_same (λ g. differ (is_struck (way_to p m) p g) (is_struck (way_to p m) m g))
       (is_on m) (edges_of loops)
-      (all_from_each
+      (all_that_stand
       (λ g. differ (is_struck (way_to p m) p g) (is_struck (way_to p m) m g) ≡ is_on m g)
       (edges_of loops) (λ g stands. one_edge strikes g stands (is_on m g) refl))
       ∙ odd
@@ -271,7 +269,7 @@ module _ (loops : List (List Point)) (plan : IsTrue (is_plan loops)) (e : Edge)
       let in_far = far_in in
       false≢true
       (sym (free (pos 1) far (omega (arith, ints)) (omega (arith, ints)))
-      ∙ any_where (is_on (on_way (pos 1) p far m)) e (edges_of loops) e_in
+      ∙ any_stands (is_on (on_way (pos 1) p far m)) e (edges_of loops) e_in
       (on_along e (on_way (pos 1) p far m) long (along_there zero)))
 
   -- ---- both sides

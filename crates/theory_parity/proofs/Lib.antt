@@ -16,15 +16,14 @@ pub mod NearALine
 pub mod NoEdgeInside
 pub mod AwayFromCorners
 pub mod PointOfAnEdge
+pub mod OneEdgeThroughAPoint
 pub mod InsideThroughout
-pub mod OddIfAlone
+pub mod RegionIsFourHalves
 -- the solid on the left
-pub mod EachMember
 pub mod RaysAnywhere
 pub mod OwnPoints
 pub mod RaysFromEdges
 pub mod RoundACorner
-pub mod Followers
 pub mod EdgesApart
 pub mod OneSideALoop
 pub mod TurnedLoops

@@ -9,9 +9,10 @@ use Rattle.std.proofs.lemmas.Bool.{or_parts, false≢true}
 use Rattle.theory_lists.proofs.Parity.{odd_where_same}
 use Rattle.theory_lists.proofs.Members.{all_follow}
 use Rattle.theory_numbers.specs.Arrows.{Arrow, arrow, cross, dot}
-use Rattle.theory_numbers.proofs.Shapes.{var, num, plus, minus, negated, times, equal, dot_eq}
+use Rattle.theory_numbers.proofs.Shapes.{var, num, plus, minus, negated, times, equal}
 use Rattle.theory_numbers.proofs.Signs.{same_less, less_or_not, above_or_not}
-use Rattle.theory_numbers.proofs.Products.{weak_square, zero_product}
+use Rattle.theory_numbers.proofs.Lengths.{no_length}
+use Rattle.theory_numbers.proofs.Multiples.{sign_of_multiple, other_sign_of_multiple}
 use Rattle.theory_numbers.proofs.Ring.{mul_comm, mul-zero}
 use Rattle.theory_numbers.proofs.SignTables.{hit_of}
 use Rattle.sb_fraction.specs.declared.point.Point.{Point}
@@ -21,10 +22,9 @@ use Rattle.sb_fraction.specs.Lines.{place}
 use Rattle.theory_plans.specs.LoopEdges.{edges_of}
 use Rattle.theory_plans.specs.Inside.{is_in_plan}
 use Rattle.theory_plans.specs.Rays.{is_left_of, is_struck}
-use Rattle.theory_plans.proofs.PointsAlike.{alike_inside, sign_of_multiple}
-use Rattle.theory_plans.proofs.PointsAlike.{other_sign_of_multiple}
+use Rattle.theory_plans.proofs.PointsAlike.{alike_inside}
 use Rattle.theory_parity.specs.Below.{IsWay}
-use Rattle.theory_parity.specs.Halves.{height_over, left_half, half_right_of, on_way}
+use Rattle.theory_parity.specs.Halves.{height_over, left_half, half_right_of, on_way, AreClearOf}
 use Rattle.theory_parity.proofs.AnyRay.{decided}
 use Rattle.theory_parity.proofs.InsideByBelow.{inside_by_ray}
 use Rattle.theory_parity.proofs.Heights.{height-on_way, on_way_is, turn_by_height, left_by_height}
@@ -238,12 +238,6 @@ module _ (p q : Spot) (e : Edge) (p_is : IsSpot p) (q_is : IsSpot q) where
 
 -- ---- closed loops
 
--- no edge of the list has a point on the way from p to q, both taken in
-abbrev pub AreClearOf : Spot → Spot → List Edge → Type 0
-AreClearOf p q es =
-    (m n : ℤ) → pos 0 ≤ℤ m → pos 0 ≤ℤ n → pos 0 <ℤ (m +ℤ n)
-    → list_any (is_on (on_way m p n q)) es ≡ false
-
 each_is_clear : (p q : Spot) (es : List Edge) → AreClearOf p q es
     → AllByRecursion (IsClearOf p q) es
 each_is_clear p q [] clear = tt
@@ -260,7 +254,8 @@ each_is_clear p q (e ∷ es) clear = (
 abbrev pub flat_spot : Spot → Spot
 flat_spot p = spot p.x p.y (pos 0) p.w
 
-same_flat : {x y w x' y' w' : ℤ} → x ≡ x' → y ≡ y' → w ≡ w'
+-- two points at the height 0 with equal numbers
+pub same_flat : {x y w x' y' w' : ℤ} → x ≡ x' → y ≡ y' → w ≡ w'
     → spot x y (pos 0) w ≡ spot x' y' (pos 0) w'
 same_flat {x} {y} {w} {x'} {y'} {w'} ex ey ew =
     ap (λ t. spot t y (pos 0) w) ex ∙ ap (λ t. spot x' t (pos 0) w) ey
@@ -304,20 +299,11 @@ module _ (loops : List (List Point)) (p q : Spot) (p_is : IsSpot p) (q_is : IsSp
       (each_is_clear p q (edges_of loops) clear)))
       ∙ sym (inside_by_ray (way_to p q) q way loops)
 
-  square_zero : (n : ℤ) → (n *ℤ n) ≤ℤ pos 0 → n ≡ pos 0
-  square_zero n low = by (zero_product n n (omega (arith, ints, weak_square n)))
-    where
-      by : (n ≡ pos 0) ⊎ (n ≡ pos 0) → n ≡ pos 0
-      by (inl zero) = zero
-      by (inr zero) = zero
-
   at_one_point : dot (way_to p q) (way_to p q) ≤ℤ pos 0 → is_in_plan loops p ≡ is_in_plan loops q
   at_one_point short =
-      let whole = dot_eq (way_to p q) (way_to p q) in
-      let square_x = weak_square (way_to p q).x in
-      let square_y = weak_square (way_to p q).y in
-      let x = square_zero (way_to p q).x (omega (arith, ints)) in
-      let y = square_zero (way_to p q).y (omega (arith, ints)) in
+      let none = no_length (way_to p q) short in
+      let x = none.0 in
+      let y = none.1 in
       let turn_x = mul_comm p.w q.x in
       let turn_y = mul_comm p.w q.y in
       let other_x = mul_comm q.w p.x in

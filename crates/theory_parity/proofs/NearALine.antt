@@ -18,9 +18,9 @@ use Rattle.theory_numbers.proofs.Products.{positive_product, negative_product, w
 use Rattle.sb_fraction.specs.declared.point.Point.{Point}
 use Rattle.sb_fraction.specs.Spots.{Spot, spot}
 use Rattle.theory_plans.specs.Rays.{is_left_of}
-use Rattle.theory_plans.proofs.PointsAlike.{sign_of_multiple}
+use Rattle.theory_numbers.proofs.Multiples.{sign_of_multiple}
 use Rattle.theory_parity.specs.Below.{IsWay}
-use Rattle.theory_parity.specs.Halves.{Half, height_over}
+use Rattle.theory_parity.specs.Halves.{Half, IsLine, height_over}
 use Rattle.theory_parity.specs.Halves.{half_right_of, on_way}
 use Rattle.theory_parity.proofs.Heights.{height-on_way, left_by_height}
 use Rattle.theory_parity.proofs.Across.{AreOpposite}
@@ -30,10 +30,6 @@ use Rattle.theory_parity.proofs.Across.{AreOpposite}
 -- where a way leads to
 abbrev pub far_along : Arrow → Spot
 far_along n = spot n.x n.y (pos 0) (pos 0)
-
--- the line is one: it has a direction
-abbrev pub IsLine : Half → Type 0
-IsLine h = IsForm (arrow h.a h.b)
 
 -- the way is not parallel to the line
 abbrev pub IsSlanted : Arrow → Half → Type 0

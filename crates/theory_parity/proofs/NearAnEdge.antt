@@ -1,12 +1,11 @@
 -- Near each point strictly inside an edge of a plan the points left of it lie inside the plan, and
 -- those right of it outside.
 
-use Rattle.std.proofs.Common.{◌≡◌, refl, sym, ap, ap₂, ◌∙◌, inl, inr, arith, ℤ, pos, neg_ℤ}
-use Rattle.std.proofs.Common.{◌<ℤ◌, ◌+ℤ◌, ◌*ℤ◌, Bool, true, false, not, IsTrue, List, []}
-use Rattle.std.proofs.Common.{◌∷◌}
-use Rattle.std.specs.List.{list_all}
+use Rattle.std.proofs.Common.{◌≡◌, refl, sym, ap, ap₂, ◌∙◌, arith, ℤ, pos, neg_ℤ}
+use Rattle.std.proofs.Common.{◌<ℤ◌, ◌+ℤ◌, ◌*ℤ◌, Bool, true, false, not, IsTrue, List}
 use Rattle.std.proofs.lemmas.Int.{ints}
-use Rattle.std.proofs.lemmas.Bool.{and_parts, and_from, false≢true}
+use Rattle.std.proofs.lemmas.Bool.{false≢true}
+use Rattle.theory_lists.proofs.Passing.{passes_if_all}
 use Rattle.theory_lists.specs.Members.{Stands}
 use Rattle.theory_lists.specs.Parity.{is_odd_number}
 use Rattle.theory_numbers.specs.Arrows.{Arrow, cross, dot, opposite, turned, mirror}
@@ -18,10 +17,10 @@ use Rattle.sb_fraction.specs.Spots.{Spot, spot, IsSpot}
 use Rattle.sb_fraction.specs.Edges.{Edge, span_of, is_within}
 use Rattle.theory_plans.specs.LoopEdges.{edges_of}
 use Rattle.theory_plans.specs.Inside.{is_in_plan}
-use Rattle.theory_plans.specs.Loops.{is_loop, is_bent_loop}
 use Rattle.theory_plans.specs.Plans.{is_plan, right_of, middle_of, is_solid_left_of}
 use Rattle.theory_plans.specs.Rays.{is_struck}
-use Rattle.theory_plans.proofs.EdgesOfPlans.{plan_is, loop_is}
+use Rattle.theory_plans.proofs.CommonPointIsCorner.{loops_are_bent}
+use Rattle.theory_plans.proofs.EdgesOfPlans.{plan_is}
 use Rattle.theory_parity.specs.Below.{IsWay}
 use Rattle.theory_parity.specs.Sides.{AreBentApart, aside, IsClosenessAt}
 use Rattle.theory_parity.proofs.AlongAnEdge.{along_an_edge}
@@ -32,28 +31,11 @@ use Rattle.theory_parity.proofs.OwnPoints.{IsOwn, IsLong, own_from_within, middl
 use Rattle.theory_parity.proofs.RaysFromEdges.{IsAloneAt, right_ray}
 use Rattle.theory_parity.proofs.Soon.{Soon, soon_both}
 
--- loops are bent
-pub bent_loops : (loops : List (List Point)) → list_all is_loop loops ≡ true
-    → list_all is_bent_loop loops ≡ true
-bent_loops [] all = refl
-bent_loops (points ∷ loops) all =
-    let parts = and_parts (is_loop points) (list_all is_loop loops) all in
-    and_from (is_bent_loop points) (list_all is_bent_loop loops) (loop_is points parts.0).bent
-    (bent_loops loops parts.1)
-
 -- the loops of a plan are bent, and their edges apart
 pub plan_is_bent_apart : (loops : List (List Point)) → IsTrue (is_plan loops) → AreBentApart loops
 plan_is_bent_apart loops plan =
     let is = plan_is loops plan in
-    record { bent = bent_loops loops is.each; apart = is.apart }
-
-each_passes : {X : Type 0} (test : X → Bool) (x : X) (xs : List X) → list_all test xs ≡ true
-    → Stands x xs → test x ≡ true
-each_passes test x [] all stands = absurd stands
-each_passes test x (y ∷ ys) all (inl same) =
-    ap test same ∙ (and_parts (test y) (list_all test ys) all).0
-each_passes test x (y ∷ ys) all (inr later) =
-    each_passes test x ys (and_parts (test y) (list_all test ys) all).1 later
+    record { bent = loops_are_bent loops is.each; apart = is.apart }
 
 -- ---- the ways to the two sides
 
@@ -116,7 +98,7 @@ module _ (loops : List (List Point)) (plan : IsTrue (is_plan loops)) (e : Edge)
       along_an_edge loops e long alone m (middle_of e) own (middle_is_own e long)
       ∙ sym (to_the_right loops are e e_in)
       ∙ even (is_solid_right (edges_of loops))
-      (each_passes (λ f. is_solid_left_of f (edges_of loops)) e (edges_of loops)
+      (passes_if_all (λ f. is_solid_left_of f (edges_of loops)) e (edges_of loops)
       (plan_is loops plan).left e_in)
     where
       is_solid_right : List Edge → Bool

@@ -11,7 +11,7 @@ use Rattle.std.proofs.lemmas.Bool.{and_parts, and_from, false_from_ne_true}
 use Rattle.std.proofs.lemmas.Bool.Decides.{Decides-int_eq}
 use Rattle.theory_lists.specs.Parity.{differ, is_odd_number}
 use Rattle.theory_lists.proofs.Members.{all_follow, all_both, all_of_images, all_images}
-use Rattle.theory_lists.proofs.Blocks.{all-append}
+use Rattle.theory_lists.proofs.Blocks.{all-append, all_in_parts}
 use Rattle.theory_numbers.specs.Arrows.{Arrow, cross, dot, opposite}
 use Rattle.theory_numbers.specs.Rationals.{IsForm}
 use Rattle.theory_numbers.proofs.Shapes.{var, num, plus, minus, negated, times, equal, cross_by}
@@ -22,21 +22,15 @@ use Rattle.sb_fraction.specs.Spots.{Spot, IsSpot}
 use Rattle.sb_fraction.specs.Edges.{Edge, span_of, seen_from, is_on}
 use Rattle.sb_fraction.specs.Lines.{place}
 use Rattle.theory_plans.specs.LoopEdges.{edges_of}
-use Rattle.theory_plans.specs.Inside.{is_in_plan}
 use Rattle.theory_plans.specs.Rays.{is_struck}
-use Rattle.theory_parity.specs.Halves.{Half, height_over, is_in_all, is_off, left_half, on_way}
+use Rattle.theory_parity.specs.Halves.{Half, IsLine, height_over, is_in_all, is_off, left_half}
+use Rattle.theory_parity.specs.Halves.{on_way, IsInsideOff}
 use Rattle.theory_parity.proofs.InsideByBelow.{inside_by_ray}
 use Rattle.theory_parity.proofs.StayNear.{HasSignOf, IsNear, form_on, stay_near, still_in_all}
-use Rattle.theory_parity.proofs.StayNear.{all_parts, in_all_are_forms}
+use Rattle.theory_parity.proofs.StayNear.{in_all_are_forms}
 use Rattle.theory_parity.proofs.Across.{parity_changes}
-use Rattle.theory_parity.proofs.NearALine.{far_along, IsLine, IsSlanted, opposite_slope, IsFreeWay}
+use Rattle.theory_parity.proofs.NearALine.{far_along, IsSlanted, opposite_slope, IsFreeWay}
 use Rattle.theory_parity.proofs.NearALine.{free_way, left_along, left_against, opposite_heights}
-
--- each point of an intersection of open half-planes that is off finitely many lines lies inside
-abbrev pub IsInsideOff : List (List Point) → List Half → List Half → Type 0
-IsInsideOff loops cuts halves =
-    (p : Spot) → IsSpot p → is_in_all halves p ≡ true → is_off cuts p ≡ true
-    → is_in_plan loops p ≡ true
 
 -- the point is no end of the edge
 pub record IsNoEnd (p : Spot) (e : Edge) : Type 0 where
@@ -90,7 +84,7 @@ beside m n halves lines at slanted =
         → (s : Arrow) × IsBeside m n halves lines s
     from (s, near) =
         let parts =
-        all_parts
+        all_in_parts
         (λ h. HasSignOf (height_over h m) (height_over h (on_way s.x m s.y (far_along n))))
         halves lines near.signs
         in (
@@ -159,7 +153,7 @@ slanted_to_edge n m e m_is slanted same =
 module _ (loops : List (List Point)) (cuts halves : List Half)
     (cuts_in : AllByRecursion IsLine cuts)
     (edges_in : AllByRecursion (λ e. IsLine (left_half e)) (edges_of loops))
-    (inside : IsInsideOff loops cuts halves) where
+    (inside : IsInsideOff loops cuts (is_in_all halves)) where
   lines : List Half
   lines = cuts ++ map left_half (edges_of loops)
 
@@ -179,7 +173,7 @@ module _ (loops : List (List Point)) (cuts halves : List Half)
     odd_there k s near =
         let p = on_way s.x m s.y (far_along k) in
         let signs =
-        all_parts (λ h. HasSignOf (height_over h m) (height_over h p)) cuts
+        all_in_parts (λ h. HasSignOf (height_over h m) (height_over h p)) cuts
         (map left_half (edges_of loops)) near.signs
         in
         let here =
@@ -197,7 +191,7 @@ module _ (loops : List (List Point)) (cuts halves : List Half)
     edge_signs k s near =
         let p = on_way s.x m s.y (far_along k) in
         let signs =
-        all_parts (λ h. HasSignOf (height_over h m) (height_over h p)) cuts
+        all_in_parts (λ h. HasSignOf (height_over h m) (height_over h p)) cuts
         (map left_half (edges_of loops)) near.signs
         in
         all_of_images (λ h. HasSignOf (height_over h m) (height_over h p)) left_half
@@ -207,7 +201,7 @@ module _ (loops : List (List Point)) (cuts halves : List Half)
     unfolding lines
     edges_slanted =
         let parts =
-        all_parts (IsSlanted n) cuts (map left_half (edges_of loops)) free.slanted
+        all_in_parts (IsSlanted n) cuts (map left_half (edges_of loops)) free.slanted
         in
         all_of_images (IsSlanted n) left_half (edges_of loops) parts.1
 

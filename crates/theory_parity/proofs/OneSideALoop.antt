@@ -13,6 +13,8 @@ use Rattle.theory_lists.proofs.Members.{all_stands, all_follow}
 use Rattle.theory_numbers.specs.Arrows.{cross, dot, opposite}
 use Rattle.theory_numbers.proofs.Arrows.{same_arrow, opposite-cross}
 use Rattle.theory_numbers.proofs.Shapes.{var, minus, negated, equal, cross_by, dot_by}
+use Rattle.theory_lists.proofs.Members.{all_that_stand}
+use Rattle.theory_lists.proofs.Blocks.{all_in_parts}
 use Rattle.sb_fraction.specs.declared.point.Point.{Point}
 use Rattle.sb_fraction.specs.Spots.{spot}
 use Rattle.sb_fraction.specs.Edges.{Edge, edge, span_of}
@@ -21,8 +23,6 @@ use Rattle.theory_plans.specs.Loops.{is_bent, are_bent, is_bent_loop}
 use Rattle.theory_plans.specs.Plans.{middle_of, right_of, is_solid_left_of}
 use Rattle.theory_plans.specs.Rays.{is_struck}
 use Rattle.theory_parity.specs.Sides.{AreBentApart, turned_edge}
-use Rattle.theory_parity.proofs.EachMember.{all_from_each}
-use Rattle.theory_parity.proofs.StayNear.{all_parts}
 use Rattle.theory_parity.proofs.OwnPoints.{middle_is_own}
 use Rattle.theory_parity.proofs.RaysFromEdges.{right_ray, left_ray}
 use Rattle.theory_parity.proofs.RoundACorner.{round_a_corner}
@@ -148,7 +148,7 @@ module _ (loops : List (List Point)) (are : AreBentApart loops) where
   of_loops points [] bent there stands e f e_in f_in = absurd stands
   of_loops points (first ∷ rest) bent there (inl same) e f e_in f_in =
       let parts = and_parts (is_bent_loop first) (list_all is_bent_loop rest) bent in
-      let blocks = all_parts (λ g. Stands g (edges_of loops)) (edges_of_loop first) (edges_of rest)
+      let blocks = all_in_parts (λ g. Stands g (edges_of loops)) (edges_of_loop first) (edges_of rest)
       there in
       of_loop points (ap is_bent_loop same ∙ parts.0)
       (subst
@@ -156,7 +156,7 @@ module _ (loops : List (List Point)) (are : AreBentApart loops) where
       e f e_in f_in
   of_loops points (first ∷ rest) bent there (inr later) e f e_in f_in =
       let parts = and_parts (is_bent_loop first) (list_all is_bent_loop rest) bent in
-      let blocks = all_parts (λ g. Stands g (edges_of loops)) (edges_of_loop first) (edges_of rest)
+      let blocks = all_in_parts (λ g. Stands g (edges_of loops)) (edges_of_loop first) (edges_of rest)
       there in
       of_loops points rest parts.1 blocks.1 later e f e_in f_in
 
@@ -166,4 +166,4 @@ module _ (loops : List (List Point)) (are : AreBentApart loops) where
       → is_solid_left_of e (edges_of loops) ≡ is_solid_left_of f (edges_of loops)
   one_side_a_loop points stands =
       of_loops points loops are.bent
-      (all_from_each (λ e. Stands e (edges_of loops)) (edges_of loops) (λ e there. there)) stands
+      (all_that_stand (λ e. Stands e (edges_of loops)) (edges_of loops) (λ e there. there)) stands

@@ -13,18 +13,18 @@ use Rattle.theory_numbers.proofs.Arrows.{dot_comm, dot-add, dot-scale, cross-opp
 use Rattle.theory_numbers.proofs.Shapes.{var, num, plus, minus, negated, times, equal}
 use Rattle.theory_numbers.proofs.Shapes.{cross_by, dot_by}
 use Rattle.theory_numbers.proofs.Signs.{less_from, test_at_most, above_or_not}
-use Rattle.theory_numbers.proofs.Products.{positive_product, weak_product, zero_of_positive}
+use Rattle.theory_numbers.proofs.Products.{weak_factor, positive_product, weak_product, zero_of_positive}
 use Rattle.theory_numbers.proofs.Products.{positive_factor, negative_factor, weak_negative_factor}
 use Rattle.theory_numbers.proofs.Products.{weak_negative_product, negative_product}
 use Rattle.theory_numbers.proofs.Ring.{mul-zero, zero-mul, mul_comm}
 use Rattle.theory_numbers.proofs.ThreeTerms.{frame_cross, frame_dot}
+use Rattle.theory_numbers.proofs.Lengths.{weak_length}
 use Rattle.sb_fraction.specs.declared.point.Point.{Point}
 use Rattle.sb_fraction.specs.Spots.{Spot, IsSpot, spot_at}
 use Rattle.sb_fraction.specs.Edges.{Edge, edge, span_of, seen_from, turn_at, reach_at}
 use Rattle.sb_fraction.specs.Edges.{is_on, is_within}
 use Rattle.theory_plans.specs.Plans.{middle_of}
 use Rattle.theory_parity.specs.Halves.{on_way}
-use Rattle.theory_parity.proofs.AnyRay.{weak_length}
 use Rattle.theory_parity.proofs.Heights.{on_way_is}
 
 -- the point lies on the line of the edge, not behind its end a and not ahead of its end b
@@ -113,19 +113,8 @@ along_from_on e p p_is level near =
       a_behind =
           weak_negative_factor p.w (dot (span_of e) to_a) p_is (omega (arith, ints));
       b_level = zero_of_positive p.w (cross (span_of e) to_b) p_is (omega (arith, ints));
-      b_ahead = weak_factor_of p.w (dot (span_of e) to_b) p_is (omega (arith, ints));
+      b_ahead = weak_factor p.w (dot (span_of e) to_b) p_is (omega (arith, ints));
     }
-  where
-    weak_factor_of : (k a : ℤ) → pos 0 <ℤ k → pos 0 ≤ℤ (k *ℤ a) → pos 0 ≤ℤ a
-    weak_factor_of k a above product = from (above_or_not a)
-      where
-        from : (pos 0 <ℤ a) ⊎ (a ≤ℤ pos 0) → pos 0 ≤ℤ a
-        from (inl up) = omega (arith, ints)
-        from (inr low) =
-            let zero : a ≡ pos 0 = zero_of_positive k a above
-            (let down = weak_negative_product k a (omega (arith, ints)) low in omega (arith, ints))
-            in
-            omega (arith, ints)
 
 -- a point on it that is no end is one of its own
 pub own_from_on : (e : Edge) (p : Spot) → IsSpot p → turn_at e p ≡ pos 0 → reach_at e p ≤ℤ pos 0

@@ -11,19 +11,17 @@ use Rattle.std.proofs.lemmas.Bool.Decides.{Decides-int_eq}
 use Rattle.theory_numbers.specs.Arrows.{Arrow, cross, dot, add, scale}
 use Rattle.theory_numbers.proofs.Arrows.{same_arrow, cross-turn, cross-self, cross-add, cross-scale}
 use Rattle.theory_numbers.proofs.Arrows.{scale-cross, dot_comm, dot-add, dot-scale, scale-dot}
-use Rattle.theory_numbers.proofs.Shapes.{var, num, plus, minus, negated, times, equal, dot_eq}
+use Rattle.theory_numbers.proofs.Shapes.{var, num, plus, minus, negated, times, equal}
 use Rattle.theory_numbers.proofs.Signs.{test_at_most, at_most_from, above_or_not}
 use Rattle.theory_numbers.proofs.Products.{zero_of_positive, positive_product, weak_product}
-use Rattle.theory_numbers.proofs.Products.{weak_square, weak_negative_product, weak_negative_factor}
-use Rattle.theory_numbers.proofs.Products.{zero_product}
+use Rattle.theory_numbers.proofs.Products.{weak_negative_product, weak_negative_factor}
 use Rattle.theory_numbers.proofs.Ring.{mul-zero, neg-mul}
 use Rattle.sb_fraction.specs.declared.point.Point.{Point}
 use Rattle.sb_fraction.specs.Spots.{Spot, spot_at, IsSpot}
 use Rattle.sb_fraction.specs.Edges.{Edge, span_of, seen_from, turn_at, reach_at, is_on}
-use Rattle.theory_parity.specs.Halves.{Half, is_in_all, left_half, on_way}
+use Rattle.theory_parity.specs.Halves.{Half, IsLine, is_in_all, left_half, on_way}
 use Rattle.theory_parity.proofs.Heights.{on_way_is}
-use Rattle.theory_parity.proofs.AnyRay.{weak_length}
-use Rattle.theory_parity.proofs.NearALine.{IsLine}
+use Rattle.theory_numbers.proofs.Lengths.{weak_length, no_length}
 use Rattle.theory_parity.proofs.NoEdgeInside.{IsNoEnd}
 use Rattle.theory_parity.proofs.AwayFromCorners.{IsOffCorners, off_corners}
 
@@ -204,28 +202,14 @@ module _ (halves : List Half) (es : List Edge) (e : Edge) (t : Spot) (t_is : IsS
   one_is_long : dot (seen_from t e.a) (seen_from t e.a) ≤ℤ pos 0
       → dot (seen_from t e.b) (seen_from t e.b) ≤ℤ pos 0 → ⊥
   one_is_long short_a short_b =
-      let a = zero_vector (seen_from t e.a) short_a in
-      let b = zero_vector (seen_from t e.b) short_b in
+      let a = no_length (seen_from t e.a) short_a in
+      let b = no_length (seen_from t e.b) short_b in
       let x = zero_of_positive t.w (span_of e).x t_is
       (differences e.a.x e.b.x t.x a.0 b.0) in
       let y = zero_of_positive t.w (span_of e).y t_is
       (differences e.a.y e.b.y t.y a.1 b.1) in
       line (ap neg_ℤ y, x)
     where
-      square_zero : (z : ℤ) → (z *ℤ z) ≤ℤ pos 0 → z ≡ pos 0
-      square_zero z low = by (zero_product z z (omega (arith, ints, weak_square z)))
-        where
-          by : (z ≡ pos 0) ⊎ (z ≡ pos 0) → z ≡ pos 0
-          by (inl zero) = zero
-          by (inr zero) = zero
-
-      zero_vector : (v : Arrow) → dot v v ≤ℤ pos 0 → (v.x ≡ pos 0) × (v.y ≡ pos 0)
-      zero_vector v short =
-          let whole = dot_eq v v in
-          let square_x = weak_square v.x in
-          let square_y = weak_square v.y in
-          (square_zero v.x (omega (arith, ints)), square_zero v.y (omega (arith, ints)))
-
       differences : (a b x : ℤ) → (a *ℤ t.w) -ℤ x ≡ pos 0 → (b *ℤ t.w) -ℤ x ≡ pos 0
           → t.w *ℤ (b -ℤ a) ≡ pos 0
       differences a b x at_a at_b =

@@ -13,13 +13,13 @@ use Rattle.theory_numbers.proofs.Arrows.{cross-turn, cross-self, cross-opposite,
 use Rattle.theory_numbers.proofs.Ring.{mul-zero, neg-mul, mul_comm, mul-neg}
 use Rattle.theory_numbers.proofs.Signs.{test_less, test_not_less}
 use Rattle.theory_numbers.proofs.ThreeTerms.{frame_cross}
+use Rattle.theory_lists.proofs.Members.{all_that_stand}
+use Rattle.theory_numbers.proofs.Multiples.{sign_of_multiple}
 use Rattle.sb_fraction.specs.declared.point.Point.{Point}
 use Rattle.sb_fraction.specs.Spots.{Spot}
 use Rattle.sb_fraction.specs.Edges.{Edge, span_of, seen_from, is_on}
 use Rattle.theory_plans.specs.LoopEdges.{edges_of}
 use Rattle.theory_plans.specs.Rays.{is_left_of, is_struck}
-use Rattle.theory_plans.proofs.PointsAlike.{sign_of_multiple}
-use Rattle.theory_parity.proofs.EachMember.{all_from_each}
 use Rattle.theory_parity.proofs.AnyRay.{is_in_wedge}
 use Rattle.theory_parity.proofs.OwnPoints.{IsOwn, IsLong}
 use Rattle.theory_parity.proofs.RaysAnywhere.{is_swept, turned_anywhere}
@@ -109,7 +109,7 @@ module _ (loops : List (List Point)) (e : Edge) (p : Spot) (long : IsLong e) (ow
   turned_at_edge r s left =
       turned_anywhere r s p left loops
       ∙ odd_where_same (is_swept r s p) (λ g. is_on p g && passes_an_end e r s) (edges_of loops)
-      (all_from_each (λ g. is_swept r s p g ≡ (is_on p g && passes_an_end e r s)) (edges_of loops)
+      (all_that_stand (λ g. is_swept r s p g ≡ (is_on p g && passes_an_end e r s)) (edges_of loops)
       (λ g stands. by g (is_on p g) refl (alone g stands)))
       ∙ odd_and (is_on p) (passes_an_end e r s) (edges_of loops)
     where

@@ -18,15 +18,15 @@ use Rattle.theory_numbers.proofs.Shapes.{var, num, plus, minus, negated, times, 
 use Rattle.theory_numbers.proofs.Signs.{test_less, test_not_less, less_from}
 use Rattle.theory_numbers.proofs.Signs.{sign_cases}
 use Rattle.theory_numbers.proofs.SignTables.{hit_of}
+use Rattle.theory_lists.proofs.Members.{all_that_stand}
+use Rattle.theory_numbers.proofs.Multiples.{sign_of_multiple}
 use Rattle.sb_fraction.specs.declared.point.Point.{Point}
 use Rattle.sb_fraction.specs.Spots.{Spot, spot_at}
 use Rattle.sb_fraction.specs.Edges.{Edge, edge, span_of, seen_from, turn_at, is_on}
 use Rattle.theory_plans.specs.LoopEdges.{edges_of}
 use Rattle.theory_plans.specs.Plans.{middle_of}
 use Rattle.theory_plans.specs.Rays.{is_left_of, is_struck}
-use Rattle.theory_plans.proofs.PointsAlike.{sign_of_multiple}
 use Rattle.theory_parity.specs.Halves.{on_way}
-use Rattle.theory_parity.proofs.EachMember.{all_from_each}
 use Rattle.theory_parity.proofs.AnyRay.{is_in_wedge}
 use Rattle.theory_parity.proofs.Moves.{IsClearOf, way_to, same_ray}
 use Rattle.theory_parity.proofs.OwnPoints.{IsAlong, IsPastA, IsBeforeB, IsOwn, IsLong}
@@ -252,7 +252,7 @@ module _ (loops : List (List Point)) (a c b : Point) (long_e : IsLong (edge a c)
       ≡ is_odd_number (is_struck back_e corner) (edges_of loops)
   odd_at_corner_e =
       odd_where_same (is_struck back_e middle_e) (is_struck back_e corner) (edges_of loops)
-      (all_from_each (λ g. is_struck back_e middle_e g ≡ is_struck back_e corner g)
+      (all_that_stand (λ g. is_struck back_e middle_e g ≡ is_struck back_e corner g)
       (edges_of loops) (λ g stands. at_corner_e g stands (is_on corner g) refl))
 
   -- ---- from the corner to the middle of f
@@ -293,7 +293,7 @@ module _ (loops : List (List Point)) (a c b : Point) (long_e : IsLong (edge a c)
       ∙ odd_where_same
       (λ g. differ (is_struck back_f middle_f g) (is_struck back_f corner g))
       (is_swept r s corner) (edges_of loops)
-      (all_from_each
+      (all_that_stand
       (λ g. differ (is_struck back_f middle_f g) (is_struck back_f corner g)
       ≡ is_swept r s corner g)
       (edges_of loops) (λ g stands. change_at r s at_e at_f g stands (is_on corner g) refl))

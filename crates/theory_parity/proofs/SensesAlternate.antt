@@ -26,6 +26,8 @@ use Rattle.theory_numbers.proofs.ThreeTerms.{frame_cross, frame_dot}
 use Rattle.theory_plane.specs.Sides.{line, value_on}
 use Rattle.theory_plane.specs.Points.{point_at}
 use Rattle.theory_plane.proofs.Clearance.{value_on-IsRational}
+use Rattle.theory_numbers.proofs.Multiples.{sign_of_multiple}
+use Rattle.theory_numbers.proofs.Lengths.{opposed}
 use Rattle.sb_fraction.specs.declared.point.Point.{Point}
 use Rattle.sb_fraction.specs.Spots.{Spot, IsSpot}
 use Rattle.sb_fraction.specs.Edges.{Edge, span_of, seen_from, turn_at, reach_at}
@@ -34,9 +36,7 @@ use Rattle.sb_fraction.specs.Lines.{flat, place, span_along, line_over, lies_aft
 use Rattle.theory_plans.specs.LoopEdges.{edges_of}
 use Rattle.theory_plans.specs.Plans.{is_plan}
 use Rattle.theory_plans.specs.Rays.{is_left_of, is_struck}
-use Rattle.theory_plans.proofs.PointsAlike.{sign_of_multiple}
 use Rattle.theory_parity.specs.Below.{IsWay, down_from, is_lower_at, spot_in, value_of}
-use Rattle.theory_parity.proofs.AnyRay.{opposed}
 use Rattle.theory_parity.proofs.BelowByValue.{below_by_value, in_frame-spot_from, spot_in_is}
 use Rattle.theory_parity.proofs.BelowFlips.{reaching_is_line}
 use Rattle.theory_parity.proofs.EdgesApart.{long_edges, alone_inside, odd_inside}

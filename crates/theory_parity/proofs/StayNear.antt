@@ -2,10 +2,11 @@
 -- on its side of lines.
 
 use Rattle.std.proofs.Common.{◌≡◌, refl, sym, ◌∙◌, inl, inr, arith, ℤ, pos, ◌<ℤ◌}
-use Rattle.std.proofs.Common.{true, List, [], ◌∷◌, ◌++◌, map}
+use Rattle.std.proofs.Common.{true, List, [], ◌∷◌, map}
 use Rattle.std.specs.List.{AllByRecursion}
 use Rattle.std.proofs.lemmas.Int.{ints}
 use Rattle.std.proofs.lemmas.Bool.{and_parts, and_from}
+use Rattle.theory_lists.proofs.Members.{all_images}
 use Rattle.theory_numbers.specs.Arrows.{Arrow, arrow, cross, opposite}
 use Rattle.theory_numbers.specs.Rationals.{IsRational, IsBelow, IsForm, value_at, mediant}
 use Rattle.theory_numbers.specs.Intervals.{Keeps, AllKeep, clear_end}
@@ -109,11 +110,6 @@ module _ (end s : Arrow) (end_in : IsRational end) (wide : IsBelow begins end)
         signs_kept t o hs kept.1,
       )
 
-forms_are : (t o : Spot) (hs : List Half) → AllByRecursion (λ h. IsForm (form_on t o h)) hs
-    → AllByRecursion IsForm (map (form_on t o) hs)
-forms_are t o [] all = tt
-forms_are t o (h ∷ hs) all = (all.0, forms_are t o hs all.1)
-
 -- there are such weights
 pub stay_near : (t o : Spot) (hs : List Half) → AllByRecursion (λ h. IsForm (form_on t o h)) hs
     → (s : Arrow) × IsNear t o hs s
@@ -123,7 +119,7 @@ stay_near t o hs are_forms =
     let wide : IsBelow begins ends = rw (below_is_up ends) (omega (arith, ints)) in
     let found =
     clear_to begins ends (omega (arith, ints)) (omega (arith, ints)) wide forms
-    (forms_are t o hs are_forms)
+    (all_images IsForm (form_on t o) hs are_forms)
     in
     let s = mediant begins end in
     let inside = mediant_between begins end found.after in
@@ -150,13 +146,6 @@ still_in_all t p (h ∷ halves) signs at =
     (test_less (pos 0) (height_over h p)
     (signs.0.above (less_from (pos 0) (height_over h t) parts.0)))
     (still_in_all t p halves signs.1 parts.1)
-
--- what holds of each of two blocks together holds of each
-pub all_parts : {X : Type 0} (P : X → Type 0) (xs ys : List X) → AllByRecursion P (xs ++ ys)
-    → AllByRecursion P xs × AllByRecursion P ys
-all_parts P [] ys all = (tt, all)
-all_parts P (x ∷ xs) ys all =
-    let rest = all_parts P xs ys all.1 in ((all.0, rest.0), rest.1)
 
 -- a half-plane that holds the point gives a form that is not 0
 pub in_all_are_forms : (t o : Spot) (halves : List Half) → is_in_all halves t ≡ true

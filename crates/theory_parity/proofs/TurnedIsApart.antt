@@ -12,13 +12,16 @@ use Rattle.std.proofs.lemmas.Bool.Decides.{Decides-int_eq}
 use Rattle.std.proofs.lemmas.List.{reverse-append}
 use Rattle.std.proofs.lemmas.List.Sorted.{IsPermutation-refl, IsPermutation-reverse}
 use Rattle.std.proofs.lemmas.List.Sorted.{IsPermutation-cons, IsPermutation-append}
+use Rattle.theory_lists.proofs.Passing.{all_pass}
 use Rattle.theory_lists.specs.Members.{Stands, AllOfTwo}
-use Rattle.theory_lists.proofs.Blocks.{all-append, two-append}
+use Rattle.theory_lists.proofs.Blocks.{all-append, two-append, two_in_parts}
 use Rattle.theory_lists.proofs.InAnyOrder.{two_permuted}
 use Rattle.theory_lists.proofs.Members.{all_stands, all_follow, all_both}
 use Rattle.theory_numbers.proofs.Arrows.{cross-turn, dot_comm}
 use Rattle.theory_numbers.proofs.Ring.{mul_comm, neg-mul-neg}
 use Rattle.theory_numbers.proofs.Signs.{same_tests}
+use Rattle.theory_lists.proofs.Blocks.{all_in_parts}
+use Rattle.theory_lists.proofs.Blocks.{stands_before, stands_behind}
 use Rattle.sb_fraction.specs.declared.point.Point.{Point}
 use Rattle.sb_fraction.specs.Spots.{Spot, spot_at}
 use Rattle.sb_fraction.specs.Edges.{Edge, edge, seen_from, turn_at, is_on}
@@ -28,8 +31,7 @@ use Rattle.theory_plans.specs.Plans.{is_of_each_two, corners_in, are_apart}
 use Rattle.theory_plans.proofs.TouchingEdges.{each_two_pass}
 use Rattle.theory_parity.specs.Sides.{turned_edge, turned_loop, is_left_at_first}
 use Rattle.theory_parity.specs.Sides.{put_left}
-use Rattle.theory_parity.proofs.StayNear.{all_parts}
-use Rattle.theory_parity.proofs.TurnedLoops.{way-more, turned_edges, stands_first, stands_later}
+use Rattle.theory_parity.proofs.TurnedLoops.{way-more, turned_edges}
 
 -- ---- touching does not see which way an edge runs
 
@@ -137,14 +139,6 @@ near_turned e f near =
 
 -- ---- lists
 
-two_parts : {X : Type 0} (R : X → X → Type 0) (xs ys : List X) → AllOfTwo R (xs ++ ys)
-    → (AllOfTwo R xs × AllOfTwo R ys) × AllByRecursion (λ x. AllByRecursion (R x) ys) xs
-two_parts R [] ys two = ((tt, two), tt)
-two_parts R (x ∷ xs) ys two =
-    let first = all_parts (R x) xs ys two.0 in
-    let rest = two_parts R xs ys two.1 in
-    (((first.0, rest.0.0), rest.0.1), (first.1, rest.1))
-
 two_of_each : {X : Type 0} (R : X → X → Type 0) (f : X → X) → ((x y : X) → R x y → R (f x) (f y))
     → (xs : List X) → AllOfTwo R xs → AllOfTwo R (map f xs)
 two_of_each R f step [] two = tt
@@ -158,13 +152,9 @@ two_of_each {X} R f step (x ∷ xs) two =
 pass_each_two : {X : Type 0} (test : X → X → Bool) (xs : List X)
     → AllOfTwo (λ x y. test x y ≡ true) xs → is_of_each_two test xs ≡ true
 pass_each_two test [] two = refl
-pass_each_two {X} test (x ∷ xs) two =
-    and_from (list_all (test x) xs) (is_of_each_two test xs) (passes xs two.0)
+pass_each_two test (x ∷ xs) two =
+    and_from (list_all (test x) xs) (is_of_each_two test xs) (all_pass (test x) xs two.0)
     (pass_each_two test xs two.1)
-  where
-    passes : (ys : List X) → AllByRecursion (λ y. test x y ≡ true) ys → list_all (test x) ys ≡ true
-    passes [] all = refl
-    passes (y ∷ ys) all = and_from (test x y) (list_all (test x) ys) all.0 (passes ys all.1)
 
 -- ---- the edges of a loop turned round, in another order
 
@@ -267,14 +257,14 @@ ends_of_loops (points ∷ loops) =
     (edges_of_loop points) (edges_of loops)
     (all_follow
     (λ e known. (
-      stands_first e.a points (corners_in loops) known.0,
-      stands_first e.b points (corners_in loops) known.1,
+      stands_before e.a points (corners_in loops) known.0,
+      stands_before e.b points (corners_in loops) known.1,
     ))
     (edges_of_loop points) (ends_of_loop points))
     (all_follow
     (λ e known. (
-      stands_later e.a points (corners_in loops) known.0,
-      stands_later e.b points (corners_in loops) known.1,
+      stands_behind e.a points (corners_in loops) known.0,
+      stands_behind e.b points (corners_in loops) known.1,
     ))
     (edges_of loops) (ends_of_loops loops))
 
@@ -337,7 +327,7 @@ all_put : (P : Edge → Type 0) → ((e : Edge) → P e → P (turned_edge e)) �
     → AllByRecursion P (edges_of (map (put_left edges) loops))
 all_put P sees_none edges [] all = tt
 all_put P sees_none edges (points ∷ loops) all =
-    let blocks = all_parts P (edges_of_loop points) (edges_of loops) all in
+    let blocks = all_in_parts P (edges_of_loop points) (edges_of loops) all in
     all-append P (edges_of_loop (put_left edges points)) (edges_of (map (put_left edges) loops))
     (one_put P sees_none edges points blocks.0) (all_put P sees_none edges loops blocks.1)
 
@@ -365,8 +355,8 @@ edges_apart : (edges : List Edge) (loops : List (List Point)) → AllOfTwo Diffe
     → AllOfTwo AreNear (edges_of (map (put_left edges) loops))
 edges_apart edges [] corners near = tt
 edges_apart edges (points ∷ loops) corners near =
-    let apart = two_parts Differ points (corners_in loops) corners in
-    let parts = two_parts AreNear (edges_of_loop points) (edges_of loops) near in
+    let apart = two_in_parts Differ points (corners_in loops) corners in
+    let parts = two_in_parts AreNear (edges_of_loop points) (edges_of loops) near in
     two-append AreNear (edges_of_loop (put_left edges points))
     (edges_of (map (put_left edges) loops))
     (by_case (λ l. AllOfTwo AreNear (edges_of_loop l)) edges points parts.0.0

@@ -2,7 +2,7 @@
 -- does not have the solid on its left.
 
 use Rattle.std.proofs.Common.{◌≡◌, refl, sym, ap, ◌∙◌, arith, pos, neg_ℤ}
-use Rattle.std.proofs.Common.{Bool, true, not, ◌&&◌, nat_le, length, suc}
+use Rattle.std.proofs.Common.{true, not, ◌&&◌, nat_le, length, suc}
 use Rattle.std.proofs.Common.{List, [], ◌∷◌, map, reverse}
 use Rattle.std.specs.Ordering.{int_eq}
 use Rattle.std.specs.List.{list_all, AllByRecursion}
@@ -10,11 +10,12 @@ use Rattle.std.proofs.lemmas.Int.{ints}
 use Rattle.std.proofs.lemmas.Bool.{and_parts, and_from, false≢true, le-leb}
 use Rattle.std.proofs.lemmas.Bool.Decides.{Decides-int_eq}
 use Rattle.std.proofs.lemmas.List.{length-map, length-reverse}
-use Rattle.std.proofs.lemmas.List.Sorted.{IsPermutation-reverse}
+use Rattle.theory_lists.proofs.Passing.{all_pass-reverse}
 use Rattle.theory_lists.specs.Members.{Stands}
-use Rattle.theory_lists.proofs.InAnyOrder.{all_permuted}
 use Rattle.theory_numbers.proofs.Shapes.{var, minus, negated, times, equal}
 use Rattle.theory_numbers.proofs.Signs.{same_tests}
+use Rattle.theory_lists.proofs.Members.{all_that_stand}
+use Rattle.theory_lists.proofs.Blocks.{all_in_parts}
 use Rattle.sb_fraction.specs.declared.point.Point.{Point}
 use Rattle.sb_fraction.specs.Edges.{Edge, edge}
 use Rattle.sb_fraction.specs.Plane.{is_plan_point}
@@ -22,15 +23,12 @@ use Rattle.theory_plans.specs.LoopEdges.{edges_back, edges_of_loop, edges_of}
 use Rattle.theory_plans.specs.Loops.{bend, is_bent, are_bent, is_bent_loop, comes_before, is_loop}
 use Rattle.theory_plans.specs.Loops.{is_least_first, are_loops}
 use Rattle.theory_plans.specs.Plans.{are_apart, keep_left, is_plan}
+use Rattle.theory_plans.proofs.CommonPointIsCorner.{bent_at_corner, loops_are_bent}
 use Rattle.theory_plans.proofs.EdgesOfPlans.{loop_is}
 use Rattle.theory_parity.specs.Sides.{AreBentApart, turned_edge, turned_loop}
 use Rattle.theory_parity.specs.Sides.{put_left}
-use Rattle.theory_parity.proofs.EachMember.{all_from_each}
-use Rattle.theory_parity.proofs.EdgesApart.{bent_between}
-use Rattle.theory_parity.proofs.NearAnEdge.{bent_loops}
-use Rattle.theory_parity.proofs.StayNear.{all_parts}
 use Rattle.theory_parity.proofs.TurnedIsApart.{put_is_apart, by_case}
-use Rattle.theory_parity.proofs.TurnedLoops.{turned_edges, put_left_keeps_left, list_all_from}
+use Rattle.theory_parity.proofs.TurnedLoops.{turned_edges, put_left_keeps_left}
 
 -- ---- a loop turned round is bent
 
@@ -67,13 +65,13 @@ module _ (loops : List (List Point)) (are : AreBentApart loops) where
   way_is_bent a b [] first second there next =
       and_from (is_bent a b first) (is_bent b first second)
       (sym (bent-back a b first)
-      ∙ bent_between loops are (edge first b) (edge b a) there.1.0 there.0 refl)
+      ∙ bent_at_corner loops are.bent are.apart (edge first b) (edge b a) there.1.0 there.0 refl)
       (sym (bent-back b first second)
-      ∙ bent_between loops are (edge second first) (edge first b) next there.1.0 refl)
+      ∙ bent_at_corner loops are.bent are.apart (edge second first) (edge first b) next there.1.0 refl)
   way_is_bent a b (c ∷ cs) first second there next =
       and_from (is_bent a b c) (are_bent b c cs first second)
       (sym (bent-back a b c)
-      ∙ bent_between loops are (edge c b) (edge b a) there.1.0 there.0 refl)
+      ∙ bent_at_corner loops are.bent are.apart (edge c b) (edge b a) there.1.0 there.0 refl)
       (way_is_bent b c cs first second there.1 next)
 
   loop_is_bent : (points : List Point) → nat_le 2 (length points) ≡ true
@@ -104,32 +102,18 @@ length-turned_loop : (points : List Point) → length (turned_loop points) ≡ l
 length-turned_loop [] = refl
 length-turned_loop (a ∷ points) = ap suc (length-reverse points)
 
-all_from_list : {X : Type 0} (test : X → Bool) (xs : List X) → list_all test xs ≡ true
-    → AllByRecursion (λ x. test x ≡ true) xs
-all_from_list test [] all = tt
-all_from_list test (x ∷ xs) all =
-    let parts = and_parts (test x) (list_all test xs) all in
-    (parts.0, all_from_list test xs parts.1)
-
-all_reversed : {X : Type 0} (test : X → Bool) (xs : List X) → list_all test xs ≡ true
-    → list_all test (reverse xs) ≡ true
-all_reversed test xs all =
-    list_all_from test (reverse xs)
-    (all_permuted (λ x. test x ≡ true) xs (reverse xs) (IsPermutation-reverse xs)
-    (all_from_list test xs all))
-
 in_range_turned : (points : List Point) → list_all is_plan_point points ≡ true
     → list_all is_plan_point (turned_loop points) ≡ true
 in_range_turned [] all = all
 in_range_turned (a ∷ points) all =
     let parts = and_parts (is_plan_point a) (list_all is_plan_point points) all in
     and_from (is_plan_point a) (list_all is_plan_point (reverse points)) parts.0
-    (all_reversed is_plan_point points parts.1)
+    (all_pass-reverse is_plan_point points parts.1)
 
 least_turned : (points : List Point) → is_least_first points ≡ true
     → is_least_first (turned_loop points) ≡ true
 least_turned [] least = least
-least_turned (a ∷ points) least = all_reversed (comes_before a) points least
+least_turned (a ∷ points) least = all_pass-reverse (comes_before a) points least
 
 put_is_loop : (edges : List Edge) (points : List Point) → is_loop points ≡ true
     → is_bent_loop (put_left edges points) ≡ true → is_loop (put_left edges points) ≡ true
@@ -155,7 +139,7 @@ module _ (loops : List (List Point)) (are : AreBentApart loops) where
   all_put_are_loops edges [] all there = refl
   all_put_are_loops edges (points ∷ rest) all there =
       let parts = and_parts (is_loop points) (list_all is_loop rest) all in
-      let blocks = all_parts (λ e. Stands e (edges_of loops)) (edges_of_loop points)
+      let blocks = all_in_parts (λ e. Stands e (edges_of loops)) (edges_of_loop points)
       (edges_of rest) there in
       and_from (is_loop (put_left edges points)) (list_all is_loop (map (put_left edges) rest))
       (put_is_loop edges points parts.0
@@ -171,11 +155,11 @@ put_left_is_plan loops loops_are apart =
     let put = map (put_left (edges_of loops)) loops in
     let parts = and_parts (nat_le 1 (length loops)) (list_all is_loop loops) loops_are in
     let are : AreBentApart loops =
-    record { bent = bent_loops loops parts.1; apart = apart } in
+    record { bent = loops_are_bent loops parts.1; apart = apart } in
     and_from (are_loops put) (are_apart put && keep_left put)
     (and_from (nat_le 1 (length put)) (list_all is_loop put)
     (ap (nat_le 1) (length-map loops (put_left (edges_of loops))) ∙ parts.0)
     (all_put_are_loops loops are (edges_of loops) loops parts.1
-    (all_from_each (λ e. Stands e (edges_of loops)) (edges_of loops) (λ e stands. stands))))
+    (all_that_stand (λ e. Stands e (edges_of loops)) (edges_of loops) (λ e stands. stands))))
     (and_from (are_apart put) (keep_left put) (put_is_apart (edges_of loops) loops apart)
     (put_left_keeps_left loops are))

@@ -1,13 +1,15 @@
 -- Loops turned round have the same edges, each run through the other way; and loops of which each
 -- is turned where the solid is not on the left of its first edge keep the solid on the left.
 
-use Rattle.std.proofs.Common.{◌≡◌, refl, sym, ap, ap₂, ◌∙◌, inl, inr, arith, pos, neg_ℤ}
+use Rattle.std.proofs.Common.{◌≡◌, refl, sym, ap, ap₂, ◌∙◌, inl, arith, pos, neg_ℤ}
 use Rattle.std.proofs.Common.{Bool, true, false, not, int_lt, List, [], ◌∷◌, ◌++◌, map}
 use Rattle.std.proofs.Common.{reverse, subst, if◌then◌else◌, ◌↔◌}
 use Rattle.std.specs.List.{list_all, AllByRecursion}
 use Rattle.std.proofs.lemmas.Int.{ints}
-use Rattle.std.proofs.lemmas.Bool.{and_parts, and_from, false≢true}
+use Rattle.std.proofs.lemmas.Bool.{and_parts, false≢true}
 use Rattle.std.proofs.lemmas.List.{reverse-append, reverse-reverse}
+use Rattle.std.proofs.lemmas.List.Folds.{list_all-append}
+use Rattle.theory_lists.proofs.Passing.{all_pass}
 use Rattle.theory_lists.specs.Members.{Stands}
 use Rattle.theory_lists.specs.Parity.{differ, is_odd_number}
 use Rattle.theory_lists.proofs.Blocks.{all-append}
@@ -17,6 +19,9 @@ use Rattle.theory_numbers.specs.Arrows.{Arrow}
 use Rattle.theory_numbers.proofs.Arrows.{cross-turn}
 use Rattle.theory_numbers.proofs.Signs.{same_less}
 use Rattle.theory_numbers.proofs.SignTables.{hit_of, hit_of-exchanged}
+use Rattle.theory_lists.proofs.Members.{all_that_stand}
+use Rattle.theory_lists.proofs.Blocks.{all_in_parts}
+use Rattle.theory_lists.proofs.Blocks.{stands_before, stands_behind}
 use Rattle.sb_fraction.specs.declared.point.Point.{Point}
 use Rattle.sb_fraction.specs.Spots.{Spot}
 use Rattle.sb_fraction.specs.Edges.{Edge, edge, seen_from, turn_at}
@@ -26,8 +31,6 @@ use Rattle.theory_plans.specs.Plans.{is_solid_left_of, right_of, middle_of, keep
 use Rattle.theory_plans.specs.Rays.{is_left_of, is_struck}
 use Rattle.theory_parity.specs.Sides.{AreBentApart, turned_edge, turned_loop, is_left_at_first}
 use Rattle.theory_parity.specs.Sides.{put_left}
-use Rattle.theory_parity.proofs.EachMember.{all_from_each}
-use Rattle.theory_parity.proofs.StayNear.{all_parts}
 use Rattle.theory_parity.proofs.OneSideALoop.{turned_answer, one_side_a_loop}
 
 -- ---- a ray does not see which way an edge runs
@@ -125,27 +128,7 @@ same_answer edges loops e =
     (odd_where_put (is_struck (right_of e) (middle_of e))
     (struck-turned (right_of e) (middle_of e)) edges loops)
 
--- ---- lists
-
--- what stands in the first of two lists stands in both together
-pub stands_first : {X : Type 0} (x : X) (xs ys : List X) → Stands x xs → Stands x (xs ++ ys)
-stands_first x [] ys stands = absurd stands
-stands_first x (y ∷ xs) ys (inl same) = inl same
-stands_first x (y ∷ xs) ys (inr later) = inr (stands_first x xs ys later)
-
--- so does what stands in the second
-pub stands_later : {X : Type 0} (x : X) (xs ys : List X) → Stands x ys → Stands x (xs ++ ys)
-stands_later x [] ys stands = stands
-stands_later x (y ∷ xs) ys stands = inr (stands_later x xs ys stands)
-
 -- ---- put on the left
-
--- a test that each item passes
-pub list_all_from : {X : Type 0} (test : X → Bool) (xs : List X)
-    → AllByRecursion (λ x. test x ≡ true) xs → list_all test xs ≡ true
-list_all_from test [] all = refl
-list_all_from test (x ∷ xs) all =
-    and_from (test x) (list_all test xs) all.0 (list_all_from test xs all.1)
 
 module _ (loops : List (List Point)) (are : AreBentApart loops) where
   abbrev IsLeft : Edge → Type 0
@@ -159,7 +142,7 @@ module _ (loops : List (List Point)) (are : AreBentApart loops) where
   by_first [] stands bent = absurd (false≢true bent)
   by_first (a ∷ []) stands bent = absurd (false≢true bent)
   by_first (a ∷ b ∷ points) stands bent =
-      all_from_each
+      all_that_stand
       (λ e. is_solid_left_of e (edges_of loops) ≡ is_solid_left_of (edge a b) (edges_of loops))
       (edges_of_loop (a ∷ b ∷ points))
       (λ e e_in. one_side_a_loop loops are (a ∷ b ∷ points) stands e (edge a b) e_in (inl refl))
@@ -191,7 +174,7 @@ module _ (loops : List (List Point)) (are : AreBentApart loops) where
   put_all [] stand bent there = tt
   put_all (points ∷ rest) stand bent there =
       let parts = and_parts (is_bent_loop points) (list_all is_bent_loop rest) bent in
-      let blocks = all_parts (λ e. Stands e (edges_of loops)) (edges_of_loop points)
+      let blocks = all_in_parts (λ e. Stands e (edges_of loops)) (edges_of_loop points)
       (edges_of rest) there in
       all-append IsLeft (edges_of_loop (put_left (edges_of loops) points))
       (edges_of (map (put_left (edges_of loops)) rest))
@@ -201,20 +184,12 @@ module _ (loops : List (List Point)) (are : AreBentApart loops) where
   pub put_left_keeps_left : keep_left (map (put_left (edges_of loops)) loops) ≡ true
   put_left_keeps_left =
       let put = edges_of (map (put_left (edges_of loops)) loops) in
-      list_all_from (λ e. is_solid_left_of e put) put
+      all_pass (λ e. is_solid_left_of e put) put
       (all_follow (λ e left. same_answer (edges_of loops) loops e ∙ left) put
-      (put_all loops (all_from_each (λ l. Stands l loops) loops (λ l stands. stands)) are.bent
-      (all_from_each (λ e. Stands e (edges_of loops)) (edges_of loops) (λ e stands. stands))))
+      (put_all loops (all_that_stand (λ l. Stands l loops) loops (λ l stands. stands)) are.bent
+      (all_that_stand (λ e. Stands e (edges_of loops)) (edges_of loops) (λ e stands. stands))))
 
 -- ---- loops that keep it on the left already
-
-list_all_parts : {X : Type 0} (test : X → Bool) (xs ys : List X) → list_all test (xs ++ ys) ≡ true
-    → (list_all test xs ≡ true) × (list_all test ys ≡ true)
-list_all_parts test [] ys all = (refl, all)
-list_all_parts test (x ∷ xs) ys all =
-    let parts = and_parts (test x) (list_all test (xs ++ ys)) all in
-    let rest = list_all_parts test xs ys parts.1 in
-    (and_from (test x) (list_all test xs) parts.0 rest.0, rest.1)
 
 left_at_first : (edges : List Edge) (points : List Point)
     → list_all (λ e. is_solid_left_of e edges) (edges_of_loop points) ≡ true
@@ -230,8 +205,10 @@ put_none : (edges : List Edge) (loops : List (List Point))
     → map (put_left edges) loops ≡ loops
 put_none edges [] all = refl
 put_none edges (points ∷ loops) all =
-    let parts = list_all_parts (λ e. is_solid_left_of e edges) (edges_of_loop points)
-    (edges_of loops) all in
+    let parts = and_parts (list_all (λ e. is_solid_left_of e edges) (edges_of_loop points))
+    (list_all (λ e. is_solid_left_of e edges) (edges_of loops))
+    (sym (list_all-append (λ e. is_solid_left_of e edges) (edges_of_loop points) (edges_of loops))
+    ∙ all) in
     ap₂ (λ s t. s ∷ t)
     (ap (λ b. if b then points else turned_loop points) (left_at_first edges points parts.0))
     (put_none edges loops parts.1)
@@ -253,7 +230,7 @@ stand_turned points e stands =
     all_stands (λ f. Stands (turned_edge f) (edges_of_loop points)) e
     (edges_of_loop (turned_loop points))
     (turned_edges (λ f. Stands (turned_edge f) (edges_of_loop points)) points
-    (all_from_each (λ f. Stands f (edges_of_loop points)) (edges_of_loop points)
+    (all_that_stand (λ f. Stands f (edges_of_loop points)) (edges_of_loop points)
     (λ f there. there)))
     stands
 
@@ -297,9 +274,9 @@ stands_among : (e : Edge) (before : List (List Point)) (points : List Point)
     (after : List (List Point)) → Stands e (edges_of_loop points)
     → Stands e (edges_of (before ++ points ∷ after))
 stands_among e [] points after stands =
-    stands_first e (edges_of_loop points) (edges_of after) stands
+    stands_before e (edges_of_loop points) (edges_of after) stands
 stands_among e (first ∷ before) points after stands =
-    stands_later e (edges_of_loop first) (edges_of (before ++ points ∷ after))
+    stands_behind e (edges_of_loop first) (edges_of (before ++ points ∷ after))
     (stands_among e before points after stands)
 
 -- that at each edge of the loop, turned round, is the opposite of what it was

@@ -21,7 +21,8 @@ is_proper_edge e = is_in_range e && has_length e
 
 -- ---- ways that are bent go from one point to another
 
-same_point : (a b : Point) → is_same_point a b ≡ true → a ≡ b
+-- points with the same numbers are one
+pub same_point : (a b : Point) → is_same_point a b ≡ true → a ≡ b
 same_point a b same =
     let parts = and_parts (int_eq a.x b.x) (int_eq a.y b.y) same in
     let at : Point → ℤ → ℤ → Point = λ p x y. record p { x = x; y = y } in
@@ -41,7 +42,8 @@ straight_at_last a b =
     (times (minus (var b.y) (var a.y)) (minus (var b.x) (var b.x))))
     (num 0) (omega arith)
 
-bent_is_not_0 : (z : ℤ) → not (int_eq z (pos 0)) ≡ true → z ≡ pos 0 → ⊥
+-- where a way is bent the product is not 0
+pub bent_is_not_0 : (z : ℤ) → not (int_eq z (pos 0)) ≡ true → z ≡ pos 0 → ⊥
 bent_is_not_0 z other none =
     false≢true (ap not (sym ((Decides-int_eq z (pos 0)).1 none)) ∙ other)
 

@@ -13,6 +13,7 @@ pub mod PointsAlike
 pub mod RaysToTheRight
 pub mod ConvexIsPlan
 pub mod TouchingEdges
+pub mod CommonPointIsCorner
 -- rectangles
 pub mod RectangleIsPlan
 pub mod InsideRectangle

@@ -1,22 +1,19 @@
 -- Whether a point lies on an edge, beside it or inside a plan does not depend on how the point is
 -- written.
 
-use Rattle.std.proofs.Common.{◌≡◌, sym, ap, ap₂, ◌∙◌, arith, ℤ, pos, ◌*ℤ◌, ◌-ℤ◌, ◌<ℤ◌}
+use Rattle.std.proofs.Common.{◌≡◌, sym, ap, ap₂, ◌∙◌, arith, ℤ, pos, ◌*ℤ◌, ◌-ℤ◌}
 use Rattle.std.proofs.Common.{Bool, false, not, ◌&&◌, int_lt, int_le, if◌then◌else◌, List}
 use Rattle.std.specs.List.{list_any}
 use Rattle.std.specs.Ordering.{int_eq}
-use Rattle.std.proofs.lemmas.Int.{ints}
 use Rattle.std.proofs.Math.Path.{fun_ext}
-use Rattle.std.proofs.lemmas.Bool.Decides.{Decides-int_eq}
 use Rattle.theory_lists.specs.Parity.{is_odd_number}
 use Rattle.theory_numbers.specs.Arrows.{Arrow, cross, dot, scale}
 use Rattle.theory_numbers.proofs.Arrows.{same_arrow, cross-scale, scale-cross, dot-scale, scale-dot}
-use Rattle.theory_numbers.proofs.Products.{positive_product, positive_factor, weak_negative_product}
-use Rattle.theory_numbers.proofs.Products.{weak_negative_factor, unscale_equal, scale_less}
-use Rattle.theory_numbers.proofs.Products.{unscale_less, negative_product, negative_factor}
-use Rattle.theory_numbers.proofs.Ring.{mul_comm, mul-zero}
+use Rattle.theory_numbers.proofs.Multiples.{sign_of_multiple, other_sign_of_multiple}
+use Rattle.theory_numbers.proofs.Multiples.{order_of_multiples, zero_of_multiple}
+use Rattle.theory_numbers.proofs.Multiples.{weak_sign_of_multiple}
+use Rattle.theory_numbers.proofs.Ring.{mul_comm}
 use Rattle.theory_numbers.proofs.Shapes.{var, minus, times, equal}
-use Rattle.theory_numbers.proofs.Signs.{same_less, same_tests, test_at_most, at_most_from}
 use Rattle.sb_fraction.specs.declared.point.Point.{Point}
 use Rattle.sb_fraction.specs.Spots.{Spot, spot, IsSpot}
 use Rattle.sb_fraction.specs.Edges.{Edge, seen_from, turn_at, reach_at, is_on, is_within}
@@ -39,48 +36,6 @@ same_of_alike f sees p q p_is q_is alike =
 
     same : scaled q.w p ≡ scaled p.w q
     same = same_spot alike.x alike.y alike.z (mul_comm q.w p.w)
-
--- ---- tests that lose a positive factor
-
--- of one sign
-pub sign_of_multiple : (k a : ℤ) → pos 0 <ℤ k → int_lt (pos 0) (k *ℤ a) ≡ int_lt (pos 0) a
-sign_of_multiple k a above =
-    same_less (pos 0) (k *ℤ a) (pos 0) a (positive_factor k a above)
-    (λ less. positive_product k a above less)
-
--- of the other sign
-pub other_sign_of_multiple : (k a : ℤ) → pos 0 <ℤ k → int_lt (k *ℤ a) (pos 0) ≡ int_lt a (pos 0)
-other_sign_of_multiple k a above =
-    same_less (k *ℤ a) (pos 0) a (pos 0) (negative_factor k a above)
-    (λ less. negative_product k a above less)
-
--- of two multiples
-pub order_of_multiples : (k a b : ℤ) → pos 0 <ℤ k → int_lt (k *ℤ a) (k *ℤ b) ≡ int_lt a b
-order_of_multiples k a b above =
-    same_less (k *ℤ a) (k *ℤ b) a b (unscale_less k a b (omega (arith, ints)))
-    (λ less. scale_less k a b above less)
-
--- whether they are equal
-pub equality_of_multiples : (k a b : ℤ) → pos 0 <ℤ k → int_eq (k *ℤ a) (k *ℤ b) ≡ int_eq a b
-equality_of_multiples k a b above =
-    same_tests (int_eq (k *ℤ a) (k *ℤ b)) (int_eq a b)
-    (λ same. (Decides-int_eq a b).1
-    (unscale_equal k a b (λ none. omega (arith, ints)) ((Decides-int_eq (k *ℤ a) (k *ℤ b)).0 same)))
-    (λ same. (Decides-int_eq (k *ℤ a) (k *ℤ b)).1 (ap (λ n. k *ℤ n) ((Decides-int_eq a b).0 same)))
-
--- whether one is 0
-pub zero_of_multiple : (k a : ℤ) → pos 0 <ℤ k → int_eq (k *ℤ a) (pos 0) ≡ int_eq a (pos 0)
-zero_of_multiple k a above =
-    ap (int_eq (k *ℤ a)) (sym (mul-zero k)) ∙ equality_of_multiples k a (pos 0) above
-
--- whether one is at most 0
-pub weak_sign_of_multiple : (k a : ℤ) → pos 0 <ℤ k → int_le (k *ℤ a) (pos 0) ≡ int_le a (pos 0)
-weak_sign_of_multiple k a above =
-    same_tests (int_le (k *ℤ a) (pos 0)) (int_le a (pos 0))
-    (λ least. test_at_most a (pos 0)
-    (weak_negative_factor k a above (at_most_from (k *ℤ a) (pos 0) least)))
-    (λ least. test_at_most (k *ℤ a) (pos 0)
-    (weak_negative_product k a (omega (arith, ints)) (at_most_from a (pos 0) least)))
 
 -- ---- what is seen from a point
 

@@ -11,105 +11,35 @@ use Rattle.std.proofs.lemmas.Bool.{and_from, and_parts, or_left, or_right, false
 use Rattle.std.proofs.lemmas.Bool.Decides.{Decides-int_eq}
 use Rattle.theory_numbers.specs.Arrows.{Arrow, arrow, cross, dot, scale}
 use Rattle.theory_numbers.proofs.Shapes.{var, num, plus, minus, times, equal, cross_by}
-use Rattle.theory_numbers.proofs.Shapes.{dot_by, cross_is, dot_is, dot_eq}
+use Rattle.theory_numbers.proofs.Shapes.{dot_by, cross_is, dot_is}
 use Rattle.theory_numbers.proofs.Products.{positive_product, negative_product}
-use Rattle.theory_numbers.proofs.Products.{product_of_negatives}
-use Rattle.theory_numbers.proofs.Products.{weak_negative_product, weak_negative_factor, weak_square}
-use Rattle.theory_numbers.proofs.Products.{zero_of_positive, negative_factor, positive_factor}
+use Rattle.theory_numbers.proofs.Products.{weak_negative_product, weak_negative_factor}
+use Rattle.theory_numbers.proofs.Products.{zero_of_positive, negative_factor}
 use Rattle.theory_numbers.proofs.Ring.{mul_comm, zero-mul, mul-zero}
 use Rattle.theory_numbers.proofs.Products.{weak_product_of_negatives}
 use Rattle.theory_numbers.proofs.Arrows.{same_arrow, cross-turn, cross-self, dot_comm}
 use Rattle.theory_numbers.proofs.Arrows.{cross-scale, scale-cross, dot-scale, scale-dot}
 use Rattle.theory_numbers.proofs.ThreeTerms.{frame_dot}
+use Rattle.theory_numbers.proofs.Lengths.{no_length, some_length, seen_by, opposite_ways, turns_over}
 use Rattle.theory_numbers.proofs.Signs.{test_less, test_at_most, at_most_from, sign_cases, equal_or_not}
 use Rattle.sb_fraction.specs.declared.point.Point.{Point}
 use Rattle.sb_fraction.specs.Spots.{Spot, IsSpot, spot_at}
 use Rattle.sb_fraction.specs.Edges.{Edge, seen_from, turn_at, reach_at, is_on}
 use Rattle.theory_lists.specs.Members.{AllOfTwo}
-use Rattle.theory_lists.proofs.Members.{all_follow}
+use Rattle.theory_lists.proofs.Members.{two_follow}
 use Rattle.theory_plans.specs.LoopEdges.{edges_of}
 use Rattle.theory_plans.specs.Plans.{do_touch, is_parted, is_plan, is_same_point, is_consecutive}
-use Rattle.theory_plans.specs.Plans.{is_of_each_two, corners_in}
+use Rattle.theory_plans.specs.Plans.{is_of_each_two, corners_in, are_apart}
 use Rattle.theory_plans.proofs.EdgesOfPlans.{plan_is}
 
 -- the way from a to b
-abbrev from_to : Arrow → Arrow → Arrow
+abbrev pub from_to : Arrow → Arrow → Arrow
 from_to a b = arrow (b.x -ℤ a.x) (b.y -ℤ a.y)
-
--- ---- vectors on one line
-
--- a vector of length 0 has no product with any
-no_length : (a : Arrow) → dot a a ≡ pos 0 → (a.x ≡ pos 0) × (a.y ≡ pos 0)
-no_length a none =
-    let x = weak_square a.x in
-    let y = weak_square a.y in
-    let spread = dot_eq a a in
-    (square_0 a.x (omega (arith, ints)), square_0 a.y (omega (arith, ints)))
-  where
-    square_0 : (z : ℤ) → z *ℤ z ≡ pos 0 → z ≡ pos 0
-    square_0 z zero =
-        by_lt_z z (pos 0)
-        (λ below. let above = product_of_negatives z z below below in absurd (omega (arith, ints)))
-        (λ high. by_lt_z (pos 0) z
-        (λ up. let above = positive_product z z up up in absurd (omega (arith, ints)))
-        (λ low. omega (arith, ints)))
-
-some_length : (a : Arrow) → (dot a a ≡ pos 0 → ⊥) → pos 0 <ℤ dot a a
-some_length a some =
-    let x = weak_square a.x in
-    let y = weak_square a.y in
-    let spread = dot_eq a a in
-    by_lt_z (pos 0) (dot a a) (λ above. above) (λ low. absurd (some (omega (arith, ints))))
-
--- of vectors on one line the second sees a third one as the first does, but for a factor
-seen_by : (a b g : Arrow) → cross a b ≡ pos 0 → dot a a *ℤ cross b g ≡ dot a b *ℤ cross a g
-seen_by a b g line =
-    whole ∙ ap (λ n. (dot a b *ℤ cross a g) -ℤ (n *ℤ dot a g)) line ∙ left
-  where
-    whole : dot a a *ℤ cross b g ≡ (dot a b *ℤ cross a g) -ℤ (cross a b *ℤ dot a g)
-    whole =
-        equal (times (dot_is a a) (cross_is b g))
-        (minus (times (dot_is a b) (cross_is a g)) (times (cross_is a b) (dot_is a g)))
-        (omega arith)
-
-    left : (dot a b *ℤ cross a g) -ℤ (pos 0 *ℤ dot a g) ≡ dot a b *ℤ cross a g
-    left =
-        equal (minus (times (var (dot a b)) (var (cross a g))) (times (num 0) (var (dot a g))))
-        (times (var (dot a b)) (var (cross a g))) (omega arith)
-
--- two vectors on one line that are not 0 and do not point one way point opposite ways
-opposite_ways : (a b : Arrow) → cross a b ≡ pos 0 → dot a b ≤ℤ pos 0 → pos 0 <ℤ dot a a
-    → pos 0 <ℤ dot b b → dot a b <ℤ pos 0
-opposite_ways a b line across long_a long_b =
-    by_lt_z (dot a b) (pos 0) (λ below. below) (λ high.
-    let none : dot a b ≡ pos 0 = omega (arith, ints) in
-    let product = positive_product (dot a a) (dot b b) long_a long_b in
-    let whole = frame_dot a b b in
-    let squares : (dot a b *ℤ dot a b) +ℤ (cross a b *ℤ cross a b) ≡ pos 0 =
-    ap₂ (λ s t. (s *ℤ s) +ℤ (t *ℤ t)) none line in
-    absurd (omega (arith, ints)))
-
--- one sees a vector on the left where the other sees it on the right
-turns_over : (a b g : Arrow) → cross a b ≡ pos 0 → dot a b <ℤ pos 0 → pos 0 <ℤ dot a a
-    → (pos 0 <ℤ cross a g → cross b g <ℤ pos 0) × (cross a g <ℤ pos 0 → pos 0 <ℤ cross b g)
-turns_over a b g line across long =
-    let same = seen_by a b g line in (
-      λ left. negative_factor (dot a a) (cross b g) long
-          (subst (λ n. n <ℤ pos 0) (sym same) (opposite_product left)),
-      λ right. positive_factor (dot a a) (cross b g) long
-          (subst (λ n. pos 0 <ℤ n) (sym same)
-          (product_of_negatives (dot a b) (cross a g) across right)),
-    )
-  where
-    opposite_product : pos 0 <ℤ cross a g → (dot a b *ℤ cross a g) <ℤ pos 0
-    opposite_product left =
-        let product = negative_product (cross a g) (dot a b) left across in
-        let turned = mul_comm (dot a b) (cross a g) in
-        omega (arith, ints)
 
 -- ---- what is seen from an end
 
-seen_cross : (a g d : Arrow)
+-- the product of the ways from an end
+pub seen_cross : (a g d : Arrow)
     → cross (from_to a g) (from_to a d) ≡ (cross g d +ℤ cross a g) -ℤ cross a d
 seen_cross a g d =
     equal
@@ -173,7 +103,7 @@ end_at_origin : (a g d : Arrow) → dot a a ≡ pos 0 → cross g d ≡ pos 0 �
     → IsBetween a g d
 unfolding IsBetween
 end_at_origin a g d none line across =
-    let zero = no_length a none in (
+    let zero = no_length a (omega (arith, ints)) in (
       ap₂ cross (unmoved g zero) (unmoved d zero) ∙ line,
       subst (λ n. n ≤ℤ pos 0) (sym (ap₂ dot (unmoved g zero) (unmoved d zero))) across,
     )
@@ -412,7 +342,8 @@ seen_between p a g =
         equal (minus (minus (times (var s) (var w)) (var x)) (minus (times (var t) (var w)) (var x)))
         (times (var w) (minus (times (var s) (num 1)) (var t))) (omega arith)
 
-turn_seen : (p : Spot) (a : Point) (e : Edge)
+-- the turn of an edge at a corner, by what is seen from p
+pub turn_seen : (p : Spot) (a : Point) (e : Edge)
     → cross (from_to (seen_from p a) (seen_from p e.a)) (from_to (seen_from p a) (seen_from p e.b))
     ≡ p.w *ℤ (p.w *ℤ turn_at e (spot_at a))
 turn_seen p a e =
@@ -523,23 +454,16 @@ abbrev pub MeetAtEnds : Edge → Edge → Type 0
 MeetAtEnds e f = (p : Spot) → IsSpot p → is_on p e ≡ true → is_on p f ≡ true
     → is_consecutive e f ≡ true
 
-two_follow : {X : Type 0} (P Q : X → X → Type 0) → ((x y : X) → P x y → Q x y) → (xs : List X)
-    → AllOfTwo P xs → AllOfTwo Q xs
-two_follow P Q step [] all = tt
-two_follow P Q step (x ∷ xs) all =
-    (all_follow (λ y holds. step x y holds) xs all.0, two_follow P Q step xs all.1)
-
--- two edges of a plan, at different places, that have a point in common are consecutive
-pub plan_edges_meet_at_ends : (loops : List (List Point)) → IsTrue (is_plan loops)
+-- two edges that are apart, at different places, and have a point in common are consecutive
+pub edges_meet_at_ends : (loops : List (List Point)) → are_apart loops ≡ true
     → AllOfTwo MeetAtEnds (edges_of loops)
-plan_edges_meet_at_ends loops is =
+edges_meet_at_ends loops apart =
     let parts = and_parts (is_of_each_two (λ a b. not (is_same_point a b)) (corners_in loops))
-    (is_of_each_two (λ e f. is_consecutive e f || not (do_touch e f)) (edges_of loops))
-    (plan_is loops is).apart in
+    (is_of_each_two (λ e f. is_consecutive e f || not (do_touch e f)) (edges_of loops)) apart in
     two_follow (λ e f. (is_consecutive e f || not (do_touch e f)) ≡ true) MeetAtEnds
-    (λ e f apart p p_is on_e on_f. first_of_two (is_consecutive e f) (do_touch e f) apart
-    (common_point_touches e f p p_is on_e on_f))
     (edges_of loops)
+    (λ e f at_e at_f free p p_is on_e on_f. first_of_two (is_consecutive e f) (do_touch e f) free
+    (common_point_touches e f p p_is on_e on_f))
     (each_two_pass (λ e f. is_consecutive e f || not (do_touch e f)) (edges_of loops) parts.1)
   where
     first_of_two : (b c : Bool) → (b || not c) ≡ true → c ≡ true → b ≡ true
@@ -547,11 +471,15 @@ plan_edges_meet_at_ends loops is =
     first_of_two false true holds touch = absurd (false≢true holds)
     first_of_two false false holds touch = touch
 
--- no point is a corner of a plan twice
-pub plan_corners_are_once : (loops : List (List Point)) → IsTrue (is_plan loops)
+-- so it is with those of a plan
+pub plan_edges_meet_at_ends : (loops : List (List Point)) → IsTrue (is_plan loops)
+    → AllOfTwo MeetAtEnds (edges_of loops)
+plan_edges_meet_at_ends loops is = edges_meet_at_ends loops (plan_is loops is).apart
+
+-- no point is a corner twice of loops that are apart
+pub corners_are_once : (loops : List (List Point)) → are_apart loops ≡ true
     → AllOfTwo (λ a b. not (is_same_point a b) ≡ true) (corners_in loops)
-plan_corners_are_once loops is =
-    let parts = and_parts (is_of_each_two (λ a b. not (is_same_point a b)) (corners_in loops))
-    (is_of_each_two (λ e f. is_consecutive e f || not (do_touch e f)) (edges_of loops))
-    (plan_is loops is).apart in
-    each_two_pass (λ a b. not (is_same_point a b)) (corners_in loops) parts.0
+corners_are_once loops apart =
+    each_two_pass (λ a b. not (is_same_point a b)) (corners_in loops)
+    (and_parts (is_of_each_two (λ a b. not (is_same_point a b)) (corners_in loops))
+    (is_of_each_two (λ e f. is_consecutive e f || not (do_touch e f)) (edges_of loops)) apart).0
