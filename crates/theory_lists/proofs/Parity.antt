@@ -78,6 +78,16 @@ differ-differ false true true false = refl
 differ-differ false false true d = refl
 differ-differ false b false d = refl
 
+-- a middle bit drops out
+pub differ_through : (a b c : Bool) → differ (differ a b) (differ b c) ≡ differ a c
+differ_through true true true = refl
+differ_through true true false = refl
+differ_through true false true = refl
+differ_through true false false = refl
+differ_through false true true = refl
+differ_through false true false = refl
+differ_through false false c = refl
+
 -- ---- the fold of exclusive or over a list
 
 one_and_rest : {P Q : Type 0} (b rest : Bool) → (P → rest ≡ false) → (Q → rest ≡ true)

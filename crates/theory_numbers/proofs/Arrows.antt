@@ -115,6 +115,13 @@ opposite-dot a b =
     (negated (dot_is a b))
     (omega arith)
 
+-- so has the form at the opposite vector
+pub dot-opposite : (a b : Arrow) → dot a (opposite b) ≡ neg_ℤ (dot a b)
+dot-opposite a b =
+    equal (dot_by a (opposite b) (var a.x) (var a.y) (negated (var b.x)) (negated (var b.y)))
+    (negated (dot_is a b))
+    (omega arith)
+
 -- the inner product with a turned vector is the cross product
 pub dot-turned : (a b : Arrow) → dot (turned a) b ≡ cross a b
 dot-turned a b =

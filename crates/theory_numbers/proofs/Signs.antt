@@ -1,6 +1,9 @@
 -- What a test of order tells, how a fact answers a test, and cases on a sign.
 use Rattle.std.proofs.Common.{◌≡◌, refl, ◌⊎◌, Bool, true, false, ◌↔◌, inl, inr, sym, arith, ℤ, pos}
 use Rattle.std.proofs.Common.{◌<ℤ◌, ◌≤ℤ◌, ◌-ℤ◌, int_lt, int_le, not}
+use Rattle.std.specs.Ordering.{int_eq}
+use Rattle.std.proofs.lemmas.Bool.{false_from_ne_true}
+use Rattle.std.proofs.lemmas.Bool.Decides.{Decides-int_eq}
 use Rattle.std.proofs.lemmas.Int.{ints, by_lt_z}
 
 -- ---- a test answers true or false by the facts
@@ -20,6 +23,11 @@ test_at_most a b order = grind (arith, ints)
 -- more: it answers false
 pub test_not_at_most : (a b : ℤ) → b <ℤ a → int_le a b ≡ false
 test_not_at_most a b order = grind (arith, ints)
+
+-- not equal: the test of equality answers false
+pub test_not_equal : (a b : ℤ) → (a ≡ b → ⊥) → int_eq a b ≡ false
+test_not_equal a b apart =
+    false_from_ne_true (int_eq a b) (λ same. apart ((Decides-int_eq a b).0 same))
 
 -- ---- and says a fact by its answer
 

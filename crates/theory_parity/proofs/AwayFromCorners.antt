@@ -3,10 +3,11 @@
 
 use Rattle.std.proofs.Common.{◌≡◌, ap, ◌∙◌, arith, ℤ, pos, neg_ℤ}
 use Rattle.std.proofs.Common.{◌<ℤ◌, ◌+ℤ◌, ◌-ℤ◌, ◌*ℤ◌, true}
-use Rattle.std.proofs.Common.{List, [], ◌∷◌, ◌++◌, map}
+use Rattle.std.proofs.Common.{List, ◌++◌, map}
 use Rattle.std.specs.List.{AllByRecursion}
 use Rattle.std.proofs.lemmas.Int.{ints}
 use Rattle.theory_lists.proofs.Members.{all_follow, all_both, all_of_images, all_images}
+use Rattle.theory_lists.proofs.Members.{all_that_stand}
 use Rattle.theory_lists.proofs.Blocks.{all-append, all_in_parts}
 use Rattle.theory_numbers.specs.Arrows.{Arrow, dot}
 use Rattle.theory_numbers.specs.Rationals.{IsForm}
@@ -95,11 +96,6 @@ module _ (d : Arrow) (t : Spot) (o : Point) (halves : List Half) (es : List Edge
   abbrev at_b : Edge → Half
   at_b e = upright_at d e.b
 
-  each : (end : Edge → Point) (fs : List Edge)
-      → AllByRecursion (λ e. IsForm (form_on t (spot_at o) (upright_at d (end e)))) fs
-  each end [] = tt
-  each end (f ∷ fs) = (upright_forms d o t apart (end f), each end fs)
-
   apart_from : (m : Spot) (c : Point) → (height_over (upright_at d c) m ≡ pos 0 → ⊥)
       → pos 0 <ℤ dot (seen_from m c) (seen_from m c)
   apart_from m c off =
@@ -114,8 +110,10 @@ module _ (d : Arrow) (t : Spot) (o : Point) (halves : List Half) (es : List Edge
       (all-append IsGood halves (map at_a es ++ map at_b es)
       (in_all_are_forms t (spot_at o) halves at)
       (all-append IsGood (map at_a es) (map at_b es)
-      (all_images IsGood at_a es (each (λ e. e.a) es))
-      (all_images IsGood at_b es (each (λ e. e.b) es)))))
+      (all_images IsGood at_a es
+      (all_that_stand (λ e. IsGood (at_a e)) es (λ e at_e. upright_forms d o t apart e.a)))
+      (all_images IsGood at_b es
+      (all_that_stand (λ e. IsGood (at_b e)) es (λ e at_e. upright_forms d o t apart e.b))))))
     where
       from : (s : Arrow) × IsNear t (spot_at o) (halves ++ (map at_a es ++ map at_b es)) s
           → (s : Arrow) × IsOffCorners t o halves es s

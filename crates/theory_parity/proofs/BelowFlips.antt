@@ -1,23 +1,23 @@
 -- Across the only edge through a point of a line u = constant the parity of the edges below flips.
 
-use Rattle.std.proofs.Common.{◌≡◌, refl, sym, ap, ap₂, ◌∙◌, ◌⊎◌, inl, inr, arith, pos, neg_ℤ}
+use Rattle.std.proofs.Common.{◌≡◌, refl, sym, ap, ap₂, ◌∙◌, ◌⊎◌, inl, inr, arith, pos}
 use Rattle.std.proofs.Common.{◌<ℤ◌, ◌-ℤ◌, Bool, true, false, List}
 use Rattle.std.specs.Ordering.{int_eq}
 use Rattle.std.specs.List.{AllByRecursion}
 use Rattle.std.proofs.lemmas.Int.{ints}
-use Rattle.std.proofs.lemmas.Bool.{false≢true, false_from_ne_true}
+use Rattle.std.proofs.lemmas.Bool.{false≢true}
 use Rattle.std.proofs.lemmas.Bool.Decides.{Decides-int_eq}
 use Rattle.theory_lists.specs.OneOf.{ExactlyOne}
 use Rattle.theory_lists.specs.Parity.{differ, is_odd_number}
 use Rattle.theory_lists.proofs.Members.{all_follow}
 use Rattle.theory_lists.proofs.Parity.{differ-self, is_odd_number-same}
 use Rattle.theory_lists.proofs.Parity.{is_odd_number-differ, odd_where_same, one_is_odd}
-use Rattle.theory_numbers.specs.Arrows.{Arrow, cross, dot, opposite}
-use Rattle.theory_numbers.specs.Rationals.{IsRational, IsBelow, IsSame, is_below, rational}
-use Rattle.theory_numbers.proofs.Arrows.{cross-turn}
+use Rattle.theory_numbers.specs.Arrows.{Arrow, cross, dot}
+use Rattle.theory_numbers.specs.Rationals.{IsRational, IsBelow, is_below, rational}
+use Rattle.theory_numbers.proofs.Arrows.{cross-turn, dot-opposite}
 use Rattle.theory_numbers.proofs.Rationals.{below_trans, below_at_most_trans, at_most_below_trans}
-use Rattle.theory_numbers.proofs.Shapes.{var, plus, minus, negated, times, equal, dot_by}
-use Rattle.theory_numbers.proofs.Signs.{sign_cases, test_less, test_not_less}
+use Rattle.theory_numbers.proofs.Shapes.{var, plus, minus, times, equal, dot_by}
+use Rattle.theory_numbers.proofs.Signs.{sign_cases, test_less, test_not_less, test_not_equal}
 use Rattle.theory_plane.specs.Sides.{IsLineSide}
 use Rattle.theory_plane.proofs.Clearance.{value_on-IsRational}
 use Rattle.sb_fraction.specs.Edges.{Edge, span_of}
@@ -38,11 +38,6 @@ span_by_ends d e =
     (minus (plus (times (var e.b.x) (var d.x)) (times (var e.b.y) (var d.y)))
     (plus (times (var e.a.x) (var d.x)) (times (var e.a.y) (var d.y))))
     (omega arith)
-
-opposite_span : (d s : Arrow) → dot d (opposite s) ≡ neg_ℤ (dot d s)
-opposite_span d s =
-    equal (dot_by d (opposite s) (var d.x) (var d.y) (negated (var s.x)) (negated (var s.y)))
-    (negated (dot_by d s (var d.x) (var d.y) (var s.x) (var s.y))) (omega arith)
 
 -- its line is one with a positive first part
 pub reaching_is_line : (d u : Arrow) (e : Edge) → reaches_past d u e ≡ true
@@ -66,14 +61,9 @@ reaching_is_line d u e reaches = from (sign_cases (dot d (span_of e)))
     from (inl (inr zero)) = absurd (false≢true (sym (level zero) ∙ reaches))
     from (inr against) =
         rw (test_not_less (pos 0) (dot d (span_of e)) (omega (arith, ints)))
-        (omega (arith, ints, opposite_span d (span_of e), against))
+        (omega (arith, ints, dot-opposite d (span_of e), against))
 
 -- ---- values beside m
-
-not_same : (f m : Arrow) → (IsSame f m → ⊥) → int_eq (cross f m) (pos 0) ≡ false
-not_same f m apart =
-    false_from_ne_true (int_eq (cross f m) (pos 0))
-    (λ same. apart ((Decides-int_eq (cross f m) (pos 0)).0 same))
 
 module _ (v m w : Arrow) (v_in : IsRational v) (m_in : IsRational m) (w_in : IsRational w)
     (low : IsBelow v m) (high : IsBelow m w) where
@@ -84,7 +74,7 @@ module _ (v m w : Arrow) (v_in : IsRational v) (m_in : IsRational m) (w_in : IsR
       let more = below_trans f v m f_in v_in m_in below low in
       let most = below_trans f m w f_in m_in w_in more high in
       ap₂ differ (test_less (pos 0) (cross f v) below) (test_less (pos 0) (cross f w) most)
-      ∙ sym (not_same f m (λ same. omega (arith, ints)))
+      ∙ sym (test_not_equal (cross f m) (pos 0) (λ same. omega (arith, ints)))
   flips_at f f_in (inl (inr same)) =
       let most =
       at_most_below_trans f m w f_in m_in w_in (omega (arith, ints, same)) high
@@ -105,7 +95,7 @@ module _ (v m w : Arrow) (v_in : IsRational v) (m_in : IsRational m) (w_in : IsR
       let turn_w = cross-turn f w in
       ap₂ differ (test_not_less (pos 0) (cross f v) (omega (arith, ints)))
       (test_not_less (pos 0) (cross f w) (omega (arith, ints)))
-      ∙ sym (not_same f m (λ same. omega (arith, ints)))
+      ∙ sym (test_not_equal (cross f m) (pos 0) (λ same. omega (arith, ints)))
 
   -- so it is with an edge
   edge_flips : (d u : Arrow) (e : Edge) → IsRational u

@@ -1,13 +1,13 @@
 -- Two tests of edges that differ by a test of points at the ends of each edge pass an odd number of
 -- the edges of closed loops alike.
 
-use Rattle.std.proofs.Common.{◌≡◌, refl, ap₂, ◌∙◌, Bool, true, false, List, [], ◌∷◌}
+use Rattle.std.proofs.Common.{◌≡◌, refl, ap₂, ◌∙◌, Bool, false, List, [], ◌∷◌}
 use Rattle.std.specs.List.{list_any}
 use Rattle.std.proofs.lemmas.Bool.{or_parts}
 use Rattle.theory_lists.proofs.Blocks.{none_in_parts}
 use Rattle.theory_lists.specs.Parity.{differ, is_odd_number}
 use Rattle.theory_lists.proofs.Parity.{differ-self, differ-false, differ-differ, same_from_differ}
-use Rattle.theory_lists.proofs.Parity.{is_odd_number-append}
+use Rattle.theory_lists.proofs.Parity.{is_odd_number-append, differ_through}
 use Rattle.sb_fraction.specs.declared.point.Point.{Point}
 use Rattle.sb_fraction.specs.Edges.{Edge, edge}
 use Rattle.theory_plans.specs.LoopEdges.{edges_back, edges_of_loop, edges_of}
@@ -16,15 +16,6 @@ use Rattle.theory_plans.specs.LoopEdges.{edges_back, edges_of_loop, edges_of}
 pub record Telescopes (barred f g : Edge → Bool) (w : Point → Bool) : Type 0 where
   pub at : (a b : Point) → barred (edge a b) ≡ false
       → differ (f (edge a b)) (g (edge a b)) ≡ differ (w a) (w b)
-
-between_cancels : (a b c : Bool) → differ (differ a b) (differ b c) ≡ differ a c
-between_cancels true true true = refl
-between_cancels true true false = refl
-between_cancels true false true = refl
-between_cancels true false false = refl
-between_cancels false true true = refl
-between_cancels false true false = refl
-between_cancels false false c = refl
 
 module _ {barred f g : Edge → Bool} {w : Point → Bool} (ends : Telescopes barred f g w) where
   -- along an open chain the two parities differ just where the test differs at its two ends
@@ -42,7 +33,7 @@ module _ {barred f g : Edge → Bool} {w : Point → Bool} (ends : Telescopes ba
       differ-differ (f (edge a b)) (is_odd_number f (edges_back b points last)) (g (edge a b))
       (is_odd_number g (edges_back b points last))
       ∙ ap₂ differ (ends.at a b parts.0) (open_chain b points last parts.1)
-      ∙ between_cancels (w a) (w b) (w last)
+      ∙ differ_through (w a) (w b) (w last)
 
   -- around a closed loop they are the same
   pub closed_loop : (points : List Point) → list_any barred (edges_of_loop points) ≡ false

@@ -95,70 +95,59 @@ free_way hs lines =
 
 -- ---- near a point, along a way and against it
 
-module _ (m : Spot) (n : Arrow) (s : Arrow) (s_in : pos 0 <ℤ s.x) where
-  -- a plan point lies left of the way as seen from each point of it
-  pub left_along : (a : Point)
-      → is_left_of n (on_way s.x m s.y (far_along n)) a ≡ is_left_of n m a
-  left_along a =
-      ap (int_lt (pos 0)) (left_by_height n (on_way s.x m s.y (far_along n)) a ∙ height)
-      ∙ sign_of_multiple s.x (height_over (half_right_of n a) m) s_in
-      ∙ sym (ap (int_lt (pos 0)) (left_by_height n m a))
-    where
-      none : (c : ℤ) → ((n.y *ℤ n.x) +ℤ (neg_ℤ n.x *ℤ n.y)) +ℤ (c *ℤ pos 0) ≡ pos 0
-      none c =
-          equal
-          (plus (plus (times (var n.y) (var n.x)) (times (negated (var n.x)) (var n.y)))
-          (times (var c) (num 0)))
-          (num 0) (omega arith)
+none_after : (a b : ℤ) → a +ℤ (b *ℤ pos 0) ≡ a
+none_after a b = equal (plus (var a) (times (var b) (num 0))) (var a) (omega arith)
 
-      height : height_over (half_right_of n a) (on_way s.x m s.y (far_along n))
-          ≡ s.x *ℤ height_over (half_right_of n a) m
-      height =
-          height-on_way (half_right_of n a) s.x m s.y (far_along n)
-          ∙ ap (λ t. (s.x *ℤ height_over (half_right_of n a) m) +ℤ (s.y *ℤ t))
-          (none (half_right_of n a).c)
-          ∙ nothing_more (s.x *ℤ height_over (half_right_of n a) m)
-        where
-          nothing_more : (t : ℤ) → t +ℤ (s.y *ℤ pos 0) ≡ t
-          nothing_more t = equal (plus (var t) (times (var s.y) (num 0))) (var t) (omega arith)
+none_before : (a b : ℤ) → (a *ℤ pos 0) +ℤ b ≡ b
+none_before a b = equal (plus (times (var a) (num 0)) (var b)) (var b) (omega arith)
 
-  -- and of the way back
-  pub left_against : (a : Point)
-      → is_left_of n (on_way s.x m s.y (far_along (opposite n))) a ≡ is_left_of n m a
-  left_against a =
-      ap (int_lt (pos 0)) (left_by_height n (on_way s.x m s.y (far_along (opposite n))) a ∙ height)
-      ∙ sign_of_multiple s.x (height_over (half_right_of n a) m) s_in
-      ∙ sym (ap (int_lt (pos 0)) (left_by_height n m a))
-    where
-      none : (c : ℤ) → ((n.y *ℤ neg_ℤ n.x) +ℤ (neg_ℤ n.x *ℤ neg_ℤ n.y)) +ℤ (c *ℤ pos 0) ≡ pos 0
-      none c =
-          equal
-          (plus
-          (plus (times (var n.y) (negated (var n.x))) (times (negated (var n.x)) (negated (var n.y))))
-          (times (var c) (num 0)))
-          (num 0) (omega arith)
+-- the height on the way to a point of the line
+height_to_0 : (h : Half) (m o : Spot) (s : Arrow) → height_over h o ≡ pos 0
+    → height_over h (on_way s.x m s.y o) ≡ s.x *ℤ height_over h m
+height_to_0 h m o s zero =
+    height-on_way h s.x m s.y o
+    ∙ ap (λ t. (s.x *ℤ height_over h m) +ℤ (s.y *ℤ t)) zero
+    ∙ none_after (s.x *ℤ height_over h m) s.y
 
-      height : height_over (half_right_of n a) (on_way s.x m s.y (far_along (opposite n)))
-          ≡ s.x *ℤ height_over (half_right_of n a) m
-      height =
-          height-on_way (half_right_of n a) s.x m s.y (far_along (opposite n))
-          ∙ ap (λ t. (s.x *ℤ height_over (half_right_of n a) m) +ℤ (s.y *ℤ t))
-          (none (half_right_of n a).c)
-          ∙ nothing_more (s.x *ℤ height_over (half_right_of n a) m)
-        where
-          nothing_more : (t : ℤ) → t +ℤ (s.y *ℤ pos 0) ≡ t
-          nothing_more t = equal (plus (var t) (times (var s.y) (num 0))) (var t) (omega arith)
-
--- the height after a way from a point of the line
+-- and on the way from one
 height_from_0 : (h : Half) (m o : Spot) (s : Arrow) → height_over h m ≡ pos 0
     → height_over h (on_way s.x m s.y o) ≡ s.y *ℤ height_over h o
 height_from_0 h m o s zero =
     height-on_way h s.x m s.y o
     ∙ ap (λ t. (s.x *ℤ t) +ℤ (s.y *ℤ height_over h o)) zero
-    ∙ nothing_before (s.y *ℤ height_over h o)
+    ∙ none_before s.x (s.y *ℤ height_over h o)
+
+-- the line through a plan point along the way leads where the way does
+along_its_way : (n : Arrow) (a : Point) → height_over (half_right_of n a) (far_along n) ≡ pos 0
+along_its_way n a = by (half_right_of n a).c
   where
-    nothing_before : (t : ℤ) → (s.x *ℤ pos 0) +ℤ t ≡ t
-    nothing_before t = equal (plus (times (var s.x) (num 0)) (var t)) (var t) (omega arith)
+    by : (c : ℤ) → ((n.y *ℤ n.x) +ℤ (neg_ℤ n.x *ℤ n.y)) +ℤ (c *ℤ pos 0) ≡ pos 0
+    by c =
+        equal
+        (plus (plus (times (var n.y) (var n.x)) (times (negated (var n.x)) (var n.y)))
+        (times (var c) (num 0)))
+        (num 0) (omega arith)
+
+module _ (m : Spot) (n : Arrow) (s : Arrow) (s_in : pos 0 <ℤ s.x) where
+  left_towards : (o : Spot) (a : Point) → height_over (half_right_of n a) o ≡ pos 0
+      → is_left_of n (on_way s.x m s.y o) a ≡ is_left_of n m a
+  left_towards o a zero =
+      ap (int_lt (pos 0))
+      (left_by_height n (on_way s.x m s.y o) a ∙ height_to_0 (half_right_of n a) m o s zero)
+      ∙ sign_of_multiple s.x (height_over (half_right_of n a) m) s_in
+      ∙ sym (ap (int_lt (pos 0)) (left_by_height n m a))
+
+  -- a plan point lies left of the way as seen from each point of it
+  pub left_along : (a : Point)
+      → is_left_of n (on_way s.x m s.y (far_along n)) a ≡ is_left_of n m a
+  left_along a = left_towards (far_along n) a (along_its_way n a)
+
+  -- and of the way back
+  pub left_against : (a : Point)
+      → is_left_of n (on_way s.x m s.y (far_along (opposite n))) a ≡ is_left_of n m a
+  left_against a =
+      left_towards (far_along (opposite n)) a
+      (opposite_slope n (half_right_of n a) ∙ ap neg_ℤ (along_its_way n a))
 
 -- the two heights beside a point of the line
 pub opposite_heights : (h : Half) (m : Spot) (n s t : Arrow) → pos 0 <ℤ s.y → pos 0 <ℤ t.y

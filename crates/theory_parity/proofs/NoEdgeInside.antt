@@ -7,8 +7,7 @@ use Rattle.std.proofs.Common.{List, [], ◌∷◌, ◌++◌, map}
 use Rattle.std.specs.Ordering.{int_eq}
 use Rattle.std.specs.List.{AllByRecursion, list_any}
 use Rattle.std.proofs.lemmas.Int.{ints}
-use Rattle.std.proofs.lemmas.Bool.{and_parts, and_from, false_from_ne_true}
-use Rattle.std.proofs.lemmas.Bool.Decides.{Decides-int_eq}
+use Rattle.std.proofs.lemmas.Bool.{and_parts, and_from}
 use Rattle.theory_lists.specs.Parity.{differ, is_odd_number}
 use Rattle.theory_lists.proofs.Members.{all_follow, all_both, all_of_images, all_images}
 use Rattle.theory_lists.proofs.Blocks.{all-append, all_in_parts}
@@ -17,6 +16,7 @@ use Rattle.theory_numbers.specs.Rationals.{IsForm}
 use Rattle.theory_numbers.proofs.Shapes.{var, num, plus, minus, negated, times, equal, cross_by}
 use Rattle.theory_numbers.proofs.Products.{zero_of_positive, positive_product}
 use Rattle.theory_numbers.proofs.Ring.{mul-neg}
+use Rattle.theory_numbers.proofs.Signs.{test_not_equal}
 use Rattle.sb_fraction.specs.declared.point.Point.{Point}
 use Rattle.sb_fraction.specs.Spots.{Spot, IsSpot}
 use Rattle.sb_fraction.specs.Edges.{Edge, span_of, seen_from, is_on}
@@ -46,9 +46,7 @@ pub off_lines : (m p : Spot) (cuts : List Half)
 off_lines m p [] signs = refl
 off_lines m p (h ∷ cuts) signs =
     and_from (not (int_eq (height_over h p) (pos 0))) (is_off cuts p)
-    (ap not
-    (false_from_ne_true (int_eq (height_over h p) (pos 0))
-    (λ zero. signs.0.apart ((Decides-int_eq (height_over h p) (pos 0)).0 zero))))
+    (ap not (test_not_equal (height_over h p) (pos 0) signs.0.apart))
     (off_lines m p cuts signs.1)
 
 slanted_forms : (m : Spot) (n : Arrow) (hs : List Half) → AllByRecursion (IsSlanted n) hs

@@ -7,7 +7,7 @@ use Rattle.std.proofs.Common.{List, [], ◌∷◌, ◌++◌, map}
 use Rattle.std.specs.List.{AllByRecursion}
 use Rattle.std.specs.Ordering.{int_eq}
 use Rattle.std.proofs.lemmas.Int.{ints}
-use Rattle.std.proofs.lemmas.Bool.{false_from_ne_true, and_parts, false≢true}
+use Rattle.std.proofs.lemmas.Bool.{and_parts, false≢true}
 use Rattle.std.proofs.lemmas.Bool.Decides.{Decides-int_eq}
 use Rattle.theory_lists.proofs.Members.{all_follow, all_images, all_of_images}
 use Rattle.theory_lists.proofs.Blocks.{all-append, all_in_parts}
@@ -16,7 +16,7 @@ use Rattle.theory_numbers.specs.Arrows.{Arrow, arrow, cross, dot}
 use Rattle.theory_numbers.specs.Rationals.{IsRational}
 use Rattle.theory_numbers.proofs.Shapes.{var, plus, minus, negated, times, equal, cross_by, dot_by}
 use Rattle.theory_numbers.proofs.Lengths.{length_of_zero}
-use Rattle.theory_numbers.proofs.Signs.{same_less}
+use Rattle.theory_numbers.proofs.Signs.{same_less, test_not_equal}
 use Rattle.theory_numbers.proofs.Products.{positive_product, zero_of_positive}
 use Rattle.theory_numbers.proofs.Ring.{mul-zero}
 use Rattle.theory_plane.specs.Sides.{LineSide, IsLineSide}
@@ -216,11 +216,8 @@ module _ (d : Arrow) (abscissae : List Arrow) (cuts : List LineSide) where
       not_on_side l apart =
           let high = (l.dx *ℤ cross d (arrow p.x p.y)) -ℤ (l.dy *ℤ dot d (arrow p.x p.y)) in
           let low = l.off *ℤ p.w in
-          false_from_ne_true (int_eq high low)
-          (λ on.
-          let same = (Decides-int_eq high low).0 on in
-          let whole = above_height d l p in
-          apart (omega (arith, ints)))
+          test_not_equal high low
+          (λ same. let whole = above_height d l p in apart (omega (arith, ints)))
 
 -- a region whose points off finitely many abscissae and sides lie inside a plan lies inside it
 pub region_inside_throughout_off_sides : (loops : List (List Point)) → IsTrue (is_plan loops)

@@ -9,7 +9,7 @@ use Rattle.std.proofs.lemmas.Bool.{and_from, and_left, and_parts, false_from_ne_
 use Rattle.std.proofs.lemmas.Bool.Decides.{Decides-int_eq}
 use Rattle.theory_lists.specs.Parity.{differ}
 use Rattle.theory_numbers.proofs.Products.{positive_product}
-use Rattle.theory_numbers.proofs.Signs.{test_not_less}
+use Rattle.theory_numbers.proofs.Signs.{test_not_less, test_not_equal}
 use Rattle.sb_fraction.specs.declared.point.Point.{Point}
 use Rattle.sb_fraction.specs.Spots.{Spot, spot, spot_at}
 use Rattle.sb_fraction.specs.Edges.{Edge, edge, turn_at, reach_at, is_on}
@@ -65,8 +65,7 @@ apart_from e p q on beside = false_from_ne_true (is_same_point p q) (λ same.
 beside_is_not_on : (e : Edge) (p : Spot) → pos 0 <ℤ turn_at e p → is_on p e ≡ false
 beside_is_not_on e p beside =
     and_left (int_eq (turn_at e p) (pos 0)) (int_le (reach_at e p) (pos 0))
-    (false_from_ne_true (int_eq (turn_at e p) (pos 0)) (λ zero.
-    let none = (Decides-int_eq (turn_at e p) (pos 0)).0 zero in omega (arith, ints)))
+    (test_not_equal (turn_at e p) (pos 0) (λ zero. omega (arith, ints)))
 
 no_touch : (p q r s t u : Bool) → p ≡ false → q ≡ false → r ≡ false → s ≡ false → t ≡ false
     → (p || (q || (r || (s || (t && u))))) ≡ false

@@ -4,13 +4,13 @@ use Rattle.std.proofs.Common.{ℤ, pos, ◌≡◌, ◌<ℤ◌, ◌-ℤ◌, ◌*�
 use Rattle.std.proofs.Common.{[], ◌∷◌, int_lt, refl, arith, ap, sym, ◌∙◌, subst}
 use Rattle.std.specs.Ordering.{int_eq}
 use Rattle.std.proofs.lemmas.Int.{ints}
-use Rattle.std.proofs.lemmas.Bool.{and_from, and_parts, or_right, false≢true, false_from_ne_true}
+use Rattle.std.proofs.lemmas.Bool.{and_from, and_parts, or_right, false≢true}
 use Rattle.std.proofs.lemmas.Bool.Decides.{Decides-int_eq}
 use Rattle.std.proofs.Math.IntN.{zero-*ℤ, *ℤ_comm}
 use Rattle.sb_fraction.specs.declared.point.Point.{Point}
 use Rattle.sb_fraction.specs.Spots.{spot_at}
 use Rattle.theory_numbers.proofs.Products.{positive_product, negative_product, product_of_negatives}
-use Rattle.theory_numbers.proofs.Signs.{less_from, test_less}
+use Rattle.theory_numbers.proofs.Signs.{less_from, test_less, test_not_equal}
 use Rattle.theory_plans.specs.Loops.{is_rectangle, are_corners, are_loops, is_bent, comes_before}
 use Rattle.sb_fraction.specs.Plane.{is_plan_point, is_coordinate}
 use Rattle.sb_fraction.specs.Edges.{edge, seen_from, turn_at}
@@ -21,8 +21,7 @@ use Rattle.theory_plans.proofs.ConvexIsPlan.{IsLeft, IsConvex, convex_is_apart, 
 
 -- a number that is not 0 is told apart from it
 not_zero : (z : ℤ) → (z ≡ pos 0 → ⊥) → not (int_eq z (pos 0)) ≡ true
-not_zero z other = rw (false_from_ne_true (int_eq z (pos 0))
-    (λ e. other ((Decides-int_eq z (pos 0)).0 e))) refl
+not_zero z other = ap not (test_not_equal z (pos 0) other)
 
 -- a product with 0
 zero_times : (q r : ℤ) → q ≡ pos 0 → q *ℤ r ≡ pos 0
