@@ -1,6 +1,7 @@
 -- The length of a vector, its inner product with itself: 0 for the vector 0 alone, else above 0. And
 -- vectors on one line through the origin.
-use Rattle.std.proofs.Common.{◌≡◌, ap, ap₂, sym, ◌∙◌, arith, subst, Bool, true, false, not}
+use Rattle.std.proofs.Common.{◌≡◌, ap, ap₂, sym, ◌∙◌, ◌⊎◌, inl, inr, arith, subst}
+use Rattle.std.proofs.Common.{Bool, true, false, not}
 use Rattle.std.proofs.Common.{pos, neg_ℤ, ◌<ℤ◌, ◌≤ℤ◌, ◌+ℤ◌, ◌-ℤ◌, ◌*ℤ◌}
 use Rattle.std.proofs.lemmas.Int.{ints, by_lt_z}
 use Rattle.theory_numbers.specs.Tests.{is_positive}
@@ -10,7 +11,7 @@ use Rattle.theory_numbers.proofs.Shapes.{var, num, minus, times, equal, cross_is
 use Rattle.theory_numbers.proofs.Shapes.{dot_eq}
 use Rattle.theory_numbers.proofs.Products.{positive_product, negative_product, product_of_negatives}
 use Rattle.theory_numbers.proofs.Products.{weak_square, positive_square, square_of_zero}
-use Rattle.theory_numbers.proofs.Products.{positive_factor, negative_factor}
+use Rattle.theory_numbers.proofs.Products.{positive_factor, negative_factor, same_signs}
 use Rattle.theory_numbers.proofs.Products.{weak_negative_product, weak_negative_factor}
 use Rattle.theory_numbers.proofs.Ring.{mul_comm, neg-mul, zero-mul}
 use Rattle.theory_numbers.proofs.Signs.{less_from, not_less_from}
@@ -54,6 +55,26 @@ long_from d s apart d_long =
     let square = positive_square (dot d s) apart in
     let other = weak_square (cross d s) in
     positive_factor (dot d d) (dot s s) d_long (omega (arith, ints))
+
+-- so are two vectors with a cross product other than 0
+pub long_if_crossed : (a b : Arrow) → (cross a b ≡ pos 0 → ⊥)
+    → (pos 0 <ℤ dot a a) × (pos 0 <ℤ dot b b)
+long_if_crossed a b apart =
+    from
+    (same_signs (dot a a) (dot b b)
+    (let whole = frame_dot a b b in
+    let square = positive_square (cross a b) apart in
+    let other = weak_square (dot a b) in
+    omega (arith, ints)))
+  where
+    from : ((pos 0 <ℤ dot a a) × (pos 0 <ℤ dot b b))
+        ⊎ ((dot a a <ℤ pos 0) × (dot b b <ℤ pos 0))
+        → (pos 0 <ℤ dot a a) × (pos 0 <ℤ dot b b)
+    from (inl both) = both
+    from (inr none) =
+        let weak = weak_length a in
+        let below = none.0 in
+        absurd (omega (arith, ints))
 
 -- ---- two vectors on one line
 

@@ -14,7 +14,7 @@ use Rattle.theory_lists.specs.Parity.{differ, is_odd_number}
 use Rattle.theory_lists.proofs.Blocks.{none_where}
 use Rattle.theory_lists.proofs.Members.{all_follow}
 use Rattle.theory_lists.proofs.Parity.{differ-self, differ-false, odd_where_same}
-use Rattle.theory_lists.proofs.Parity.{is_odd_number-differ}
+use Rattle.theory_lists.proofs.Parity.{is_odd_number-differ, is_odd_number-and}
 use Rattle.theory_numbers.specs.Tests.{is_positive}
 use Rattle.theory_numbers.specs.Arrows.{Arrow, cross, dot, add, scale}
 use Rattle.theory_numbers.specs.Rationals.{IsRational}
@@ -42,8 +42,8 @@ use Rattle.theory_parity.proofs.AnyRay.{decided, off_edge}
 use Rattle.theory_parity.proofs.InsideByBelow.{inside_by_ray}
 use Rattle.theory_parity.proofs.OwnPoints.{IsOwn, IsLong, level_along, by_ends_cross}
 use Rattle.theory_parity.proofs.RaysAnywhere.{none_from_line, level_on}
-use Rattle.theory_parity.proofs.RaysFromEdges.{IsAloneAt, left_of_a, left_of_b, odd_and}
-use Rattle.theory_parity.proofs.Soon.{Soon, soon_always, soon_then, soon_all, soon_form}
+use Rattle.theory_parity.proofs.RaysFromEdges.{IsAloneAt, left_of_a, left_of_b}
+use Rattle.theory_numbers.proofs.Soon.{Soon, soon_always, soon_then, soon_all, soon_form}
 
 -- ---- what is seen from beside a point
 
@@ -412,7 +412,7 @@ module _ (k : Arrow) (m : Spot) where
           ∙ odd_where_same (λ g. differ (is_struck n (aside k m t) g) (is_struck n m g))
           (λ g. is_on m g && answer) (edges_of loops)
           (all_follow (λ g known. known.1) (edges_of loops) all)
-          ∙ odd_and (is_on m) answer (edges_of loops)
+          ∙ is_odd_number-and (is_on m) answer (edges_of loops)
           ∙ ap (λ s. s && answer) odd)
 
       -- near the point, on this side of it, the loops have one answer

@@ -2,7 +2,7 @@
 -- its two comes to a corner.
 
 use Rattle.std.proofs.Common.{◌≡◌, refl, sym, ap, ◌∙◌, ◌⊎◌, inl, inr, arith, pos}
-use Rattle.std.proofs.Common.{◌<ℤ◌, true, not, List, subst}
+use Rattle.std.proofs.Common.{true, not, List, subst}
 use Rattle.std.proofs.lemmas.Int.{ints}
 use Rattle.std.proofs.lemmas.Bool.{false≢true}
 use Rattle.std.proofs.lemmas.Bool.Decides.{Decides-int_eq}
@@ -13,10 +13,9 @@ use Rattle.theory_lists.proofs.Members.{all_stands, any_stands, one_or_two, two_
 use Rattle.theory_lists.proofs.Parity.{odd_if_alone}
 use Rattle.theory_numbers.specs.Arrows.{Arrow, arrow, cross, dot}
 use Rattle.theory_numbers.proofs.Arrows.{same_arrow, dot_comm}
-use Rattle.theory_numbers.proofs.Lengths.{weak_length}
-use Rattle.theory_numbers.proofs.Products.{positive_product, same_signs, weak_square, positive_square}
+use Rattle.theory_numbers.proofs.Lengths.{long_if_crossed}
+use Rattle.theory_numbers.proofs.Products.{positive_product}
 use Rattle.theory_numbers.proofs.Shapes.{var, num, equal, cross_by, dot_by}
-use Rattle.theory_numbers.proofs.ThreeTerms.{frame_dot}
 use Rattle.sb_fraction.specs.declared.point.Point.{Point}
 use Rattle.sb_fraction.specs.Spots.{Spot, IsSpot}
 use Rattle.sb_fraction.specs.Edges.{Edge, edge, span_of, seen_from, is_on}
@@ -47,25 +46,7 @@ bent_is a c b bent level =
 -- and have a length
 long_if_bent : (a c b : Point) → is_bent a c b ≡ true → IsLong (edge a c)
 long_if_bent a c b bent =
-    from
-    (same_signs (dot (span_of (edge a c)) (span_of (edge a c)))
-    (dot (span_of (edge c b)) (span_of (edge c b)))
-    (let whole = frame_dot (span_of (edge a c)) (span_of (edge c b)) (span_of (edge c b)) in
-    let one = weak_square (dot (span_of (edge a c)) (span_of (edge c b))) in
-    let other = positive_square (cross (span_of (edge a c)) (span_of (edge c b)))
-    (bent_is a c b bent) in
-    omega (arith, ints)))
-  where
-    from : ((pos 0 <ℤ dot (span_of (edge a c)) (span_of (edge a c)))
-        × (pos 0 <ℤ dot (span_of (edge c b)) (span_of (edge c b))))
-        ⊎ ((dot (span_of (edge a c)) (span_of (edge a c)) <ℤ pos 0)
-        × (dot (span_of (edge c b)) (span_of (edge c b)) <ℤ pos 0))
-        → IsLong (edge a c)
-    from (inl both) = both.0
-    from (inr none) =
-        let weak = weak_length (span_of (edge a c)) in
-        let below = none.0 in
-        absurd (omega (arith, ints))
+    (long_if_crossed (span_of (edge a c)) (span_of (edge c b)) (bent_is a c b bent)).0
 
 -- ---- a corner is seen from itself at no distance
 

@@ -9,7 +9,7 @@ use Rattle.std.proofs.lemmas.Int.{ints}
 use Rattle.std.proofs.lemmas.Bool.{false_from_ne_true, false≢true}
 use Rattle.theory_lists.specs.Members.{Stands}
 use Rattle.theory_lists.specs.Parity.{differ, is_odd_number}
-use Rattle.theory_lists.proofs.Parity.{differ-self, odd_where_same}
+use Rattle.theory_lists.proofs.Parity.{differ-self, odd_where_same, opposite_from_differ}
 use Rattle.theory_lists.proofs.Parity.{is_odd_number-differ}
 use Rattle.theory_numbers.specs.Tests.{is_positive}
 use Rattle.theory_numbers.specs.Arrows.{cross, dot}
@@ -24,6 +24,7 @@ use Rattle.theory_numbers.proofs.Signs.{sign_cases, test_less, test_not_less, ab
 use Rattle.theory_numbers.proofs.SignTables.{hit_of}
 use Rattle.theory_lists.proofs.Members.{all_that_stand}
 use Rattle.theory_lists.proofs.Members.{any_stands}
+use Rattle.theory_numbers.proofs.Lengths.{long_if_crossed}
 use Rattle.sb_fraction.specs.declared.point.Point.{Point}
 use Rattle.sb_fraction.specs.Spots.{Spot, spot, IsSpot}
 use Rattle.sb_fraction.specs.Edges.{Edge, span_of, seen_from, turn_at, is_on}
@@ -46,8 +47,7 @@ use Rattle.theory_parity.proofs.OwnPoints.{IsOwn, IsLong, IsAlong, by_ends_cross
 use Rattle.theory_parity.proofs.OwnPoints.{cross_on_way, dot_on_way, on_along}
 use Rattle.theory_parity.proofs.RaysAnywhere.{none_from_line, level_on}
 use Rattle.theory_parity.proofs.RaysFromEdges.{IsAloneAt, left_of_a, left_of_b, right_ray, left_ray}
-use Rattle.theory_parity.proofs.SensesAlternate.{long_across}
-use Rattle.theory_parity.proofs.Soon.{more_than_0}
+use Rattle.theory_numbers.proofs.Soon.{more_than_0}
 
 -- ---- the end of the way
 
@@ -191,8 +191,7 @@ module _ (loops : List (List Point)) (plan : IsTrue (is_plan loops)) (e : Edge)
       → is_odd_number (is_struck (way_to p m) p) (edges_of loops) ≡ b → is_in_plan loops p ≡ b
   by_ray slanted b is =
       inside_by_ray (way_to p m) p
-      (long_across (span_of e) (way_to p m) long
-      (λ zero. let turn = cross-turn (span_of e) (way_to p m) in slanted (omega (arith, ints))))
+      (long_if_crossed (way_to p m) (span_of e) slanted).0
       loops
       ∙ ap₂ (λ s t. not s && t) off_edges is
 
@@ -274,12 +273,6 @@ module _ (loops : List (List Point)) (plan : IsTrue (is_plan loops)) (e : Edge)
 
   -- ---- both sides
 
-  answer_from_differ : (b c d : Bool) → differ b c ≡ true → c ≡ d → b ≡ not d
-  answer_from_differ true true d other same = absurd (false≢true other)
-  answer_from_differ true false d other same = ap not same
-  answer_from_differ false true d other same = ap not same
-  answer_from_differ false false d other same = absurd (false≢true other)
-
   -- inside exactly where it lies left of the edge
   pub inside_if_left : is_in_plan loops p ≡ is_positive (turn_at e p)
   inside_if_left = from (sign_cases (turn_at e p))
@@ -289,18 +282,20 @@ module _ (loops : List (List Point)) (plan : IsTrue (is_plan loops)) (e : Edge)
       from (inl (inl left)) =
           let side = left_side left in
           by_ray (λ zero. omega (arith, ints)) true
-          (answer_from_differ (is_odd_number (is_struck (way_to p m) p) (edges_of loops))
-          (is_odd_number (is_struck (way_to p m) m) (edges_of loops)) false
+          (opposite_from_differ (is_odd_number (is_struck (way_to p m) p) (edges_of loops))
+          (is_odd_number (is_struck (way_to p m) m) (edges_of loops))
           (other_answer (strikes_from_left left))
+          ∙ ap not
           (right_ray loops e m long own alone (way_to p m) side ∙ even_back loops plan e e_in m own))
           ∙ sym (test_less (pos 0) (turn_at e p) left)
       from (inl (inr zero)) = absurd (not_level zero)
       from (inr right) =
           let side = right_side right in
           by_ray (λ zero. omega (arith, ints)) false
-          (answer_from_differ (is_odd_number (is_struck (way_to p m) p) (edges_of loops))
-          (is_odd_number (is_struck (way_to p m) m) (edges_of loops)) true
+          (opposite_from_differ (is_odd_number (is_struck (way_to p m) p) (edges_of loops))
+          (is_odd_number (is_struck (way_to p m) m) (edges_of loops))
           (other_answer (strikes_from_right right))
+          ∙ ap not
           (left_ray loops e m long own alone odd (way_to p m) side
           ∙ ap not (even_back loops plan e e_in m own)))
           ∙ sym (test_not_less (pos 0) (turn_at e p) (omega (arith, ints)))

@@ -30,7 +30,6 @@ pub mod TurnedLoops
 pub mod TurnedIsApart
 pub mod TurnedIsPlan
 pub mod AlongAnEdge
-pub mod Soon
 pub mod BesideAnEdge
 pub mod NearAnEdge
 pub mod SensesAlternate

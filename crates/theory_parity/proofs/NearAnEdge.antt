@@ -29,7 +29,7 @@ use Rattle.theory_parity.proofs.EdgesApart.{long_edges, alone_inside, odd_inside
 use Rattle.theory_parity.proofs.OneSideALoop.{right_is_right, to_the_right}
 use Rattle.theory_parity.proofs.OwnPoints.{IsOwn, IsLong, own_from_within, middle_is_own}
 use Rattle.theory_parity.proofs.RaysFromEdges.{IsAloneAt, right_ray}
-use Rattle.theory_parity.proofs.Soon.{Soon, soon_both}
+use Rattle.theory_numbers.proofs.Soon.{Soon, soon_both}
 
 -- the loops of a plan are bent, and their edges apart
 pub plan_is_bent_apart : (loops : List (List Point)) → IsTrue (is_plan loops) → AreBentApart loops

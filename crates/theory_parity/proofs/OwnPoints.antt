@@ -9,7 +9,7 @@ use Rattle.std.proofs.lemmas.Bool.{and_parts, and_from}
 use Rattle.std.proofs.lemmas.Bool.Decides.{Decides-int_eq}
 use Rattle.theory_numbers.specs.Arrows.{Arrow, arrow, cross, dot, add, scale, opposite}
 use Rattle.theory_numbers.proofs.Arrows.{same_arrow, cross-turn, cross-self, cross-add, cross-scale}
-use Rattle.theory_numbers.proofs.Arrows.{dot_comm, dot-add, dot-scale, cross-opposite, opposite-dot}
+use Rattle.theory_numbers.proofs.Arrows.{dot_comm, dot-add, dot-scale, cross-opposite, dot-opposite}
 use Rattle.theory_numbers.proofs.Shapes.{var, num, plus, minus, negated, times, equal}
 use Rattle.theory_numbers.proofs.Shapes.{cross_by, dot_by}
 use Rattle.theory_numbers.proofs.Signs.{less_from, test_at_most, above_or_not}
@@ -325,7 +325,7 @@ middle_is_own e long =
     let s = span_of e in
     let self = cross-self s in
     let a_cross = ap (cross s) (a_from_middle e) ∙ cross-opposite s s in
-    let a_dot = ap (dot s) (a_from_middle e) ∙ dot_comm s (opposite s) ∙ opposite-dot s s in
+    let a_dot = ap (dot s) (a_from_middle e) ∙ dot-opposite s s in
     let b_cross = ap (cross s) (b_from_middle e) in
     let b_dot = ap (dot s) (b_from_middle e) in
     record {
@@ -387,7 +387,7 @@ module _ (a b : Point) (long : IsLong (edge a b)) where
       let s = span_of (edge a b) in
       let self = cross-self s in
       let a_cross = ap (cross s) (a_from_end a b) ∙ cross-opposite s s in
-      let a_dot = ap (dot s) (a_from_end a b) ∙ dot_comm s (opposite s) ∙ opposite-dot s s in
+      let a_dot = ap (dot s) (a_from_end a b) ∙ dot-opposite s s in
       let b_dot = dot-corner s b in
       record {
         is = omega (arith, ints);
@@ -401,7 +401,7 @@ module _ (a b : Point) (long : IsLong (edge a b)) where
   pub end_is_past : IsPastA (edge a b) (spot_at b)
   end_is_past =
       let s = span_of (edge a b) in
-      let a_dot = ap (dot s) (a_from_end a b) ∙ dot_comm s (opposite s) ∙ opposite-dot s s in
+      let a_dot = ap (dot s) (a_from_end a b) ∙ dot-opposite s s in
       omega (arith, ints)
 
   -- the end a lies along the edge

@@ -2,11 +2,12 @@
 -- the edge strike an odd number of edges or all an even one, and those to its left the opposite.
 
 use Rattle.std.proofs.Common.{◌≡◌, refl, sym, ap, ap₂, ◌∙◌, arith, pos, neg_ℤ, ◌<ℤ◌}
-use Rattle.std.proofs.Common.{◌*ℤ◌, Bool, true, false, not, ◌&&◌, int_lt, List, [], ◌∷◌}
+use Rattle.std.proofs.Common.{◌*ℤ◌, Bool, true, false, not, ◌&&◌, int_lt, List}
 use Rattle.std.proofs.lemmas.Int.{ints}
 use Rattle.theory_lists.specs.Members.{Stands}
 use Rattle.theory_lists.specs.Parity.{differ, is_odd_number}
-use Rattle.theory_lists.proofs.Parity.{same_from_differ, odd_where_same}
+use Rattle.theory_lists.proofs.Parity.{same_from_differ, odd_where_same, opposite_from_differ}
+use Rattle.theory_lists.proofs.Parity.{is_odd_number-and}
 use Rattle.theory_numbers.specs.Tests.{is_positive}
 use Rattle.theory_numbers.specs.Arrows.{Arrow, cross, dot, opposite}
 use Rattle.theory_numbers.proofs.Arrows.{cross-turn, cross-self, cross-opposite, opposite-cross}
@@ -79,26 +80,6 @@ passes_an_end e r s =
 abbrev pub IsAloneAt : List Edge → Edge → Spot → Type 0
 IsAloneAt es e p = (g : Edge) → Stands g es → is_on p g ≡ true → g ≡ e
 
--- a test that is held against one bit
-pub odd_and : {X : Type 0} (test : X → Bool) (b : Bool) (xs : List X)
-    → is_odd_number (λ x. test x && b) xs ≡ (is_odd_number test xs && b)
-odd_and test b [] = refl
-odd_and test b (x ∷ xs) =
-    ap (differ (test x && b)) (odd_and test b xs) ∙ spread (test x) (is_odd_number test xs) b
-  where
-    spread : (s t c : Bool) → differ (s && c) (t && c) ≡ (differ s t && c)
-    spread true true true = refl
-    spread true true false = refl
-    spread true false true = refl
-    spread true false false = refl
-    spread false t c = refl
-
-opposite_from_differ : (b c : Bool) → differ b c ≡ true → b ≡ not c
-opposite_from_differ true true relation = cc
-opposite_from_differ true false relation = refl
-opposite_from_differ false true relation = refl
-opposite_from_differ false false relation = cc
-
 module _ (loops : List (List Point)) (e : Edge) (p : Spot) (long : IsLong e) (own : IsOwn e p)
     (alone : IsAloneAt (edges_of loops) e p) where
   -- between two rays the parity changes where the turn passes an end of the edge
@@ -111,7 +92,7 @@ module _ (loops : List (List Point)) (e : Edge) (p : Spot) (long : IsLong e) (ow
       ∙ odd_where_same (is_swept r s p) (λ g. is_on p g && passes_an_end e r s) (edges_of loops)
       (all_that_stand (λ g. is_swept r s p g ≡ (is_on p g && passes_an_end e r s)) (edges_of loops)
       (λ g stands. by g (is_on p g) refl (alone g stands)))
-      ∙ odd_and (is_on p) (passes_an_end e r s) (edges_of loops)
+      ∙ is_odd_number-and (is_on p) (passes_an_end e r s) (edges_of loops)
     where
       at_own : differ (is_in_wedge r s p e.a) (is_in_wedge r s p e.b) ≡ passes_an_end e r s
       at_own =

@@ -9,7 +9,7 @@ use Rattle.std.proofs.lemmas.Bool.{false≢true}
 use Rattle.theory_lists.specs.Members.{Stands}
 use Rattle.theory_lists.specs.Parity.{differ, is_odd_number}
 use Rattle.theory_lists.proofs.Parity.{differ-self, differ-false, differ_comm, odd_where_same}
-use Rattle.theory_lists.proofs.Parity.{is_odd_number-differ}
+use Rattle.theory_lists.proofs.Parity.{is_odd_number-differ, differ_cancel}
 use Rattle.theory_numbers.specs.Tests.{is_positive}
 use Rattle.theory_numbers.specs.Arrows.{Arrow, cross, opposite}
 use Rattle.theory_numbers.proofs.Arrows.{same_arrow, cross-turn, cross-self, cross-opposite}
@@ -53,14 +53,6 @@ missed false over under none = refl
 met : (a over under : Bool) → (a ≡ true → under ≡ true) → hit_of a false over under ≡ a
 met true over under some = some refl
 met false over under some = refl
-
-cancelled : (b c d : Bool) → differ b d ≡ differ c d → b ≡ c
-cancelled true true d same = refl
-cancelled false false d same = refl
-cancelled true false true same = sym same
-cancelled true false false same = same
-cancelled false true true same = sym same
-cancelled false true false same = same
 
 no_wedge : (s t : Bool) → s ≡ false → (s && not t) ≡ false
 no_wedge s t none = rw none refl
@@ -345,7 +337,7 @@ module _ (loops : List (List Point)) (a c b : Point) (long_e : IsLong (edge a c)
       → is_odd_number (is_struck back_f middle_f) (edges_of loops)
       ≡ is_odd_number (is_struck back_e corner) (edges_of loops)
   left_bend left =
-      cancelled (is_odd_number (is_struck back_f middle_f) (edges_of loops))
+      differ_cancel (is_odd_number (is_struck back_f middle_f) (edges_of loops))
       (is_odd_number (is_struck back_e corner) (edges_of loops))
       (is_odd_number (is_struck back_f corner) (edges_of loops))
       (odd_change back_e back_f at_e at_f
@@ -375,7 +367,7 @@ module _ (loops : List (List Point)) (a c b : Point) (long_e : IsLong (edge a c)
       → is_odd_number (is_struck back_f middle_f) (edges_of loops)
       ≡ is_odd_number (is_struck back_e corner) (edges_of loops)
   right_bend right =
-      cancelled (is_odd_number (is_struck back_f middle_f) (edges_of loops))
+      differ_cancel (is_odd_number (is_struck back_f middle_f) (edges_of loops))
       (is_odd_number (is_struck back_e corner) (edges_of loops))
       (is_odd_number (is_struck back_f corner) (edges_of loops))
       (odd_change back_f back_e at_e at_f

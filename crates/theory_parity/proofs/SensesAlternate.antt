@@ -11,23 +11,24 @@ use Rattle.std.proofs.lemmas.Bool.{or_parts, false≢true}
 use Rattle.std.proofs.lemmas.Bool.Decides.{Decides-int_eq}
 use Rattle.theory_lists.specs.Members.{Stands}
 use Rattle.theory_lists.specs.Parity.{differ, is_odd_number}
-use Rattle.theory_lists.proofs.Parity.{is_odd_number-same}
+use Rattle.theory_lists.proofs.Parity.{is_odd_number-same, opposite_from_differ}
 use Rattle.theory_numbers.specs.Tests.{is_positive}
 use Rattle.theory_numbers.specs.Arrows.{Arrow, arrow, cross, dot, opposite}
 use Rattle.theory_numbers.specs.Rationals.{IsRational, rational}
 use Rattle.theory_numbers.proofs.Arrows.{opposite-cross, cross-turn}
-use Rattle.theory_numbers.proofs.Products.{positive_product, positive_factor, zero_of_positive}
-use Rattle.theory_numbers.proofs.Products.{weak_square, positive_square, unscale_equal}
+use Rattle.theory_numbers.proofs.Products.{positive_product, zero_of_positive}
+use Rattle.theory_numbers.proofs.Products.{unscale_equal}
 use Rattle.theory_numbers.proofs.Ring.{mul-zero, neg-mul}
 use Rattle.theory_numbers.proofs.Shapes.{var, num, plus, minus, negated, times, equal, cross_by}
 use Rattle.theory_numbers.proofs.Shapes.{dot_by, dot_is}
 use Rattle.theory_numbers.proofs.Signs.{sign_cases, test_less, test_not_less}
-use Rattle.theory_numbers.proofs.ThreeTerms.{frame_cross, frame_dot}
+use Rattle.theory_numbers.proofs.ThreeTerms.{frame_cross}
 use Rattle.theory_plane.specs.Sides.{line, value_on}
 use Rattle.theory_plane.specs.Points.{point_at}
 use Rattle.theory_plane.proofs.Clearance.{value_on-IsRational}
 use Rattle.theory_numbers.proofs.Multiples.{sign_of_multiple}
 use Rattle.theory_numbers.proofs.Lengths.{opposed}
+use Rattle.theory_numbers.proofs.Lengths.{long_if_crossed}
 use Rattle.sb_fraction.specs.declared.point.Point.{Point}
 use Rattle.sb_fraction.specs.Spots.{Spot, IsSpot}
 use Rattle.sb_fraction.specs.Edges.{Edge, span_of, seen_from, turn_at, reach_at}
@@ -40,7 +41,7 @@ use Rattle.theory_parity.specs.Below.{IsWay, down_from, is_lower_at, spot_in, va
 use Rattle.theory_parity.proofs.BelowByValue.{below_by_value, in_frame-spot_from, spot_in_is}
 use Rattle.theory_parity.proofs.BelowFlips.{reaching_is_line}
 use Rattle.theory_parity.proofs.EdgesApart.{long_edges, alone_inside, odd_inside}
-use Rattle.theory_parity.proofs.InsideByBelow.{below_is_struck, turn_by_span, down_is_way}
+use Rattle.theory_parity.proofs.InsideByBelow.{below_is_struck, turn_by_span}
 use Rattle.theory_parity.proofs.NearAnEdge.{plan_is_bent_apart, even_back}
 use Rattle.theory_parity.proofs.OwnPoints.{IsOwn, IsLong, own_from_on}
 use Rattle.theory_parity.proofs.RaysFromEdges.{right_ray, left_ray, left_of_a, left_of_b}
@@ -126,25 +127,11 @@ beyond d u v a =
         (dot_by d (arrow p.x p.y) (var d.x) (var d.y) (var p.x) (var p.y)))
         (omega arith)
 
--- a vector that is no multiple of a way is long
-pub long_across : (n v : Arrow) → pos 0 <ℤ dot n n → (cross n v ≡ pos 0 → ⊥) → pos 0 <ℤ dot v v
-long_across n v n_long apart =
-    let whole = frame_dot n v v in
-    let square = positive_square (cross n v) apart in
-    let other = weak_square (dot n v) in
-    positive_factor (dot n n) (dot v v) n_long (omega (arith, ints))
-
 -- the way down sees the edge's vector as d does
 down_is : (d s : Arrow) → cross (down_from d) s ≡ dot d s
 down_is d s =
     equal (cross_by (down_from d) s (var d.y) (negated (var d.x)) (var s.x) (var s.y)) (dot_is d s)
     (omega arith)
-
-differ_not : (b c : Bool) → differ b c ≡ true → b ≡ not c
-differ_not true true other = cc
-differ_not true false other = refl
-differ_not false true other = refl
-differ_not false false other = cc
 
 module _ (d u : Arrow) (d_is : IsWay d) (u_in : IsRational u) (e : Edge)
     (reaches : reaches_past d u e ≡ true) (no_end : ends_over (flat d) u e ≡ false) where
@@ -195,7 +182,7 @@ module _ (d u : Arrow) (d_is : IsWay d) (u_in : IsRational u) (e : Edge)
 
   sides : is_left_of (down_from d) here e.a ≡ not (is_left_of (down_from d) here e.b)
   sides =
-      differ_not (is_left_of (down_from d) here e.a) (is_left_of (down_from d) here e.b)
+      opposite_from_differ (is_left_of (down_from d) here e.a) (is_left_of (down_from d) here e.b)
       (ap₂ differ (after_is_left e.a) (after_is_left e.b) ∙ reaches)
 
   near_here : reach_at e here ≤ℤ pos 0
@@ -208,14 +195,14 @@ module _ (d u : Arrow) (d_is : IsWay d) (u_in : IsRational u) (e : Edge)
       → int_eq (cross u (rational (abscissa_at a (flat d)) (pos 1))) (pos 0) ≡ false
       → pos 0 <ℤ dot (seen_from here a) (seen_from here a)
   off_end a other =
-      long_across (down_from d) (seen_from here a) (down_is_way d d_is)
+      (long_if_crossed (down_from d) (seen_from here a)
       (λ zero.
       false≢true
       (sym other
       ∙ (Decides-int_eq (cross u (rational (abscissa_at a (flat d)) (pos 1))) (pos 0)).1
       (zero_of_positive (dot d d *ℤ (value_of d u e).x)
       (cross u (rational (abscissa_at a (flat d)) (pos 1))) positive
-      (sym (beyond d u (value_of d u e) a) ∙ zero))))
+      (sym (beyond d u (value_of d u e) a) ∙ zero))))).1
 
   -- it lies strictly between the ends
   own_here : IsOwn e here
