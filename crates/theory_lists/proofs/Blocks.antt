@@ -128,3 +128,13 @@ pub two-append : {X : Type 0} (R : X → X → Type 0) (xs ys : List X) → AllO
 two-append R [] ys left right across = right
 two-append R (x ∷ xs) ys left right across =
     (all-append (R x) xs ys left.0 across.0, two-append R xs ys left.1 right across.1)
+
+-- what holds of each two of the two blocks together holds of each two of either, and of each one of
+-- the first with each one of the second
+pub two_in_parts : {X : Type 0} (R : X → X → Type 0) (xs ys : List X) → AllOfTwo R (xs ++ ys)
+    → (AllOfTwo R xs × AllOfTwo R ys) × AllByRecursion (λ x. AllByRecursion (R x) ys) xs
+two_in_parts R [] ys two = ((tt, two), tt)
+two_in_parts R (x ∷ xs) ys two =
+    let first = all_in_parts (R x) xs ys two.0 in
+    let rest = two_in_parts R xs ys two.1 in
+    (((first.0, rest.0.0), rest.0.1), (first.1, rest.1))

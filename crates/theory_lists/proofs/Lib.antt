@@ -6,6 +6,8 @@ pub mod Members
 pub mod Blocks
 -- lists in another order
 pub mod InAnyOrder
+-- tests that all items pass
+pub mod Passing
 -- lists with the same members, in neither of which one stands twice
 pub mod SameMembers
 -- exclusive or, and parities of lists

@@ -1,6 +1,6 @@
 -- Exclusive or, and the parity of how often a test answers true in a list.
 use Rattle.std.proofs.Common.{◌≡◌, refl, sym, ap, ap₂, ◌∙◌}
-use Rattle.std.proofs.Common.{Bool, true, false, not, ◌||◌}
+use Rattle.std.proofs.Common.{Bool, true, false, not, ◌&&◌, ◌||◌}
 use Rattle.std.proofs.Common.{List, [], ◌∷◌, ◌++◌, map}
 use Rattle.std.proofs.Common.{ℕ, zero, suc, ◌+◌, cond, count_by, IsPermutation, one-add, zero-add}
 use Rattle.std.proofs.lemmas.Bool.{or_parts, false≢true, false_from_ne_true}
@@ -64,6 +64,30 @@ same_from_differ false false relation = refl
 same_from_differ true false relation = cc
 same_from_differ false true relation = cc
 
+-- bits that differ are opposite
+pub opposite_from_differ : (b c : Bool) → differ b c ≡ true → b ≡ not c
+opposite_from_differ true true relation = cc
+opposite_from_differ true false relation = refl
+opposite_from_differ false true relation = refl
+opposite_from_differ false false relation = cc
+
+-- bits that differ alike from a third are equal
+pub differ_cancel : (b c d : Bool) → differ b d ≡ differ c d → b ≡ c
+differ_cancel true true d same = refl
+differ_cancel false false d same = refl
+differ_cancel true false true same = sym same
+differ_cancel true false false same = same
+differ_cancel false true true same = sym same
+differ_cancel false true false same = same
+
+-- one bit held against both of two
+pub differ-and : (b c d : Bool) → differ (b && d) (c && d) ≡ (differ b c && d)
+differ-and true true true = refl
+differ-and true true false = refl
+differ-and true false true = refl
+differ-and true false false = refl
+differ-and false c d = refl
+
 -- the middle two of four change places
 pub differ-differ : (a b c d : Bool)
     → differ (differ a b) (differ c d) ≡ differ (differ a c) (differ b d)
@@ -111,6 +135,14 @@ module _ {X : Type 0} where
   is_odd_number-none test (x ∷ xs) relation =
       let parts = or_parts (test x) (list_any test xs) relation in
       rw (parts.0) (is_odd_number-none test xs parts.1)
+
+  -- of a test held against one bit it is the fold, held against it
+  pub is_odd_number-and : (test : X → Bool) (b : Bool) (xs : List X)
+      → is_odd_number (λ x. test x && b) xs ≡ (is_odd_number test xs && b)
+  is_odd_number-and test b [] = refl
+  is_odd_number-and test b (x ∷ xs) =
+      ap (differ (test x && b)) (is_odd_number-and test b xs)
+      ∙ differ-and (test x) (is_odd_number test xs) b
 
   -- of two tests that answer alike it is the same
   pub is_odd_number-same : (f g : X → Bool) → ((x : X) → f x ≡ g x) → (xs : List X)

@@ -8,13 +8,13 @@ use Rattle.theory_numbers.specs.Tests.{is_positive}
 use Rattle.theory_numbers.specs.Arrows.{Arrow, cross, dot}
 use Rattle.theory_numbers.proofs.Arrows.{cross-turn, dot_comm}
 use Rattle.theory_numbers.proofs.Shapes.{var, num, minus, times, equal, cross_is, dot_is}
-use Rattle.theory_numbers.proofs.Shapes.{dot_eq, cross_eq}
+use Rattle.theory_numbers.proofs.Shapes.{dot_eq}
 use Rattle.theory_numbers.proofs.Products.{positive_product, negative_product, product_of_negatives}
 use Rattle.theory_numbers.proofs.Products.{weak_square, positive_square, square_of_zero}
-use Rattle.theory_numbers.proofs.Products.{positive_factor, negative_factor}
+use Rattle.theory_numbers.proofs.Products.{positive_factor, negative_factor, same_signs}
 use Rattle.theory_numbers.proofs.Products.{weak_negative_product, weak_negative_factor}
 use Rattle.theory_numbers.proofs.Products.{weak_product_of_negatives}
-use Rattle.theory_numbers.proofs.Ring.{mul_comm, mul-zero, neg-mul, zero-mul}
+use Rattle.theory_numbers.proofs.Ring.{mul_comm, neg-mul, zero-mul}
 use Rattle.theory_numbers.proofs.Signs.{less_from, not_less_from, test_less, test_not_less}
 use Rattle.theory_numbers.proofs.Signs.{sign_cases}
 use Rattle.theory_numbers.proofs.ThreeTerms.{cycle, frame_dot}
@@ -58,16 +58,25 @@ long_from d s apart d_long =
     let other = weak_square (cross d s) in
     positive_factor (dot d d) (dot s s) d_long (omega (arith, ints))
 
--- and one that does not lie on the line of another
-pub long_aside : (r a : Arrow) → (cross r a ≡ pos 0 → ⊥) → pos 0 <ℤ dot a a
-long_aside r a aside =
-    some_length a (λ none.
-    let zero = no_length a (omega (arith, ints)) in
-    let spread : cross r a ≡ (r.x *ℤ pos 0) -ℤ (r.y *ℤ pos 0) =
-    cross_eq r a ∙ ap₂ (λ s t. (r.x *ℤ t) -ℤ (r.y *ℤ s)) zero.0 zero.1 in
-    let first = mul-zero r.x in
-    let second = mul-zero r.y in
-    aside (omega (arith, ints)))
+-- so are two vectors with a cross product other than 0
+pub long_if_crossed : (a b : Arrow) → (cross a b ≡ pos 0 → ⊥)
+    → (pos 0 <ℤ dot a a) × (pos 0 <ℤ dot b b)
+long_if_crossed a b apart =
+    from
+    (same_signs (dot a a) (dot b b)
+    (let whole = frame_dot a b b in
+    let square = positive_square (cross a b) apart in
+    let other = weak_square (dot a b) in
+    omega (arith, ints)))
+  where
+    from : ((pos 0 <ℤ dot a a) × (pos 0 <ℤ dot b b))
+        ⊎ ((dot a a <ℤ pos 0) × (dot b b <ℤ pos 0))
+        → (pos 0 <ℤ dot a a) × (pos 0 <ℤ dot b b)
+    from (inl both) = both
+    from (inr none) =
+        let weak = weak_length a in
+        let below = none.0 in
+        absurd (omega (arith, ints))
 
 -- ---- two vectors on one line
 
@@ -160,7 +169,7 @@ parted r a b level near off_a off_b = from (sign_cases (cross r a)) (sign_cases 
     same = seen_by a b r level
 
     long : pos 0 <ℤ dot a a
-    long = long_aside r a off_a
+    long = (long_if_crossed r a off_a).1
 
     both_left : pos 0 <ℤ cross r a → pos 0 <ℤ cross r b → ⊥
     both_left left_a left_b =

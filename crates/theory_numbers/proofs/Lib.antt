@@ -22,6 +22,8 @@ pub mod SignTables
 pub mod Rationals
 -- intervals in which forms keep their sign
 pub mod Clear
+-- what holds at all positive numbers up to some one
+pub mod Soon
 -- a number that avoids a list
 pub mod Avoid
 -- reduced fractions are unique

@@ -15,12 +15,12 @@ use Rattle.theory_lists.specs.Parity.{differ, is_odd_number}
 use Rattle.theory_lists.proofs.Members.{all_follow, two_follow, all_stands}
 use Rattle.theory_lists.proofs.Blocks.{one_of_at_most}
 use Rattle.theory_lists.proofs.Parity.{is_odd_number-same, is_odd_number-differ}
-use Rattle.theory_lists.proofs.Parity.{odd_is_any}
+use Rattle.theory_lists.proofs.Parity.{odd_is_any, differ-opposite, opposite_from_differ}
 use Rattle.theory_numbers.specs.Tests.{is_positive}
 use Rattle.theory_numbers.specs.Arrows.{Arrow, cross, dot, scale}
 use Rattle.theory_numbers.specs.Rationals.{IsRational, IsBelow, rational}
 use Rattle.theory_numbers.proofs.Arrows.{scale-cross}
-use Rattle.theory_numbers.proofs.Lengths.{long_aside, opposed, parted}
+use Rattle.theory_numbers.proofs.Lengths.{long_if_crossed, opposed, parted}
 use Rattle.theory_numbers.proofs.Products.{zero_of_positive}
 use Rattle.theory_numbers.proofs.Signs.{sign_cases, same_tests, test_less, test_not_less, test_at_most}
 use Rattle.theory_numbers.proofs.Signs.{test_not_at_most, test_not_equal, at_most_from}
@@ -53,18 +53,6 @@ on_table true true false same = absurd (false≢true (sym (same refl)))
 on_table true false true same = absurd (false≢true (same refl))
 on_table false within true same = refl
 on_table false within false same = refl
-
-differ-not : (a b : Bool) → a ≡ not b → differ a b ≡ true
-differ-not true false relation = refl
-differ-not false true relation = refl
-differ-not true true relation = absurd (false≢true (sym relation))
-differ-not false false relation = absurd (false≢true relation)
-
-not_from_differ : (a b : Bool) → differ a b ≡ true → a ≡ not b
-not_from_differ true false relation = refl
-not_from_differ false true relation = refl
-not_from_differ true true relation = absurd (false≢true relation)
-not_from_differ false false relation = absurd (false≢true relation)
 
 module _ (d u v : Arrow) (d_is : IsWay d) (u_in : IsRational u) (v_in : IsRational v) (e : Edge)
     (no_end : ends_over (flat d) u e ≡ false) where
@@ -102,9 +90,9 @@ module _ (d u v : Arrow) (d_is : IsWay d) (u_in : IsRational u) (v_in : IsRation
   unfolding p
   no_end_there = record {
     a_apart =
-        long_aside (down_from d) (seen_from (spot_in d u v) e.a) (apart_at e.a ends.0);
+        (long_if_crossed (down_from d) (seen_from (spot_in d u v) e.a) (apart_at e.a ends.0)).1;
     b_apart =
-        long_aside (down_from d) (seen_from (spot_in d u v) e.b) (apart_at e.b ends.1);
+        (long_if_crossed (down_from d) (seen_from (spot_in d u v) e.b) (apart_at e.b ends.1)).1;
   }
 
   past : reaches_past d u e
@@ -120,14 +108,14 @@ module _ (d u v : Arrow) (d_is : IsWay d) (u_in : IsRational u) (v_in : IsRation
       same_tests (int_le (reach_at e p) (pos 0))
       (differ (is_left_of (down_from d) p e.a) (is_left_of (down_from d) p e.b))
       (λ near.
-      differ-not (is_left_of (down_from d) p e.a) (is_left_of (down_from d) p e.b)
+      differ-opposite (is_left_of (down_from d) p e.a) (is_left_of (down_from d) p e.b)
       (parted (down_from d) (seen_from p e.a) (seen_from p e.b) level
       (at_most_from (reach_at e p) (pos 0) near) (apart_at e.a ends.0) (apart_at e.b ends.1)))
       (λ sides.
       test_at_most (reach_at e p) (pos 0)
       (opposed (down_from d) (seen_from p e.a) (seen_from p e.b)
       (is_left_of (down_from d) p e.a) (is_left_of (down_from d) p e.b) refl refl
-      (not_from_differ (is_left_of (down_from d) p e.a) (is_left_of (down_from d) p e.b) sides)
+      (opposite_from_differ (is_left_of (down_from d) p e.a) (is_left_of (down_from d) p e.b) sides)
       level))
       ∙ sym past
 

@@ -22,4 +22,20 @@ pub mod RegionIsFourHalves
 -- lines without a corner
 pub mod OnLineOver
 pub mod InsideByValues
+-- the solid on the left
+pub mod RaysAnywhere
+pub mod OwnPoints
+pub mod RaysFromEdges
+pub mod RoundACorner
+pub mod EdgesApart
+pub mod OneSideALoop
+pub mod TurnedLoops
+pub mod TurnedIsApart
+pub mod TurnedIsPlan
+pub mod AlongAnEdge
+pub mod BesideAnEdge
+pub mod NearAnEdge
+pub mod SensesAlternate
+pub mod LeftIsInside
 mod Examples
+mod ExampleSides

@@ -254,7 +254,8 @@ each_is_clear p q (e ∷ es) clear = (
 abbrev pub flat_spot : Spot → Spot
 flat_spot p = spot p.x p.y (pos 0) p.w
 
-same_flat : {x y w x' y' w' : ℤ} → x ≡ x' → y ≡ y' → w ≡ w'
+-- two points at the height 0 with equal numbers
+pub same_flat : {x y w x' y' w' : ℤ} → x ≡ x' → y ≡ y' → w ≡ w'
     → spot x y (pos 0) w ≡ spot x' y' (pos 0) w'
 same_flat {x} {y} {w} {x'} {y'} {w'} ex ey ew =
     ap (λ t. spot t y (pos 0) w) ex ∙ ap (λ t. spot x' t (pos 0) w) ey

@@ -2,4 +2,6 @@
 pub mod Below
 pub mod Halves
 pub mod RegionsAlong
+pub mod Sides
 pub mod Laws
+pub mod SideLaws

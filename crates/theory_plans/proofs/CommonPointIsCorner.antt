@@ -259,7 +259,8 @@ edges_meet_at_corners loops bent apart =
         let same = same_point f.b e.a second in
         inr (same, at_corner loops bent apart f e at_f at_e same p p_is on_f on_e)
 
-loops_are_bent : (loops : List (List Point)) → list_all is_loop loops ≡ true
+-- loops are bent
+pub loops_are_bent : (loops : List (List Point)) → list_all is_loop loops ≡ true
     → list_all is_bent_loop loops ≡ true
 loops_are_bent [] all = refl
 loops_are_bent (points ∷ loops) all =
