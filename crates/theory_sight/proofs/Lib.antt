@@ -1,0 +1,5 @@
+-- The laws by topic.
+
+-- labels of what stands on a line
+pub mod LowestBetween
+pub mod Stacked
