@@ -3,3 +3,5 @@
 -- labels of what stands on a line
 pub mod LowestBetween
 pub mod Stacked
+-- items of a crossing
+pub mod Thickness
