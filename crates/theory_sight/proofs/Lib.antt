@@ -5,3 +5,4 @@ pub mod LowestBetween
 pub mod Stacked
 -- items of a crossing
 pub mod Thickness
+pub mod Extents
