@@ -6,3 +6,5 @@ pub mod Stacked
 -- items of a crossing
 pub mod Thickness
 pub mod Extents
+pub mod BandsCut
+pub mod BandsOfPrisms
