@@ -8,3 +8,5 @@ pub mod Thickness
 pub mod Extents
 pub mod BandsCut
 pub mod BandsOfPrisms
+-- pieces of a walk
+pub mod PiecesAreRuns
