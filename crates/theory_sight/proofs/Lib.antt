@@ -9,4 +9,5 @@ pub mod Extents
 pub mod BandsCut
 pub mod BandsOfPrisms
 -- pieces of a walk
+pub mod CutTwice
 pub mod PiecesAreRuns
