@@ -8,6 +8,9 @@ pub mod Thickness
 pub mod Extents
 pub mod BandsCut
 pub mod BandsOfPrisms
+pub mod ItemsOfPieces
+pub mod LayeredItems
 -- pieces of a walk
+pub mod ElementAt
 pub mod CutTwice
 pub mod PiecesAreRuns
