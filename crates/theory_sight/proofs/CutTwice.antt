@@ -69,7 +69,7 @@ module _ {L : Type 0} (f g : Arrow → L) (high : Option Arrow) (high_in : IsEnd
 -- ---- no point is odd
 
 -- a number below b and above two ends
-above_two_ends : (low other : Option Arrow) (b : Arrow) → IsEnd low → IsEnd other → IsRational b
+pub above_two_ends : (low other : Option Arrow) (b : Arrow) → IsEnd low → IsEnd other → IsRational b
     → IsAfter low b → IsAfter other b
     → (u : Arrow) × (IsBetween low (Some b) u × IsBetween other (Some b) u)
 above_two_ends low other b low_in other_in b_in wide wide_too =

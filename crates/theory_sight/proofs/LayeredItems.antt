@@ -110,7 +110,7 @@ layer_on-scaled s layers axis n k v k_in = by (int_lt (pos 0) (inner (axis_vecto
 -- ---- the passages of a crossing are bands
 
 -- labels of one element that differ have different layers
-layers_differ : (k : ℕ) (first : Label) (bs : List (Break Label))
+pub layers_differ : (k : ℕ) (first : Label) (bs : List (Break Label))
     → (i : ℕ) × (first ≡ label.Element k i)
     → AllByRecursion (λ b. (i : ℕ) × (b.label ≡ label.Element k i)) bs
     → AreDifferent first bs → AreDifferent (layer_of first) (map_labels layer_of bs)
@@ -123,7 +123,7 @@ layers_differ k first (b ∷ bs) (i, one) ((j, other), rest) differ = (
 )
 
 -- a depth and the position there
-back_again : (x0 x : ℤ) → moved_by (neg_ℤ x0) (rational x (pos 1)) ≡ rational (x -ℤ x0) (pos 1)
+pub back_again : (x0 x : ℤ) → moved_by (neg_ℤ x0) (rational x (pos 1)) ≡ rational (x -ℤ x0) (pos 1)
 back_again x0 x = ap (arrow (pos 1)) (sum x0 x)
   where
     sum : (x0 x : ℤ) → x +ℤ (neg_ℤ x0 *ℤ pos 1) ≡ x -ℤ x0
@@ -135,7 +135,7 @@ whole_at_most : (a b : ℤ) → a ≤ℤ b → IsAtMost (rational a (pos 1)) (ra
 unfolding cross
 whole_at_most a b order = omega (arith, ints)
 
-whole_below : (a b : ℤ) → a <ℤ b → IsBelow (rational a (pos 1)) (rational b (pos 1))
+pub whole_below : (a b : ℤ) → a <ℤ b → IsBelow (rational a (pos 1)) (rational b (pos 1))
 unfolding cross
 whole_below a b order = omega (arith, ints)
 

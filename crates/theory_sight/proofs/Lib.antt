@@ -10,7 +10,8 @@ pub mod BandsCut
 pub mod BandsOfPrisms
 pub mod ItemsOfPieces
 pub mod LayeredItems
--- pieces of a walk
+-- pieces of a walk, and the items of a crossing
 pub mod ElementAt
 pub mod CutTwice
 pub mod PiecesAreRuns
+pub mod CrossingItems
