@@ -66,6 +66,7 @@ pub record IsElementAt (m : Building) (p : Spot) (k layer : ℕ) : Type 0 where
   pub element : Element
   pub numbered : element_numbered m k ≡ Some element
   pub number_is : element.number ≡ k
+  pub stands : Stands element m.elements
   pub inside : is_in_solid element.prism p ≡ true
   pub layer_is : layer ≡ layer_at element.prism element.layering p
 
@@ -100,6 +101,7 @@ element_is_at m is p k layer found = of_space (space_at m p) found
           element = e;
           numbered = numbered e at.0 number;
           number_is = number;
+          stands = at.0;
           inside = at.1;
           layer_is = sym layer_is;
         }

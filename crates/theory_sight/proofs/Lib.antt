@@ -15,3 +15,5 @@ pub mod ElementAt
 pub mod CutTwice
 pub mod PiecesAreRuns
 pub mod CrossingItems
+-- the walk as it is read
+pub mod WalkIsRead
