@@ -17,3 +17,4 @@ pub mod PiecesAreRuns
 pub mod CrossingItems
 -- the walk as it is read
 pub mod WalkIsRead
+pub mod ReadsNoFurther

@@ -1,7 +1,7 @@
 -- The walk as a function of what a ray meets, stretch by stretch. It looks at labels, at numbers and at
 -- whole positions, and at nothing else.
 use Rattle.std.specs.Prelude.{◌≡◌, ℕ, ℤ, pos, ◌-ℤ◌, Bool, true, false, ◌&&◌, List, [], ◌∷◌, ◌++◌}
-use Rattle.std.specs.Prelude.{Option, Some, None, if◌then◌else◌}
+use Rattle.std.specs.Prelude.{Option, Some, None, neg_ℤ, if◌then◌else◌, ⊤}
 use Rattle.theory_numbers.specs.Arrows.{Arrow}
 use Rattle.theory_numbers.specs.Rationals.{rational}
 use Rattle.theory_cuttings.specs.Cuttings.{Break}
@@ -86,3 +86,58 @@ AreStretches m r x0 (b ∷ []) (s ∷ []) = (s.label ≡ b.label) × (s.far ≡ 
 AreStretches m r x0 (b ∷ []) (s ∷ t ∷ ss) = ⊥
 AreStretches m r x0 (b ∷ c ∷ bs) (s ∷ ss) =
     (s.label ≡ b.label) × IsFarEnd m r x0 c.start s.far × AreStretches m r x0 (c ∷ bs) ss
+
+-- ---- how far is read, and back
+
+abbrev pub ends_in_element : Building → Vector → ℤ → Option Element → FarEnd → (ℤ → Bool) → Bool
+ends_in_element m n at (Some e) (square y) goes_on =
+    if is_passed_over m n e at y then goes_on y else true
+ends_in_element m n at _ far goes_on = true
+
+abbrev pub ends_in_stretch : Building → Vector → ℤ → Label → FarEnd → (ℤ → Bool) → Bool
+ends_in_stretch m n at (label.Element k layer) far goes_on =
+    ends_in_element m n at (element_numbered m k) far goes_on
+ends_in_stretch m n at _ far goes_on = true
+
+-- the walk ends in these stretches
+abbrev pub ends_in : Building → Vector → ℤ → List Stretch → Bool
+ends_in m n at [] = false
+ends_in m n at (s ∷ ss) = ends_in_stretch m n at s.label s.far (λ y. ends_in m n y ss)
+
+-- an element that a walk passes: its number, and the position behind it
+pub record Crossing : Type 0 where
+  pub element : ℕ
+  pub to : ℤ
+
+-- the position behind all of them
+abbrev pub end_position : ℤ → List Crossing → ℤ
+end_position at [] = at
+end_position at (c ∷ cs) = end_position c.to cs
+
+-- each is an element of the model and is passed
+abbrev pub AllPassed : Building → Vector → ℤ → List Crossing → Type 0
+AllPassed m n at [] = ⊤
+AllPassed m n at (c ∷ cs) =
+    (e : Element) × (element_numbered m c.element ≡ Some e)
+    × (is_passed_over m n e at c.to ≡ true) × AllPassed m n c.to cs
+
+abbrev pub items_of : Option Element → Vector → ℤ → ℤ → List Item
+items_of None n x y = []
+items_of (Some e) n x y = items_between e n x y
+
+-- the items of all of them, in order
+abbrev pub all_items : Building → Vector → ℤ → List Crossing → List Item
+all_items m n at [] = []
+all_items m n at (c ∷ cs) =
+    items_of (element_numbered m c.element) n at c.to ++ all_items m n c.to cs
+
+-- their stretches on the way there, and then further ones
+abbrev pub there : List Crossing → List Stretch → List Stretch
+there [] further = further
+there (c ∷ cs) further = stretch (label.Element c.element 0) (square c.to) ∷ there cs further
+
+-- and on the way back, where positions are counted the other way: each ends where it began
+abbrev pub back : ℤ → List Crossing → List Stretch → List Stretch
+back at [] further = further
+back at (c ∷ cs) further =
+    back c.to cs (stretch (label.Element c.element 0) (square (neg_ℤ at)) ∷ further)
