@@ -79,7 +79,7 @@ axis_is_some a is x_is y_is z_is = by (or_cases (is_level_axis a) (is_upright_ax
         false≢true (subst (λ z. nat_eq (unsigned_abs z) 1 ≡ true) z_is first.1)
 
 -- an axis that is parallel to a normal does not stand across it
-not_across : (a : Axis) (n : Vector) → (is_level_axis a || is_upright_axis a) ≡ true
+pub not_across : (a : Axis) (n : Vector) → (is_level_axis a || is_upright_axis a) ≡ true
     → pos 0 <ℤ inner n n → is_parallel (axis_vector a) n ≡ true
     → inner (axis_vector a) n ≡ pos 0 → ⊥
 not_across a n is some parallel none =

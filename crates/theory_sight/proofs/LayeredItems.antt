@@ -131,7 +131,7 @@ back_again x0 x = ap (arrow (pos 1)) (sum x0 x)
         equal (plus (var x) (times (negated (var x0)) (num 1))) (minus (var x) (var x0)) (omega arith)
 
 -- the order of whole positions
-whole_at_most : (a b : ℤ) → a ≤ℤ b → IsAtMost (rational a (pos 1)) (rational b (pos 1))
+pub whole_at_most : (a b : ℤ) → a ≤ℤ b → IsAtMost (rational a (pos 1)) (rational b (pos 1))
 unfolding cross
 whole_at_most a b order = omega (arith, ints)
 

@@ -18,3 +18,5 @@ pub mod CrossingItems
 -- the walk as it is read
 pub mod WalkIsRead
 pub mod ReadsNoFurther
+-- the way back
+pub mod ItemsReversed
