@@ -20,3 +20,4 @@ pub mod WalkIsRead
 pub mod ReadsNoFurther
 -- the way back
 pub mod ItemsReversed
+pub mod ReadBack
