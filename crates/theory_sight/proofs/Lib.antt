@@ -21,3 +21,5 @@ pub mod ReadsNoFurther
 -- the way back
 pub mod ItemsReversed
 pub mod ReadBack
+-- worked walks
+mod Examples
