@@ -1,6 +1,6 @@
 -- The column of the sorted values is a cutting of the label, and it has no odd point.
 use Rattle.std.proofs.Common.{◌≡◌, refl, sym, ap, ◌∙◌, ◌⊎◌, inl, inr, arith, subst}
-use Rattle.std.proofs.Common.{Option, Some, None, Bool, true, false, ℤ, pos, List, [], ◌∷◌}
+use Rattle.std.proofs.Common.{Option, Some, None, Bool, true, false, pos, List, [], ◌∷◌}
 use Rattle.std.proofs.lemmas.Int.{ints}
 use Rattle.std.specs.List.{AllByRecursion}
 use Rattle.theory_lists.specs.Members.{Stands}
@@ -8,7 +8,7 @@ use Rattle.theory_lists.specs.Parity.{is_odd_number}
 use Rattle.theory_lists.proofs.Members.{all_follow}
 use Rattle.theory_lists.proofs.Parity.{odd_where_same}
 use Rattle.theory_numbers.specs.Arrows.{Arrow, cross}
-use Rattle.theory_numbers.specs.Rationals.{IsRational, IsBelow, IsAtMost, IsSame}
+use Rattle.theory_numbers.specs.Rationals.{IsRational, IsBelow, IsAtMost}
 use Rattle.theory_numbers.specs.Rationals.{is_below, is_at_most}
 use Rattle.theory_numbers.proofs.Signs.{test_less, test_not_less, test_at_most, test_not_at_most}
 use Rattle.theory_numbers.proofs.Arrows.{cross-turn}
@@ -214,13 +214,13 @@ module _ {L Q : Type 0} (f : Arrow → L) (label : (Q → Bool) → L) (values :
   column_is_even between low [] low_in rise placed = tt
   column_is_even between low (s ∷ ss) low_in rise placed = (
     λ same.
-    has.label_is s rise.0.positive
-    ∙ between (present_from low) (has.is_present s) (present_after values s)
-    (λ q alike.
-    let below =
-    odd_below low (s ∷ ss) s low_in rise rise.0.positive rise.1 (at_most_refl s) placed q
-    in
-    has.present_is s rise.0.positive q (below ∙ alike) ∙ below) same,
+        has.label_is s rise.0.positive
+        ∙ between (present_from low) (has.is_present s) (present_after values s)
+        (λ q alike.
+        let below =
+        odd_below low (s ∷ ss) s low_in rise rise.0.positive rise.1 (at_most_refl s) placed q
+        in
+        has.present_is s rise.0.positive q (below ∙ alike) ∙ below) same,
     column_is_even between (Some s) ss rise.0.positive rise.2
         (placed_behind low s ss low_in rise placed),
   )

@@ -21,3 +21,5 @@ pub mod Columns
 pub mod Refined
 -- a cutting seen from another whole number
 pub mod Moved
+-- a function that is cut, and the coarse one after it
+pub mod CutTwice

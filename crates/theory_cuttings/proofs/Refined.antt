@@ -1,14 +1,13 @@
 -- A cutting whose pieces are cut themselves gives a finer cutting; a reduced one where the coarse
 -- labels of neighbouring pieces differ.
-use Rattle.std.proofs.Common.{◌≡◌, refl, sym, ◌∙◌, ap, Option, Some, List, [], ◌∷◌, map}
+use Rattle.std.proofs.Common.{◌≡◌, sym, ◌∙◌, ap, Option, Some, List, [], ◌∷◌, map}
 use Rattle.theory_numbers.specs.Arrows.{Arrow}
-use Rattle.theory_numbers.specs.Rationals.{IsRational}
-use Rattle.theory_cuttings.specs.Ends.{IsEnd, IsAfter}
+use Rattle.theory_cuttings.specs.Ends.{IsEnd}
 use Rattle.theory_cuttings.specs.Cuttings.{Break, IsFraction, HasLabel, IsCutting}
 use Rattle.theory_cuttings.specs.Cuttings.{IsReducedCutting, AreDifferent}
 use Rattle.theory_cuttings.specs.Changes.{break_at, last_label, Fine, refined}
 use Rattle.theory_cuttings.proofs.Ends.{IsBetween, number_between, after_trans}
-use Rattle.theory_cuttings.proofs.Parts.{glue_is, glue_is_reduced}
+use Rattle.theory_cuttings.proofs.Parts.{glue_is_reduced}
 
 -- each piece has its own cutting: the first one up to the first break, each other one from its break
 -- to the next

@@ -1,33 +1,32 @@
 -- The bands of a layered element cut its extent: strictly between two ends every position has the
 -- layer of its band, and neighbouring bands have different layers.
-use Rattle.std.proofs.Common.{◌≡◌, refl, sym, ap, ap₂, ◌∙◌, arith, subst, ℕ, zero, suc, ◌+◌, ◌<◌, ◌≤◌, ◌==◌}
-use Rattle.std.proofs.Common.{ℤ, pos, ◌+ℤ◌, ◌-ℤ◌, ◌*ℤ◌, ◌<ℤ◌, ◌≤ℤ◌, Bool, true, false, cond, ◌&&◌, IsTrue}
-use Rattle.std.proofs.Common.{int_lt, int_le, nat_lt, nat_le, List, [], ◌∷◌, Option, Some, None}
+use Rattle.std.proofs.Common.{◌≡◌, refl, sym, ap, ◌∙◌, arith, subst, ℕ, ◌+◌, ◌<◌, ◌==◌}
+use Rattle.std.proofs.Common.{ℤ, pos, ◌+ℤ◌, ◌-ℤ◌, ◌*ℤ◌, ◌<ℤ◌, ◌≤ℤ◌, Bool, true, false, cond, ◌&&◌}
+use Rattle.std.proofs.Common.{int_lt, int_le, nat_lt, nat_le, List, [], ◌∷◌, Some}
 use Rattle.std.proofs.lemmas.Int.{ints}
-use Rattle.std.proofs.lemmas.Bool.{and_parts, and_from, ltb-true, leb-true, eq-eqb}
+use Rattle.std.proofs.lemmas.Bool.{and_parts, ltb-true, leb-true, eq-eqb}
 use Rattle.std.specs.List.{find}
-use Rattle.theory_numbers.specs.Arrows.{Arrow, arrow, cross}
-use Rattle.theory_numbers.specs.Rationals.{IsRational, IsBelow, IsAtMost, IsSame, rational}
-use Rattle.theory_numbers.specs.Fractions.{Ratio, reduced}
-use Rattle.theory_numbers.specs.Reduced.{IsReduced}
-use Rattle.theory_numbers.proofs.Shapes.{var, num, plus, minus, times, equal, cross_by, cross_eq}
+use Rattle.theory_numbers.specs.Arrows.{Arrow, cross}
+use Rattle.theory_numbers.specs.Rationals.{IsRational, IsBelow, IsSame, rational}
+use Rattle.theory_numbers.specs.Fractions.{reduced}
+use Rattle.theory_numbers.proofs.Shapes.{var, num, plus, minus, times, equal, cross_by}
 use Rattle.theory_numbers.proofs.Arrows.{cross-turn}
 use Rattle.theory_numbers.proofs.Signs.{test_less, test_not_less, test_at_most, not_less_from}
 use Rattle.theory_numbers.proofs.Products.{positive_product}
 use Rattle.theory_numbers.proofs.Rationals.{below_trans, at_most_below_trans, below_at_most_trans}
 use Rattle.theory_numbers.proofs.LowestTerms.{reduced_is_same, reduced_is_lowest, lowest_is_reduced}
-use Rattle.theory_cuttings.specs.Cuttings.{Break, IsFraction, HasLabel, IsCutting, AreDifferent}
-use Rattle.theory_cuttings.specs.Cuttings.{IsReducedCutting}
+use Rattle.theory_cuttings.specs.Cuttings.{IsFraction, IsCutting, AreDifferent}
 use Rattle.sb_model.specs.declared.layers.Layer.{Layer}
 use Rattle.sb_model.specs.Building.{are_layers, greatest_thickness}
 use Rattle.sb_model.specs.Labels.{layer_from, total_of}
-use Rattle.theory_sight.specs.Bands.{fraction, band_ends, first_index}
+use Rattle.theory_sight.specs.Bands.{fraction, band_ends}
 
 -- a reduced fraction is the same number
 pub fraction_is_same : (num den : ℤ) → pos 0 <ℤ den → IsSame (fraction num den) (rational num den)
 unfolding cross
 fraction_is_same num den den_in = let same = reduced_is_same num den den_in in omega (arith, ints)
 
+-- in lowest terms
 pub fraction_is_reduced : (num den : ℤ) → pos 0 <ℤ den → IsFraction (fraction num den)
 fraction_is_reduced num den den_in =
     lowest_is_reduced (reduced num den) (reduced_is_lowest num den den_in)
@@ -74,6 +73,7 @@ module _ (low extent : ℤ) (total : ℕ) (wide : pos 0 <ℤ extent) (some : 0 <
   abbrev pub end_behind : ℕ → Arrow
   end_behind thick = rational ((low *ℤ pos total) +ℤ (extent *ℤ pos thick)) (pos total)
 
+  -- how a position lies to such an end
   pub end-cross : (thick : ℕ) (v : Arrow)
       → cross (end_behind thick) v ≡ at v -ℤ (size v *ℤ pos thick)
   end-cross thick v =
@@ -175,13 +175,13 @@ module _ (low extent : ℤ) (total : ℕ) (wide : pos 0 <ℤ extent) (some : 0 <
       in (
         ends_rise thick l.micro first.0 start high start_is stop_is start_in high_in,
         λ v v_in after before_high.
-        let low_end = above_end thick start v start_is start_in v_in after in
-        let high_end = below_end (thick + l.micro) v high stop_is high_in v_in before_high in
-        from v v_in after
-        ∙ in_band l.index 0 (int_le (size v *ℤ pos thick) (at v))
-        (int_le (at v) (size v *ℤ pos (thick + l.micro)))
-        (test_at_most (size v *ℤ pos thick) (at v) (omega (arith, ints, low_end)))
-        (test_at_most (at v) (size v *ℤ pos (thick + l.micro)) (omega (arith, ints, high_end))),
+            let low_end = above_end thick start v start_is start_in v_in after in
+            let high_end = below_end (thick + l.micro) v high stop_is high_in v_in before_high in
+            from v v_in after
+            ∙ in_band l.index 0 (int_le (size v *ℤ pos thick) (at v))
+            (int_le (at v) (size v *ℤ pos (thick + l.micro)))
+            (test_at_most (size v *ℤ pos thick) (at v) (omega (arith, ints, low_end)))
+            (test_at_most (at v) (size v *ℤ pos (thick + l.micro)) (omega (arith, ints, high_end))),
       )
   bands_cut l (m ∷ ls) before thick start high right whole start_in start_is high_in high_is f
       from =
@@ -190,17 +190,16 @@ module _ (low extent : ℤ) (total : ℕ) (wide : pos 0 <ℤ extent) (some : 0 <
       (pos total) (omega (arith, ints, some)) in
       let next_in = fraction_is_reduced ((low *ℤ pos total) +ℤ (extent *ℤ pos (thick + l.micro)))
       (pos total) (omega (arith, ints, some)) in
-      let next = fraction ((low *ℤ pos total) +ℤ (extent *ℤ pos (thick + l.micro))) (pos total) in
-      (
+      let next = fraction ((low *ℤ pos total) +ℤ (extent *ℤ pos (thick + l.micro))) (pos total) in (
         next_in,
         ends_rise thick l.micro first.0 start next start_is next_is start_in next_in.positive,
         λ v v_in after before_next.
-        let low_end = above_end thick start v start_is start_in v_in after in
-        let high_end = below_end (thick + l.micro) v next next_is next_in.positive v_in before_next in
-        from v v_in after
-        ∙ in_band l.index (layer_from (at v) (size v) (thick + l.micro) (m ∷ ls))
-        (int_le (size v *ℤ pos thick) (at v)) (int_lt (at v) (size v *ℤ pos (thick + l.micro)))
-        (test_at_most (size v *ℤ pos thick) (at v) (omega (arith, ints, low_end))) (test_less (at v) (size v *ℤ pos (thick + l.micro)) high_end),
+            let low_end = above_end thick start v start_is start_in v_in after in
+            let high_end = below_end (thick + l.micro) v next next_is next_in.positive v_in before_next in
+            from v v_in after
+            ∙ in_band l.index (layer_from (at v) (size v) (thick + l.micro) (m ∷ ls))
+            (int_le (size v *ℤ pos thick) (at v)) (int_lt (at v) (size v *ℤ pos (thick + l.micro)))
+            (test_at_most (size v *ℤ pos thick) (at v) (omega (arith, ints, low_end))) (test_less (at v) (size v *ℤ pos (thick + l.micro)) high_end),
         bands_cut m ls l.index (thick + l.micro) next high first.1 (omega (arith, whole))
             next_in.positive next_is high_in high_is f
             (λ v v_in after.
@@ -261,4 +260,3 @@ module _ (low extent : ℤ) (total : ℕ) (wide : pos 0 <ℤ extent) (some : 0 <
           (found_later l (m ∷ ls) (layer_from (at v) (size v) (thick + l.micro) (m ∷ ls))
           (later (not_less_from (at v) (size v *ℤ pos (thick + l.micro)) beyond)
           (subst (λ n. at v ≤ℤ (size v *ℤ pos n)) (sym sum) high_end)))
-

@@ -1,21 +1,20 @@
 -- The bands of a layered prism along a normal that is parallel to its axis: they cut its extent, and the
 -- layer of a point is that of its position.
-use Rattle.std.proofs.Common.{◌≡◌, refl, sym, ap, ap₂, ◌∙◌, arith, ℕ, ◌+◌, ◌<◌, ◌==◌, ℤ, pos, neg_ℤ}
+use Rattle.std.proofs.Common.{◌≡◌, refl, sym, ap, ap₂, ◌∙◌, arith, ℕ, ◌<◌, ℤ, pos, neg_ℤ}
 use Rattle.std.proofs.Common.{◌+ℤ◌, ◌-ℤ◌, ◌*ℤ◌, ◌<ℤ◌, ◌≤ℤ◌, Bool, true, false, cond, int_lt}
-use Rattle.std.proofs.Common.{List, [], ◌∷◌, Option, Some, None, zero-add, subst₂, if◌then◌else◌}
+use Rattle.std.proofs.Common.{List, ◌∷◌, Some, zero-add, subst₂, if◌then◌else◌}
 use Rattle.std.proofs.lemmas.Int.{ints, by_lt_z}
 use Rattle.std.proofs.Math.IntN.{neg_ℤ-neg_ℤ}
 use Rattle.theory_numbers.specs.Arrows.{Arrow, arrow, cross, mirror, scale}
-use Rattle.theory_numbers.specs.Rationals.{IsRational, IsBelow, IsSame, rational}
+use Rattle.theory_numbers.specs.Rationals.{IsBelow, IsSame, rational}
 use Rattle.theory_numbers.proofs.Shapes.{var, num, plus, minus, times, negated, equal}
 use Rattle.theory_numbers.proofs.Ring.{mul-zero}
 use Rattle.theory_numbers.proofs.Signs.{less_from, not_less_from}
 use Rattle.theory_numbers.proofs.Products.{weak_product}
 use Rattle.theory_numbers.proofs.Arrows.{cross-mirror}
-use Rattle.theory_cuttings.specs.Ends.{IsAfter, IsBefore}
-use Rattle.theory_cuttings.specs.Cuttings.{IsReducedCutting, HasLabel}
+use Rattle.theory_cuttings.specs.Cuttings.{IsReducedCutting}
 use Rattle.theory_cuttings.proofs.Backwards.{flip_is_reduced}
-use Rattle.sb_fraction.specs.Spots.{Spot, IsSpot, Vector, inner, opposite, reading, times_w}
+use Rattle.sb_fraction.specs.Spots.{Spot, Vector, inner, opposite, reading, times_w}
 use Rattle.sb_model.specs.declared.layers.Axis.{Axis}
 use Rattle.sb_model.specs.declared.layers.Layer.{Layer}
 use Rattle.sb_model.specs.declared.layers.Layering.TheVariants.{Layered}
@@ -28,7 +27,7 @@ use Rattle.theory_sight.specs.Bands.{bands_up, bands_along, flipped}
 use Rattle.theory_sight.proofs.Extents.{IsMultiple, times_scaled, low_scaled, high_scaled}
 use Rattle.theory_sight.proofs.Extents.{low-opposite, high-opposite, parallel_is_multiple}
 use Rattle.theory_sight.proofs.BandsCut.{bands_cut, bands_differ, layer_is, end_behind}
-use Rattle.theory_sight.proofs.BandsCut.{layer_is_found, IsFound, end-cross}
+use Rattle.theory_sight.proofs.BandsCut.{layer_is_found, IsFound}
 
 -- the layer at a position along a normal that points as the axis does
 abbrev pub layer_along : Upright → List Layer → Vector → Arrow → ℕ
@@ -40,6 +39,7 @@ layer_along s layers n v =
 abbrev pub low_end_of : Upright → Vector → Arrow
 low_end_of s n = rational (low_along s n) (pos 1)
 
+-- the upper end
 abbrev pub high_end_of : Upright → Vector → Arrow
 high_end_of s n = rational (high_along s n) (pos 1)
 
@@ -232,6 +232,7 @@ layer_on s layers axis n v =
     then layer_along s layers n v
     else layer_along s layers (opposite n) (mirror v)
 
+-- a point has the layer of its position
 pub layer_is_by_position : (s : Upright) (layers : List Layer) (axis : Axis) (n : Vector)
     → pos 0 <ℤ inner n n → is_parallel (axis_vector axis) n ≡ true
     → (inner (axis_vector axis) n ≡ pos 0 → ⊥) → (p : Spot)

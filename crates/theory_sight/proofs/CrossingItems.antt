@@ -1,56 +1,51 @@
 -- A crossing between two whole positions has the items that the function of the two positions gives.
 use Rattle.std.proofs.Common.{◌≡◌, ◌⊎◌, inl, inr, refl, sym, ap, ap₂, ◌∙◌, arith, subst, subst₂, ◌↔◌, ℕ}
-use Rattle.std.proofs.Common.{zero, suc, ℤ, pos, neg_ℤ, ◌+ℤ◌, ◌-ℤ◌, ◌*ℤ◌, ◌<ℤ◌, ◌≤ℤ◌, Bool, true, false}
-use Rattle.std.proofs.Common.{IsTrue, List, [], ◌∷◌, Option, Some, None, unsigned_abs, nat_le, nat_eq}
-use Rattle.std.proofs.Common.{length, ◌&&◌, ◌||◌, is_none}
+use Rattle.std.proofs.Common.{ℤ, pos, neg_ℤ, ◌-ℤ◌, ◌*ℤ◌, ◌<ℤ◌, ◌≤ℤ◌, true, false}
+use Rattle.std.proofs.Common.{IsTrue, List, [], ◌∷◌, Some, unsigned_abs, nat_le, nat_eq}
+use Rattle.std.proofs.Common.{◌||◌, is_none}
 use Rattle.std.specs.Ordering.{int_eq}
 use Rattle.std.proofs.lemmas.Int.{ints, by_lt_z}
-use Rattle.std.proofs.lemmas.Bool.{and_parts, or_cases, false≢true, eqb-true}
-use Rattle.std.proofs.lemmas.Bool.Decides.{Decides-int_eq}
-use Rattle.std.specs.List.{AllByRecursion, list_all, find}
+use Rattle.std.proofs.lemmas.Bool.{and_parts, or_cases, false≢true}
+use Rattle.std.specs.List.{AllByRecursion, list_all}
 use Rattle.theory_lists.specs.Members.{Stands}
-use Rattle.theory_numbers.specs.Arrows.{Arrow, arrow, cross, scale}
-use Rattle.theory_numbers.specs.Rationals.{IsRational, IsBelow, IsAtMost, rational}
+use Rattle.theory_numbers.specs.Arrows.{Arrow, cross}
+use Rattle.theory_numbers.specs.Rationals.{IsRational, IsBelow, rational}
 use Rattle.theory_numbers.specs.Divisors.{are_coprime, greatest_divisor, divisor_within}
 use Rattle.theory_numbers.proofs.Shapes.{var, minus, times, equal}
 use Rattle.theory_numbers.proofs.Ring.{mul_comm}
 use Rattle.theory_numbers.proofs.Products.{positive_product, zero_of_positive}
-use Rattle.theory_numbers.proofs.Rationals.{below_trans}
-use Rattle.theory_cuttings.specs.Cuttings.{Break, IsCutting, IsReducedCutting, HasLabel}
-use Rattle.theory_cuttings.specs.Ends.{IsEnd, IsOpen, IsAfter, IsBefore}
+use Rattle.theory_cuttings.specs.Cuttings.{Break, IsReducedCutting, HasLabel}
 use Rattle.theory_cuttings.specs.Changes.{map_labels, moved_by, moved_breaks, Fine}
-use Rattle.theory_cuttings.proofs.Ends.{IsBetween, number_between, below_two_ends, open_trans}
-use Rattle.theory_cuttings.proofs.OneCutting.{has_one_cutting, below_high}
+use Rattle.theory_cuttings.proofs.Ends.{IsBetween, below_two_ends}
+use Rattle.theory_cuttings.proofs.OneCutting.{has_one_cutting}
 use Rattle.theory_cuttings.proofs.Groups.{map_is}
 use Rattle.sb_fraction.specs.Plane.{longest_step}
-use Rattle.sb_fraction.specs.Spots.{Spot, IsSpot, Vector, inner, reading}
+use Rattle.sb_fraction.specs.Spots.{IsSpot, Vector, inner}
 use Rattle.sb_model.specs.declared.label.Label.{Label}
 use Rattle.sb_model.specs.declared.label.Label.TheVariants as label
 use Rattle.sb_model.specs.declared.layers.Axis.{Axis}
-use Rattle.sb_model.specs.declared.layers.Layer.{Layer}
 use Rattle.sb_model.specs.declared.layers.Layering.{Layering}
 use Rattle.sb_model.specs.declared.layers.Layering.TheVariants.{Plain, Single, Layered}
 use Rattle.sb_model.specs.declared.products.Element.{Element}
 use Rattle.sb_model.specs.declared.walk.Item.{Item}
-use Rattle.sb_model.specs.Solids.{Upright, is_in_solid}
+use Rattle.sb_model.specs.Solids.{is_in_solid}
 use Rattle.sb_model.specs.Building.{Building, is_building, is_layering, is_level_axis, is_upright_axis}
 use Rattle.sb_model.specs.Building.{are_layers, is_in_range, first_bad}
-use Rattle.sb_model.specs.Passages.{Ray, at_depth, start_of, end_of}
+use Rattle.sb_model.specs.Passages.{Ray, at_depth}
 use Rattle.sb_model.specs.Labels.{axis_vector, low_along, high_along, label_at, layer_at}
-use Rattle.sb_model.specs.Walks.{layer_of, lies_along, is_parallel, element_numbered, AreItems, AreItemsBy}
-use Rattle.sb_model.specs.Walks.{AreItemsTo, AreItemsIn, AreItemsOf, unit_along, IsPlainItem, length_between}
+use Rattle.sb_model.specs.Walks.{layer_of, lies_along, is_parallel, element_numbered, AreItemsBy}
+use Rattle.sb_model.specs.Walks.{AreItemsOf, unit_along, IsPlainItem, length_between}
 use Rattle.theory_sight.specs.Coarse.{coarse}
 use Rattle.theory_sight.specs.Bands.{bands_along, cut_between, items_between, items_by, layer_items}
 use Rattle.theory_sight.proofs.Extents.{parallel_is_multiple}
 use Rattle.theory_sight.proofs.BandsCut.{IsFound}
 use Rattle.theory_sight.proofs.BandsOfPrisms.{layer_on, layer_is_by_position, layer_on_is_found}
 use Rattle.theory_sight.proofs.BandsOfPrisms.{low_end_of, high_end_of}
-use Rattle.theory_sight.proofs.ItemsOfPieces.{items_of_passages, labels_have, items-moved, plain_items}
-use Rattle.theory_sight.proofs.ItemsOfPieces.{whole_length}
+use Rattle.theory_sight.proofs.ItemsOfPieces.{items_of_passages, items-moved, plain_items}
 use Rattle.theory_sight.proofs.LayeredItems.{StartsAt, reading_at_depth, layer_on-scaled, layers_differ}
 use Rattle.theory_sight.proofs.LayeredItems.{bands_by_depth, back_again, whole_below}
-use Rattle.theory_sight.proofs.CutTwice.{of_equal, above_two_ends}
-use Rattle.theory_sight.proofs.ElementAt.{IsElementAt, element_is_at, coarse_element}
+use Rattle.theory_cuttings.proofs.CutTwice.{of_equal, above_two_ends, labels_have, cutting_is_open}
+use Rattle.theory_sight.proofs.ElementAt.{element_is_at, coarse_element}
 use Rattle.theory_sight.proofs.PiecesAreRuns.{piece_to, end-piece_to}
 
 -- ---- axes
@@ -108,14 +103,6 @@ all_elements e (x ∷ xs) all stands =
     by first later (inr there) = later there
 
 -- ---- what is known of a ray
-
--- a cutting of an interval is one of an open interval
-pub cutting_is_open : {L : Type 0} (f : Arrow → L) (low high : Option Arrow) → IsEnd low → IsEnd high
-    → (first : L) (bs : List (Break L)) → IsCutting f low high first bs → IsOpen low high
-cutting_is_open f low high low_in high_in first [] cut = cut.0
-cutting_is_open f low high low_in high_in first (b ∷ bs) cut =
-    open_trans low b.start high low_in cut.0.positive high_in cut.1
-    (below_high f high high_in low first b bs cut)
 
 -- a ray from a whole position in a model, whose points in elements lie within the elements' extents
 pub record IsSeen (m : Building) (r : Ray) (x0 : ℤ) : Type 0 where

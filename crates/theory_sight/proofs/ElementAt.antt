@@ -1,10 +1,10 @@
 -- A point with the label of an element: the element has this number, the point lies inside it, and the
 -- layer is the one that contains the point.
 use Rattle.std.proofs.Common.{◌≡◌, inl, inr, refl, sym, ap, ◌∙◌, arith, ℕ, ◌<◌, ◌==◌, Bool, true, false, cond}
-use Rattle.std.proofs.Common.{IsTrue, ℤ, nat_le, List, [], ◌∷◌, Option, Some, None}
+use Rattle.std.proofs.Common.{IsTrue, nat_le, List, [], ◌∷◌, Option, Some, None}
 use Rattle.std.proofs.lemmas.Bool.{eq-eqb, ne_eqb}
 use Rattle.std.proofs.lemmas.Option.{none-some}
-use Rattle.std.specs.List.{AllByRecursion, find}
+use Rattle.std.specs.List.{find}
 use Rattle.theory_lists.specs.Members.{Stands, AllOfTwo}
 use Rattle.theory_lists.proofs.Members.{all_stands}
 use Rattle.sb_fraction.specs.Spots.{Spot}

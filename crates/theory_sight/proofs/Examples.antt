@@ -16,7 +16,7 @@ use Rattle.sb_model.specs.Walks.{Course, course, item}
 use Rattle.theory_models.proofs.ExampleModels.{model, box_room, box_element, layer}
 use Rattle.theory_sight.specs.Coarse.{stacked}
 use Rattle.theory_sight.specs.Bands.{items_between}
-use Rattle.theory_sight.specs.Reading.{square, slanted, never, Stretch, stretch, read, ends_in}
+use Rattle.theory_sight.specs.Reading.{square, slanted, never, stretch, read, ends_in}
 
 abbrev east : Vector
 east = vector (pos 1) (pos 0) (pos 0)

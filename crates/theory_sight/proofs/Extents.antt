@@ -204,6 +204,7 @@ module _ (k c : ℤ) (a n : Vector) (is : IsMultiple k c a n) where
       least_up k c k_in c_in (readings_of s a s.loops) (readings_of s n s.loops)
       (readings_scaled s s.loops)
 
+  -- their upper ends
   pub high_scaled : pos 0 <ℤ k → pos 0 <ℤ c → (s : Upright)
       → k *ℤ high_along s a ≡ c *ℤ high_along s n
   high_scaled k_in c_in s =
@@ -237,6 +238,7 @@ low-opposite s n =
     (omega (arith, ints)) (omega (arith, ints)) s in
     omega (arith, ints)
 
+-- and the upper end becomes the lower one
 pub high-opposite : (s : Upright) (n : Vector) → high_along s (opposite n) ≡ neg_ℤ (low_along s n)
 high-opposite s n =
     let is = low_turned (pos 1) (negsuc 0) n (opposite n) (multiple_of_opposite n)

@@ -1,19 +1,16 @@
 -- The items of a crossing are one list: what the definition asks of them, passage by passage, is what the
 -- function of the two positions gives.
-use Rattle.std.proofs.Common.{◌≡◌, refl, sym, ap, ap₂, ◌∙◌, arith, subst, subst₂, ◌↔◌, ℕ, ◌==◌}
-use Rattle.std.proofs.Common.{ℤ, pos, neg_ℤ, ◌+ℤ◌, ◌-ℤ◌, ◌*ℤ◌, ◌<ℤ◌, ◌≤ℤ◌, Bool, true, IsTrue, cond}
+use Rattle.std.proofs.Common.{◌≡◌, refl, ap, ap₂, ◌∙◌, arith, ◌↔◌, ℕ, ◌==◌}
+use Rattle.std.proofs.Common.{ℤ, pos, ◌+ℤ◌, ◌-ℤ◌, ◌*ℤ◌, ◌<ℤ◌}
 use Rattle.std.proofs.Common.{List, [], ◌∷◌, Option, Some, None}
 use Rattle.std.proofs.lemmas.Int.{ints}
 use Rattle.std.specs.List.{AllByRecursion, find}
-use Rattle.theory_numbers.specs.Arrows.{Arrow, arrow, cross, scale, mirror}
-use Rattle.theory_numbers.specs.Rationals.{IsRational, IsBelow, IsAtMost, rational}
+use Rattle.theory_numbers.specs.Arrows.{Arrow, arrow}
+use Rattle.theory_numbers.specs.Rationals.{rational}
 use Rattle.theory_numbers.specs.Fractions.{whole}
-use Rattle.theory_numbers.proofs.Shapes.{var, num, plus, minus, times, negated, equal}
-use Rattle.theory_cuttings.specs.Cuttings.{Break, IsCutting, HasLabel}
-use Rattle.theory_cuttings.specs.Ends.{IsEnd, IsAfter, IsBefore}
-use Rattle.theory_cuttings.specs.Changes.{break_at, map_labels, moved_by, moved_breaks}
-use Rattle.theory_cuttings.proofs.Ends.{IsBetween, number_between, after_trans, before_trans}
-use Rattle.theory_cuttings.proofs.OneCutting.{below_high}
+use Rattle.theory_numbers.proofs.Shapes.{var, plus, minus, times, equal}
+use Rattle.theory_cuttings.specs.Cuttings.{Break}
+use Rattle.theory_cuttings.specs.Changes.{map_labels, moved_by, moved_breaks}
 use Rattle.sb_model.specs.declared.label.Label.{Label}
 use Rattle.sb_model.specs.declared.layers.Layer.{Layer}
 use Rattle.sb_model.specs.declared.products.Element.{Element}
@@ -25,7 +22,7 @@ use Rattle.sb_model.specs.Walks.{IsPlainItem, item}
 use Rattle.theory_sight.specs.Bands.{item_of_layer, item_at, layer_items, rounded_thickness}
 use Rattle.theory_sight.proofs.Thickness.{thickness_is}
 use Rattle.theory_sight.proofs.BandsCut.{IsFound}
-use Rattle.theory_sight.proofs.PiecesAreRuns.{passages_to, first_end}
+use Rattle.theory_sight.proofs.PiecesAreRuns.{passages_to}
 
 -- ---- layers, one item for each passage
 
@@ -69,40 +66,11 @@ items_of_passages e layers n to b (c ∷ bs) found rest (i ∷ items) =
     let later = items_of_passages e layers n to c bs rest.0 rest.1 items in (
       λ is. ap₂ (λ x xs. x ∷ xs) (one.0 is.0) (later.0 is.1),
       λ same.
-      let first : i ≡ item_at e layers n (layer_of b.label) b.start c.start = cc in
-      let others : items
+          let first : i ≡ item_at e layers n (layer_of b.label) b.start c.start = cc in
+          let others : items
           ≡ layer_items e layers n c.start (layer_of c.label) (map_labels layer_of bs) to = cc in
-      (one.1 first, later.1 others),
+          (one.1 first, later.1 others),
     )
-
--- ---- what holds of a function's values holds of the labels of its cutting
-
-pub labels_have : {L : Type 0} (f : Arrow → L) (P : L → Type 0) (high : Option Arrow) → IsEnd high
-    → (low : Option Arrow) → IsEnd low
-    → ((u : Arrow) → IsRational u → IsAfter low u → IsBefore u high → P (f u)) → (first : L)
-    (bs : List (Break L)) → IsCutting f low high first bs
-    → P first × AllByRecursion (λ b. P b.label) bs
-labels_have f P high high_in low low_in has first [] cut =
-    (by (number_between low high low_in high_in cut.0), tt)
-  where
-    by : (u : Arrow) × IsBetween low high u → P first
-    by (u, at) =
-        subst P (cut.1 u at.rational at.after at.before) (has u at.rational at.after at.before)
-labels_have f P high high_in low low_in has first (b ∷ bs) cut =
-    let within = below_high f high high_in low first b bs cut in
-    let rest =
-    labels_have f P high high_in (Some b.start) cut.0.positive
-    (λ u u_in after before.
-    has u u_in (after_trans low b.start u low_in cut.0.positive u_in cut.1 after) before) b.label
-    bs cut.3
-    in
-    (by within (number_between low (Some b.start) low_in cut.0.positive cut.1), rest)
-  where
-    by : IsBefore b.start high → (u : Arrow) × IsBetween low (Some b.start) u → P first
-    by within (u, at) =
-        subst P (cut.2 u at.rational at.after at.before)
-        (has u at.rational at.after
-        (before_trans u b.start high at.rational cut.0.positive high_in at.before within))
 
 -- ---- items seen from another whole number
 
@@ -128,6 +96,7 @@ item-moved e layers n k index a b = by (find (λ l. l.index == index) layers)
     by None = refl
     by (Some l) = ap (layer_item e layers n l) (length-moved k a b)
 
+-- the items of pieces do not see from which whole number positions are counted
 pub items-moved : (e : Element) (layers : List Layer) (n : Vector) (k : ℤ) (from to : Arrow)
     (index : ℕ) (bs : List (Break ℕ))
     → layer_items e layers n (moved_by k from) index (moved_breaks k bs) (moved_by k to)

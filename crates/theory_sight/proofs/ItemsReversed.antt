@@ -1,7 +1,7 @@
 -- Seen from the other end a crossing has the same items in reverse: the bands are mirrored, and lengths
 -- are the same numbers.
-use Rattle.std.proofs.Common.{◌≡◌, ◌⊎◌, inl, inr, refl, sym, ap, ap₂, ◌∙◌, arith, subst, subst₂, ℕ, ◌==◌}
-use Rattle.std.proofs.Common.{ℤ, pos, neg_ℤ, ◌+ℤ◌, ◌-ℤ◌, ◌*ℤ◌, ◌<ℤ◌, ◌≤ℤ◌, Bool, true, false, cond, int_lt}
+use Rattle.std.proofs.Common.{◌≡◌, refl, sym, ap, ap₂, ◌∙◌, arith, subst, ℕ, ◌==◌}
+use Rattle.std.proofs.Common.{ℤ, pos, neg_ℤ, ◌-ℤ◌, ◌*ℤ◌, ◌<ℤ◌, ◌≤ℤ◌, Bool, true, false, cond, int_lt}
 use Rattle.std.proofs.Common.{List, [], ◌∷◌, ◌++◌, reverse, Option, Some, None, append_assoc, ◌||◌, not}
 use Rattle.std.proofs.lemmas.Int.{ints, by_lt_z}
 use Rattle.std.proofs.lemmas.List.{reverse-append}
@@ -26,7 +26,6 @@ use Rattle.sb_model.specs.declared.layers.Layer.{Layer}
 use Rattle.sb_model.specs.declared.layers.Layering.{Layering}
 use Rattle.sb_model.specs.declared.layers.Layering.TheVariants.{Plain, Single, Layered}
 use Rattle.sb_model.specs.declared.products.Element.{Element}
-use Rattle.sb_model.specs.declared.walk.Item.{Item}
 use Rattle.sb_model.specs.Solids.{Upright}
 use Rattle.sb_model.specs.Building.{are_layers, is_layering, is_level_axis, is_upright_axis}
 use Rattle.sb_model.specs.Labels.{axis_vector, low_along, high_along, total_of}
@@ -41,6 +40,7 @@ use Rattle.theory_sight.proofs.CrossingItems.{not_across}
 
 -- ---- opposite normals
 
+-- turned twice, a normal is itself
 pub opposite-opposite : (n : Vector) → opposite (opposite n) ≡ n
 opposite-opposite n =
     λ i. vector (neg_ℤ-neg_ℤ n.x i) (neg_ℤ-neg_ℤ n.y i) (neg_ℤ-neg_ℤ n.z i)

@@ -1,31 +1,23 @@
 -- The items of a crossing of a layered element, along a normal that is parallel to its axis: the passages
 -- of the crossing are the bands between its two positions.
-use Rattle.std.proofs.Common.{◌≡◌, ◌⊎◌, inl, inr, refl, sym, ap, ap₂, ◌∙◌, arith, subst, subst₂, ◌↔◌, ℕ}
+use Rattle.std.proofs.Common.{◌≡◌, sym, ap, ap₂, ◌∙◌, arith, subst, subst₂, ℕ}
 use Rattle.std.proofs.Common.{ℤ, pos, neg_ℤ, ◌+ℤ◌, ◌-ℤ◌, ◌*ℤ◌, ◌<ℤ◌, ◌≤ℤ◌, Bool, true, false, cond, int_lt}
-use Rattle.std.proofs.Common.{IsTrue, List, [], ◌∷◌, Option, Some, None}
+use Rattle.std.proofs.Common.{List, [], ◌∷◌, Some}
 use Rattle.std.proofs.lemmas.Int.{ints}
 use Rattle.std.proofs.Math.IntN.{neg_ℤ-neg_ℤ}
 use Rattle.std.specs.List.{AllByRecursion}
 use Rattle.theory_numbers.specs.Arrows.{Arrow, arrow, cross, scale, mirror}
-use Rattle.theory_numbers.specs.Rationals.{IsRational, IsBelow, IsAtMost, rational}
+use Rattle.theory_numbers.specs.Rationals.{IsBelow, IsAtMost, rational}
 use Rattle.theory_numbers.proofs.Shapes.{var, num, plus, minus, times, negated, equal}
-use Rattle.theory_numbers.proofs.Products.{positive_product}
-use Rattle.theory_numbers.proofs.Rationals.{below_or_not}
-use Rattle.theory_cuttings.specs.Cuttings.{Break, IsCutting, IsReducedCutting, HasLabel, AreDifferent}
-use Rattle.theory_cuttings.specs.Ends.{IsEnd, IsAfter, IsBefore}
+use Rattle.theory_cuttings.specs.Cuttings.{Break, IsReducedCutting, AreDifferent}
 use Rattle.theory_cuttings.specs.Changes.{map_labels, moved_by, moved_breaks, Fine}
-use Rattle.theory_cuttings.proofs.Ends.{IsBetween, below_two_ends}
-use Rattle.theory_cuttings.proofs.OneCutting.{has_one_cutting}
-use Rattle.theory_cuttings.proofs.Groups.{map_is}
 use Rattle.theory_cuttings.proofs.Parts.{cut_off_is_reduced}
 use Rattle.theory_cuttings.proofs.Moved.{moved_cutting_is_reduced}
-use Rattle.sb_fraction.specs.Spots.{Spot, IsSpot, Vector, inner, opposite, reading, times_w, along}
+use Rattle.sb_fraction.specs.Spots.{Spot, Vector, inner, opposite, reading, times_w}
 use Rattle.sb_model.specs.declared.label.Label.{Label}
 use Rattle.sb_model.specs.declared.label.Label.TheVariants as label
 use Rattle.sb_model.specs.declared.layers.Axis.{Axis}
 use Rattle.sb_model.specs.declared.layers.Layer.{Layer}
-use Rattle.sb_model.specs.declared.layers.Layering.TheVariants.{Layered}
-use Rattle.sb_model.specs.declared.products.Element.{Element}
 use Rattle.sb_model.specs.Solids.{Upright}
 use Rattle.sb_model.specs.Building.{are_layers}
 use Rattle.sb_model.specs.Passages.{Ray, at_depth}
@@ -117,8 +109,8 @@ pub layers_differ : (k : ℕ) (first : Label) (bs : List (Break Label))
 layers_differ k first [] one rest differ = tt
 layers_differ k first (b ∷ bs) (i, one) ((j, other), rest) differ = (
   λ same.
-  let equal_layers : i ≡ j = ap layer_of (sym one) ∙ same ∙ ap layer_of other in
-  differ.0 (one ∙ ap (label.Element k) equal_layers ∙ sym other),
+      let equal_layers : i ≡ j = ap layer_of (sym one) ∙ same ∙ ap layer_of other in
+      differ.0 (one ∙ ap (label.Element k) equal_layers ∙ sym other),
   layers_differ k b.label bs (j, other) rest differ.1,
 )
 
@@ -135,6 +127,7 @@ pub whole_at_most : (a b : ℤ) → a ≤ℤ b → IsAtMost (rational a (pos 1))
 unfolding cross
 whole_at_most a b order = omega (arith, ints)
 
+-- strictly
 pub whole_below : (a b : ℤ) → a <ℤ b → IsBelow (rational a (pos 1)) (rational b (pos 1))
 unfolding cross
 whole_below a b order = omega (arith, ints)

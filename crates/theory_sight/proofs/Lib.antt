@@ -12,8 +12,8 @@ pub mod ItemsOfPieces
 pub mod LayeredItems
 -- pieces of a walk, and the items of a crossing
 pub mod ElementAt
-pub mod CutTwice
 pub mod PiecesAreRuns
+pub mod ColumnOfLine
 pub mod CrossingItems
 -- the walk as it is read
 pub mod WalkIsRead

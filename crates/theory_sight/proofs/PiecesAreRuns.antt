@@ -1,15 +1,15 @@
 -- The pieces of a walk are the runs of one coarse label: they begin where the runs begin, and each holds
 -- the passages of its run.
-use Rattle.std.proofs.Common.{◌≡◌, refl, sym, ap, ◌∙◌, ℕ, ◌==◌, Bool, true, false, cond, ◌&&◌}
-use Rattle.std.proofs.Common.{Option, Some, None, List, [], ◌∷◌, ◌++◌, Decides}
+use Rattle.std.proofs.Common.{◌≡◌, refl, sym, ap, ◌∙◌, ◌==◌, Bool, true, false, cond, ◌&&◌}
+use Rattle.std.proofs.Common.{Option, Some, None, List, [], ◌∷◌, Decides}
 use Rattle.std.proofs.lemmas.Bool.{false≢true, eqb-true, eq-eqb, and_parts, and_from, ne_eqb}
 use Rattle.theory_numbers.specs.Arrows.{Arrow}
 use Rattle.theory_cuttings.specs.Cuttings.{Break, AreDifferent}
-use Rattle.theory_cuttings.specs.Changes.{Run, Grouped, put_before, group}
+use Rattle.theory_cuttings.specs.Changes.{Run, put_before, group}
 use Rattle.sb_model.specs.declared.label.Label.{Label}
 use Rattle.sb_model.specs.declared.label.Label.TheVariants as label
 use Rattle.sb_model.specs.Passages.{Passage, passage, passages_of, are_of_one_element, Piece, piece}
-use Rattle.sb_model.specs.Passages.{before_pieces, pieces_of, last_end, end_of}
+use Rattle.sb_model.specs.Passages.{before_pieces, pieces_of, end_of}
 use Rattle.theory_sight.specs.Coarse.{coarse, same_label}
 
 -- ---- labels

@@ -1,8 +1,8 @@
 -- Reading back gives the walk back: over the same crossings, seen from the other end, the items come in
 -- reverse, the depth is the same, and the walk ends where it began.
 use Rattle.std.proofs.Common.{◌≡◌, refl, sym, ap, ap₂, ◌∙◌, arith, ℕ, ℤ, pos, neg_ℤ, ◌-ℤ◌, ◌*ℤ◌}
-use Rattle.std.proofs.Common.{Bool, true, false, cond, ◌&&◌, List, [], ◌∷◌, ◌++◌, reverse, append_assoc}
-use Rattle.std.proofs.Common.{Option, Some, None, append-nil}
+use Rattle.std.proofs.Common.{true, cond, ◌&&◌, List, [], ◌∷◌, ◌++◌, reverse, append_assoc}
+use Rattle.std.proofs.Common.{Some, append-nil}
 use Rattle.std.specs.Prelude.{⊤}
 use Rattle.std.proofs.lemmas.Int.{ints}
 use Rattle.std.proofs.lemmas.List.{reverse-append}
@@ -11,7 +11,7 @@ use Rattle.std.proofs.lemmas.Bool.Decides.{Decides-int_eq}
 use Rattle.theory_numbers.specs.Rationals.{rational}
 use Rattle.theory_numbers.proofs.Shapes.{var, times, negated, equal}
 use Rattle.theory_numbers.proofs.Signs.{same_tests}
-use Rattle.sb_fraction.specs.Spots.{Vector, inner, opposite}
+use Rattle.sb_fraction.specs.Spots.{Vector, opposite}
 use Rattle.sb_model.specs.declared.label.Label.TheVariants as label
 use Rattle.sb_model.specs.declared.layers.Layering.{Layering}
 use Rattle.sb_model.specs.declared.layers.Layering.TheVariants.{Plain, Single, Layered}

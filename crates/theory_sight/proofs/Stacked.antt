@@ -10,11 +10,11 @@ use Rattle.sb_model.specs.declared.products.Space.{Space}
 use Rattle.sb_model.specs.declared.products.Element.{Element}
 use Rattle.sb_model.specs.Solids.{is_in_solid}
 use Rattle.sb_model.specs.Building.{Building, is_building}
-use Rattle.sb_model.specs.Labels.{lowest, layer_at, label_at, space_label, element_label, open_label}
+use Rattle.sb_model.specs.Labels.{lowest, label_at, space_label, element_label, open_label}
 use Rattle.sb_model.specs.Labels.{space_at, element_at}
 use Rattle.theory_cuttings.specs.Columns.{SeesBetween}
 use Rattle.theory_models.proofs.NumbersApart.{own_numbers}
-use Rattle.theory_sight.specs.Coarse.{coarse, IsOpen, element_or, space_or, stacked, Standing}
+use Rattle.theory_sight.specs.Coarse.{coarse, IsOpen, element_or, space_or, stacked}
 use Rattle.theory_sight.specs.Coarse.{the_space, the_element, the_ground, label_of_present}
 use Rattle.theory_sight.proofs.LowestBetween.{between_lowest}
 

@@ -1,5 +1,5 @@
 -- The walk of a ray is what is read from its stretches.
-use Rattle.std.proofs.Common.{◌≡◌, ◌⊎◌, inl, inr, refl, sym, ap, ap₂, ◌∙◌, arith, subst, subst₂, ◌↔◌, ℕ}
+use Rattle.std.proofs.Common.{◌≡◌, refl, sym, ap, ap₂, ◌∙◌, arith, subst, subst₂, ◌↔◌, ℕ}
 use Rattle.std.proofs.Common.{ℤ, pos, ◌-ℤ◌, Bool, true, false, cond, ◌&&◌, List, [], ◌∷◌, ◌++◌}
 use Rattle.std.proofs.Common.{Option, Some, None}
 use Rattle.std.proofs.lemmas.Int.{ints}
@@ -26,15 +26,15 @@ use Rattle.sb_model.specs.declared.walk.Walk.{Walk}
 use Rattle.sb_model.specs.Building.{Building}
 use Rattle.sb_model.specs.Passages.{Ray, at_depth, ArePassages, Piece, passages_of, pieces_of}
 use Rattle.sb_model.specs.Walks.{Course, course, course_of, Goes, GoesBy, stop_in, stop_by, is_passed, IsWalkOf}
-use Rattle.sb_model.specs.Walks.{is_square, lies_along, is_in_reach, unit_along, length_between}
+use Rattle.sb_model.specs.Walks.{lies_along, is_in_reach, unit_along, length_between}
 use Rattle.sb_model.specs.Walks.{element_numbered, AreItems, AreItemsOf}
 use Rattle.theory_sight.specs.Coarse.{coarse, same_label}
 use Rattle.theory_sight.specs.Bands.{items_between}
-use Rattle.theory_sight.specs.Reading.{FarEnd, square, slanted, never, Stretch, stretch, is_passed_over}
+use Rattle.theory_sight.specs.Reading.{FarEnd, square, slanted, never, Stretch, is_passed_over}
 use Rattle.theory_sight.specs.Reading.{ends_at, behind, read_element, read_stretch, read, IsFarEnd}
 use Rattle.theory_sight.specs.Reading.{AreStretches}
 use Rattle.theory_sight.proofs.ElementAt.{IsElementAt, element_is_at}
-use Rattle.theory_sight.proofs.CutTwice.{split_is, coarse_is_runs}
+use Rattle.theory_cuttings.proofs.CutTwice.{split_is, coarse_is_runs}
 use Rattle.theory_sight.proofs.PiecesAreRuns.{same_label_decides, piece_to, pieces_made, end-piece_to}
 use Rattle.theory_sight.proofs.PiecesAreRuns.{pieces_are_runs}
 use Rattle.theory_sight.proofs.ItemsOfPieces.{whole_length}

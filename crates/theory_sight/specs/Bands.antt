@@ -4,9 +4,9 @@
 use Rattle.std.specs.Prelude.{ℕ, zero, suc, ◌+◌, ◌*◌, ◌==◌, ℤ, pos, ◌+ℤ◌, ◌-ℤ◌, ◌*ℤ◌, Bool, int_lt}
 use Rattle.std.specs.Prelude.{unsigned_abs, List, [], ◌∷◌, Option, Some, None, if◌then◌else◌}
 use Rattle.std.specs.List.{find}
-use Rattle.theory_numbers.specs.Arrows.{Arrow, arrow}
+use Rattle.theory_numbers.specs.Arrows.{Arrow}
 use Rattle.theory_numbers.specs.Rationals.{rational}
-use Rattle.theory_numbers.specs.Fractions.{Ratio, reduced, whole}
+use Rattle.theory_numbers.specs.Fractions.{reduced, whole}
 use Rattle.theory_cuttings.specs.Cuttings.{Break}
 use Rattle.theory_cuttings.specs.Changes.{break_at, flip_onto, last_label, label_after, breaks_after}
 use Rattle.theory_cuttings.specs.Changes.{breaks_before, Fine}
@@ -37,6 +37,7 @@ band_ends low extent total before (l ∷ m ∷ ls) =
     (fraction ((low *ℤ pos total) +ℤ (extent *ℤ pos (before + l.micro))) (pos total)) m.index
     ∷ band_ends low extent total (before + l.micro) (m ∷ ls)
 
+-- the index of the first layer
 abbrev pub first_index : List Layer → ℕ
 first_index [] = 0
 first_index (l ∷ ls) = l.index
@@ -71,6 +72,7 @@ abbrev pub item_of_layer : Element → List Layer → Vector → ℕ → Option 
 item_of_layer e layers n index None from to = item e.number index (whole (pos 0))
 item_of_layer e layers n index (Some l) from to = layer_item e layers n l (length_between from to)
 
+-- the item of the layer that has the index, found among the layers
 abbrev pub item_at : Element → List Layer → Vector → ℕ → Arrow → Arrow → Item
 item_at e layers n index from to =
     item_of_layer e layers n index (find (λ l. l.index == index) layers) from to

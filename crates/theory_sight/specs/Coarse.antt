@@ -1,5 +1,5 @@
 -- Coarse labels: what is at a point, without the layer.
-use Rattle.std.specs.Prelude.{ℕ, ◌==◌, Bool, true, false, ◌&&◌, Option, Some, None, ⊤}
+use Rattle.std.specs.Prelude.{◌==◌, Bool, true, false, ◌&&◌, Option, Some, None, ⊤}
 use Rattle.sb_model.specs.declared.label.Label.{Label}
 use Rattle.sb_model.specs.declared.label.Label.TheVariants as label
 use Rattle.sb_model.specs.declared.products.Space.{Space}

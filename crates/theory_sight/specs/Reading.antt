@@ -28,6 +28,7 @@ pub record Stretch : Type 0 where
   pub label : Label
   pub far : FarEnd
 
+-- a label up to a far end
 abbrev pub stretch : Label → FarEnd → Stretch
 stretch l far = record { label = l; far = far }
 
@@ -45,6 +46,7 @@ ends_at x0 at found = course [] (rational (at -ℤ x0) (pos 1)) found
 abbrev pub behind : List Item → Course → Course
 behind items rest = course (items ++ rest.items) rest.depth rest.end
 
+-- at an element: it is passed, and the walk goes on behind it, or it ends the walk
 abbrev pub read_element : Building → Vector → ℤ → ℤ → ℕ → Option Element → FarEnd → (ℤ → Course)
     → Course
 read_element m n x0 at k None far goes_on = ends_at x0 at (end.Solid k)
@@ -55,6 +57,7 @@ read_element m n x0 at k (Some e) (square y) goes_on =
 read_element m n x0 at k (Some e) slanted goes_on = ends_at x0 at (end.Solid e.number)
 read_element m n x0 at k (Some e) never goes_on = ends_at x0 at (end.Solid e.number)
 
+-- at a stretch, by its label
 abbrev pub read_stretch : Building → Vector → ℤ → ℤ → Label → FarEnd → (ℤ → Course) → Course
 read_stretch m n x0 at (label.Space k) far goes_on = ends_at x0 at (end.Space k)
 read_stretch m n x0 at label.Void far goes_on = ends_at x0 at end.Outside
@@ -89,11 +92,13 @@ AreStretches m r x0 (b ∷ c ∷ bs) (s ∷ ss) =
 
 -- ---- how far is read, and back
 
+-- at an element the walk ends, or goes on behind it
 abbrev pub ends_in_element : Building → Vector → ℤ → Option Element → FarEnd → (ℤ → Bool) → Bool
 ends_in_element m n at (Some e) (square y) goes_on =
     if is_passed_over m n e at y then goes_on y else true
 ends_in_element m n at _ far goes_on = true
 
+-- at a stretch, by its label
 abbrev pub ends_in_stretch : Building → Vector → ℤ → Label → FarEnd → (ℤ → Bool) → Bool
 ends_in_stretch m n at (label.Element k layer) far goes_on =
     ends_in_element m n at (element_numbered m k) far goes_on
@@ -121,6 +126,7 @@ AllPassed m n at (c ∷ cs) =
     (e : Element) × (element_numbered m c.element ≡ Some e)
     × (is_passed_over m n e at c.to ≡ true) × AllPassed m n c.to cs
 
+-- the items of a crossing of the element, if there is one
 abbrev pub items_of : Option Element → Vector → ℤ → ℤ → List Item
 items_of None n x y = []
 items_of (Some e) n x y = items_between e n x y

@@ -1,18 +1,19 @@
 -- A function that is cut, and the coarse function after it: the coarse cutting is that of the runs. And
 -- a cutting that is split at a break, or seen as one of an equal function.
-use Rattle.std.proofs.Common.{◌≡◌, ◌⊎◌, inl, inr, refl, sym, ap, ◌∙◌, arith, pos, Bool}
+use Rattle.std.proofs.Common.{◌≡◌, ◌⊎◌, inl, inr, sym, ap, ◌∙◌, arith, Bool, subst}
 use Rattle.std.proofs.Common.{Option, Some, None, List, [], ◌∷◌, ◌++◌, Decides}
 use Rattle.std.proofs.lemmas.Int.{ints}
-use Rattle.theory_numbers.specs.Arrows.{Arrow, cross}
+use Rattle.std.specs.List.{AllByRecursion}
+use Rattle.theory_numbers.specs.Arrows.{Arrow}
 use Rattle.theory_numbers.specs.Rationals.{IsRational, IsBelow, IsAtMost, IsSame}
 use Rattle.theory_numbers.proofs.Arrows.{cross-turn}
 use Rattle.theory_numbers.proofs.Rationals.{below_or_not, number_cases, below_at_most_trans}
 use Rattle.theory_numbers.proofs.Rationals.{at_most_below_trans, at_most_from_below}
-use Rattle.theory_cuttings.specs.Ends.{IsEnd, IsAfter, IsBefore}
+use Rattle.theory_cuttings.specs.Ends.{IsEnd, IsOpen, IsAfter, IsBefore}
 use Rattle.theory_cuttings.specs.Cuttings.{Break, IsAlike, IsFraction, HasLabel, IsCutting, AreDifferent}
 use Rattle.theory_cuttings.specs.Cuttings.{IsReducedCutting, HasNoOddPoint}
-use Rattle.theory_cuttings.specs.Changes.{break_at, last_label, map_labels, group, run_breaks}
-use Rattle.theory_cuttings.proofs.Ends.{IsBetween, number_between, after_trans, before_trans}
+use Rattle.theory_cuttings.specs.Changes.{map_labels, group, run_breaks}
+use Rattle.theory_cuttings.proofs.Ends.{IsBetween, number_between, after_trans, before_trans, open_trans}
 use Rattle.theory_cuttings.proofs.Ends.{below_two_ends}
 use Rattle.theory_cuttings.proofs.OneCutting.{next_end, IsFirstPiece, first_piece, below_high}
 use Rattle.theory_cuttings.proofs.OneCutting.{has_one_cutting}
@@ -56,15 +57,51 @@ module _ {L : Type 0} (f g : Arrow → L) (high : Option Arrow) (high_in : IsEnd
         cut.0,
         cut.1,
         λ u u_in after before.
-        sym
-        (same u u_in after
-        (before_trans u b.start high u_in cut.0.positive high_in before within))
-        ∙ cut.2 u u_in after before,
+            sym
+            (same u u_in after
+            (before_trans u b.start high u_in cut.0.positive high_in before within))
+            ∙ cut.2 u u_in after before,
         of_equal (Some b.start) cut.0.positive
             (λ u u_in after before.
             same u u_in (after_trans low b.start u low_in cut.0.positive u_in cut.1 after) before)
             b.label bs cut.3,
       )
+
+-- a cutting of an interval is one of an open interval
+pub cutting_is_open : {L : Type 0} (f : Arrow → L) (low high : Option Arrow) → IsEnd low → IsEnd high
+    → (first : L) (bs : List (Break L)) → IsCutting f low high first bs → IsOpen low high
+cutting_is_open f low high low_in high_in first [] cut = cut.0
+cutting_is_open f low high low_in high_in first (b ∷ bs) cut =
+    open_trans low b.start high low_in cut.0.positive high_in cut.1
+    (below_high f high high_in low first b bs cut)
+
+-- what holds of a function's values holds of the labels of its cutting
+pub labels_have : {L : Type 0} (f : Arrow → L) (P : L → Type 0) (high : Option Arrow) → IsEnd high
+    → (low : Option Arrow) → IsEnd low
+    → ((u : Arrow) → IsRational u → IsAfter low u → IsBefore u high → P (f u)) → (first : L)
+    (bs : List (Break L)) → IsCutting f low high first bs
+    → P first × AllByRecursion (λ b. P b.label) bs
+labels_have f P high high_in low low_in has first [] cut =
+    (by (number_between low high low_in high_in cut.0), tt)
+  where
+    by : (u : Arrow) × IsBetween low high u → P first
+    by (u, at) =
+        subst P (cut.1 u at.rational at.after at.before) (has u at.rational at.after at.before)
+labels_have f P high high_in low low_in has first (b ∷ bs) cut =
+    let within = below_high f high high_in low first b bs cut in
+    let rest =
+    labels_have f P high high_in (Some b.start) cut.0.positive
+    (λ u u_in after before.
+    has u u_in (after_trans low b.start u low_in cut.0.positive u_in cut.1 after) before) b.label
+    bs cut.3
+    in
+    (by within (number_between low (Some b.start) low_in cut.0.positive cut.1), rest)
+  where
+    by : IsBefore b.start high → (u : Arrow) × IsBetween low (Some b.start) u → P first
+    by within (u, at) =
+        subst P (cut.2 u at.rational at.after at.before)
+        (has u at.rational at.after
+        (before_trans u b.start high at.rational cut.0.positive high_in at.before within))
 
 -- ---- no point is odd
 
@@ -124,8 +161,8 @@ module _ {K : Type 0} (h : Arrow → K) (high : Option Arrow) (high_in : IsEnd h
     where
       from : (u : Arrow) × (IsBetween low (Some b) u × IsBetween p (Some b) u) → h b ≡ k
       from (u, is) =
-              let here = is.0 in
-              let there = is.1 in
+          let here = is.0 in
+          let there = is.1 in
           cut.1 b b_in after_low before_high
           ∙ sym (cut.1 u here.rational here.after
           (before_trans u b high here.rational b_in high_in here.before before_high))
@@ -195,12 +232,12 @@ no_odd_break f g high high_in c cs start start_in coarse low low_in within first
 no_odd_break f g high high_in c cs start start_in coarse low low_in within first (b ∷ bs) cut =
     let piece = first_piece f high high_in (Some b.start) b.label bs cut.3 in (
       λ same.
-      even_at (λ u. g (f u)) high high_in b.start (g first) low (next_end bs high)
-      cut.0.positive low_in piece.is_end cut.1 piece.wide
-      (λ u u_in after before. ap g (cut.2 u u_in after before))
-      (λ u u_in after before. ap g (piece.has_label u u_in after before) ∙ sym same)
-      (below_high f high high_in low first b bs cut) start c cs start_in coarse.cutting
-      coarse.different (within b.start cut.0.positive cut.1),
+          even_at (λ u. g (f u)) high high_in b.start (g first) low (next_end bs high)
+          cut.0.positive low_in piece.is_end cut.1 piece.wide
+          (λ u u_in after before. ap g (cut.2 u u_in after before))
+          (λ u u_in after before. ap g (piece.has_label u u_in after before) ∙ sym same)
+          (below_high f high high_in low first b bs cut) start c cs start_in coarse.cutting
+          coarse.different (within b.start cut.0.positive cut.1),
       no_odd_break f g high high_in c cs start start_in coarse (Some b.start) cut.0.positive
           (λ u u_in after.
           within u u_in (after_trans low b.start u low_in cut.0.positive u_in cut.1 after))
