@@ -1,6 +1,6 @@
 -- Worked cuttings, wrong ones that are refused, and a function with an odd point, which squash cuts
 -- wrongly.
-use Rattle.std.proofs.Common.{◌≡◌, refl, sym, ◌∙◌, ap, ℕ, pos, negsuc, false, Bool}
+use Rattle.std.proofs.Common.{◌≡◌, refl, sym, ◌∙◌, ap, ℕ, pos, negsuc, true, false, Bool}
 use Rattle.std.proofs.Common.{List, [], ◌∷◌, None, arith, ◌==◌, if◌then◌else◌}
 use Rattle.std.proofs.lemmas.Int.{ints}
 use Rattle.std.proofs.lemmas.Bool.{false_from_ne_true}
@@ -21,6 +21,8 @@ use Rattle.theory_numbers.proofs.Arrows.{cross-turn}
 use Rattle.theory_numbers.proofs.Reduced.{whole_is_reduced}
 use Rattle.theory_cuttings.specs.Cuttings.{Break, IsAlike, IsCutting, AreDifferent, IsFraction}
 use Rattle.theory_cuttings.specs.Cuttings.{IsReducedCutting, HasNoOddPoint}
+use Rattle.theory_cuttings.specs.Columns.{is_odd_below, is_odd_up_to, column_of}
+use Rattle.theory_cuttings.specs.Changes.{refined, moved_breaks}
 use Rattle.theory_cuttings.specs.Changes.{break_at, squash, group, run_breaks}
 use Rattle.theory_cuttings.specs.Changes.{flip_onto, last_label, label_after, breaks_after}
 use Rattle.theory_cuttings.specs.Changes.{breaks_before}
@@ -225,3 +227,54 @@ part_has_no_break = refl
 part_has_label : label_after (whole 2) 1 breaks ≡ 2
 unfolding cross
 part_has_label = refl
+
+-- ---- columns
+
+-- two products on a line: the first from 1 to 3, the second from 2 to 4
+abbrev values : Bool → List Arrow
+values true = whole 1 ∷ whole 3 ∷ []
+values false = whole 2 ∷ whole 4 ∷ []
+
+-- the first that is present: 1, then 2, else 0
+abbrev first_present : (Bool → Bool) → ℕ
+first_present is_present = if is_present true then 1 else (if is_present false then 2 else 0)
+
+abbrev column : List (Break ℕ)
+column = column_of first_present values (whole 1 ∷ whole 2 ∷ whole 3 ∷ whole 4 ∷ [])
+
+-- from 1 on the first, from 3 on the second, from 4 on nothing: where the second begins under the first
+-- nothing changes
+column_is_so : column
+    ≡ break_at (whole 1) 1 ∷ break_at (whole 2) 1 ∷ break_at (whole 3) 2 ∷ break_at (whole 4) 0 ∷ []
+unfolding cross
+column_is_so = refl
+
+column_squashed : squash same 0 column
+    ≡ break_at (whole 1) 1 ∷ break_at (whole 3) 2 ∷ break_at (whole 4) 0 ∷ []
+unfolding cross
+column_squashed = refl
+
+-- at 2 itself the second product has one value at or below, and none below
+at_its_value : (is_odd_below (values false) (whole 2) ≡ false) × (is_odd_up_to (values false) (whole 2) ≡ true)
+unfolding cross
+at_its_value = (refl, refl)
+
+-- a column that leaves a value out is another
+value_left_out : column_of first_present values (whole 1 ∷ whole 3 ∷ [])
+    ≡ break_at (whole 1) 1 ∷ break_at (whole 3) 2 ∷ []
+unfolding cross
+value_left_out = refl
+
+-- ---- pieces that are cut themselves, and a cutting that is moved
+
+-- a coarse cutting at 2, whose first piece is cut at 1 and whose second at 3
+read_through : refined {L = ℕ} (break_at (whole 1) 7 ∷ [])
+    (break_at (whole 2) (record { first = 8; rest = break_at (whole 3) 9 ∷ [] }) ∷ [])
+    ≡ break_at (whole 1) 7 ∷ break_at (whole 2) 8 ∷ break_at (whole 3) 9 ∷ []
+read_through = refl
+
+-- 1/2 and 2 lie 3 further on at 7/2 and 5
+three_further : moved_breaks {L = ℕ} (pos 3)
+    (break_at (rational (pos 1) (pos 2)) 1 ∷ break_at (whole 2) 2 ∷ [])
+    ≡ break_at (rational (pos 7) (pos 2)) 1 ∷ break_at (whole 5) 2 ∷ []
+three_further = refl

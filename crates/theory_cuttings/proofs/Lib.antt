@@ -15,3 +15,11 @@ pub mod Parts
 -- the passages of a ray
 pub mod OnePassages
 mod Examples
+-- the column of the sorted values
+pub mod Columns
+-- pieces that are cut themselves
+pub mod Refined
+-- a cutting seen from another whole number
+pub mod Moved
+-- a function that is cut, and the coarse one after it
+pub mod CutTwice

@@ -1,7 +1,9 @@
 -- What is done with cuttings: needless breaks dropped, labels mapped and grouped, the line
--- reversed, two cuttings glued, and one restricted to a part of its interval.
-use Rattle.std.specs.Prelude.{Bool, if◌then◌else◌, List, [], ◌∷◌, ◌++◌, map}
-use Rattle.theory_numbers.specs.Arrows.{Arrow, mirror}
+-- reversed or moved, two cuttings glued, one refined piece by piece, and one restricted to a part of
+-- its interval.
+use Rattle.std.specs.Prelude.{ℤ, ◌+ℤ◌, ◌*ℤ◌, Bool, if◌then◌else◌, List, [], ◌∷◌, ◌++◌, map}
+use Rattle.std.specs.Prelude.{Option, option_map}
+use Rattle.theory_numbers.specs.Arrows.{Arrow, arrow, mirror}
 use Rattle.theory_numbers.specs.Rationals.{is_below}
 use Rattle.theory_cuttings.specs.Cuttings.{Break}
 
@@ -80,3 +82,25 @@ breaks_after s (b ∷ bs) = if is_below s b.start then b ∷ bs else breaks_afte
 abbrev pub breaks_before : {L : Type 0} → Arrow → List (Break L) → List (Break L)
 breaks_before t [] = []
 breaks_before t (b ∷ bs) = if is_below b.start t then b ∷ breaks_before t bs else []
+
+-- a piece that is cut itself: its first label, and the breaks inside it
+pub record Fine (L : Type 0) : Type 0 where
+  pub first : L
+  pub rest : List (Break L)
+
+-- refine: the breaks inside the first piece, and then each break with those inside its piece
+abbrev pub refined : {L : Type 0} → List (Break L) → List (Break (Fine L)) → List (Break L)
+refined inside [] = inside
+refined inside (b ∷ bs) = glue inside b.start b.label.first (refined b.label.rest bs)
+
+-- the number x further on
+abbrev pub moved_by : ℤ → Arrow → Arrow
+moved_by x r = arrow r.x (r.y +ℤ (x *ℤ r.x))
+
+-- an end x further on
+abbrev pub moved_end : ℤ → Option Arrow → Option Arrow
+moved_end x end = option_map (moved_by x) end
+
+-- the breaks x further on
+abbrev pub moved_breaks : {L : Type 0} → ℤ → List (Break L) → List (Break L)
+moved_breaks x bs = map (λ b. break_at (moved_by x b.start) b.label) bs

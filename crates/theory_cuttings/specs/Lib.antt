@@ -2,5 +2,6 @@
 pub mod Ends
 pub mod Cuttings
 pub mod Changes
+pub mod Columns
 pub mod Passages
 pub mod Laws

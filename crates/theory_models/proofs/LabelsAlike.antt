@@ -116,7 +116,8 @@ high_end k at scale n above =
     ap (int_lt (k *ℤ at)) (multiple_at k scale (pos n))
     ∙ order_of_multiples k at (scale *ℤ pos n) above
 
-same_layer : (k at scale : ℤ) → pos 0 <ℤ k → (before : ℕ) (layers : List Layer)
+-- the layer does not see a positive factor of the reading and of the extent
+pub same_layer : (k at scale : ℤ) → pos 0 <ℤ k → (before : ℕ) (layers : List Layer)
     → layer_from (k *ℤ at) (k *ℤ scale) before layers ≡ layer_from at scale before layers
 same_layer k at scale above before [] = refl
 same_layer k at scale above before (l ∷ []) =

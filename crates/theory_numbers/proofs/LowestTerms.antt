@@ -2,19 +2,20 @@
 
 use Rattle.std.proofs.Common.{ℕ, ℤ, pos, negsuc, neg_ℤ, suc, ◌*◌, ◌/◌, ◌<◌, ◌<ℤ◌, ◌*ℤ◌, ◌≡◌}
 use Rattle.std.proofs.Common.{zero, true, IsTrue, unsigned_abs, refl, arith, int_lt, ap}
-use Rattle.std.proofs.Common.{sym, ◌∙◌, mul_assoc, subst}
+use Rattle.std.proofs.Common.{sym, ◌∙◌, mul_assoc, subst, ap₂, ◌+ℤ◌}
 use Rattle.std.specs.Int.{IsGcd, ◌∣◌}
 use Rattle.std.proofs.lemmas.Int.{ints, unsigned_abs-mul}
 use Rattle.std.proofs.lemmas.Bool.{and_from, and_parts, eq-eqb, eqb-true}
-use Rattle.std.proofs.lemmas.Nat.Gcd.{same_from_IsGcd, dvd_refl}
+use Rattle.std.proofs.lemmas.Nat.Gcd.{same_from_IsGcd, dvd_refl, dvd_trans}
 use Rattle.std.proofs.Math.Nat.{div-mul_cancel, mul-div_cancel', mul-div_cancel}
-use Rattle.std.proofs.Math.Nat.{div-one, zero-div, dvd-mul_left, div_self}
+use Rattle.std.proofs.Math.Nat.{div-one, zero-div, dvd-mul_left, dvd-mul_right, one-dvd, div_self}
 use Rattle.theory_numbers.specs.Divisors.{greatest_divisor, are_coprime}
 use Rattle.theory_numbers.specs.Fractions.{Ratio, reduced, divided, is_lowest, whole}
 use Rattle.theory_numbers.proofs.GreatestDivisor.{greatest_divisor_is, divisor_is_positive}
 use Rattle.theory_numbers.proofs.GreatestDivisor.{quotients_are_coprime}
 use Rattle.theory_numbers.specs.Reduced.{IsReduced}
-use Rattle.theory_numbers.proofs.Ring.{mul-one}
+use Rattle.theory_numbers.proofs.Shapes.{var, plus, times, negated, equal}
+use Rattle.theory_numbers.proofs.Ring.{mul-one, mul_comm, mul-add}
 use Rattle.theory_numbers.proofs.Signs.{less_from}
 
 -- the size of a number with its sign changed
@@ -62,6 +63,54 @@ same_product a b g left right =
 neg-*ℤ : (q n : ℕ) → neg_ℤ (pos q) *ℤ pos n ≡ neg_ℤ (pos (q * n))
 neg-*ℤ zero n = ap pos (zero_mul n) ∙ ap (λ k. neg_ℤ (pos k)) (sym (zero_mul n))
 neg-*ℤ (suc q) n = refl
+
+-- a number is its divisor times the quotient
+pub times_quotient : (z : ℤ) (g : ℕ) → g ∣ unsigned_abs z → z ≡ pos g *ℤ divided z g
+times_quotient (pos n) g divides =
+    let whole = div-mul_cancel g divides in omega (arith, ints)
+times_quotient (negsuc n) g divides =
+    sym
+    (mul_comm (pos g) (neg_ℤ (pos (suc n / g))) ∙ neg-*ℤ (suc n / g) g
+    ∙ ap (λ k. neg_ℤ (pos k)) (div-mul_cancel g divides))
+
+-- what divides two numbers divides their sum
+pub divides_sum : (g : ℕ) (a b : ℤ) → g ∣ unsigned_abs a → g ∣ unsigned_abs b
+    → g ∣ unsigned_abs (a +ℤ b)
+divides_sum g a b left right =
+    let whole =
+    ap₂ (λ x y. x +ℤ y) (times_quotient a g left) (times_quotient b g right)
+    ∙ sym (mul-add (pos g) (divided a g) (divided b g))
+    in
+    subst (λ n. g ∣ n)
+    (sym (ap unsigned_abs whole ∙ unsigned_abs-mul (pos g) (divided a g +ℤ divided b g)))
+    (dvd-mul_right g (unsigned_abs (divided a g +ℤ divided b g)))
+
+-- what divides a number divides its multiples
+pub divides_multiple : (g : ℕ) (k a : ℤ) → g ∣ unsigned_abs a → g ∣ unsigned_abs (k *ℤ a)
+divides_multiple g k a divides =
+    subst (λ n. g ∣ n) (sym (unsigned_abs-mul k a))
+    (dvd_trans g divides (dvd-mul_left (unsigned_abs a) (unsigned_abs k)))
+
+-- a fraction is reduced wherever it is moved by a whole number
+pub moved_is_reduced : (x num den : ℤ) → IsReduced num den → IsReduced (num +ℤ (x *ℤ den)) den
+moved_is_reduced x num den is = record {
+  positive = is.positive;
+  no_divisor = (
+    one-dvd _,
+    one-dvd _,
+    λ g of_sum of_den.
+    is.no_divisor.2 g
+    (subst (λ z. g ∣ unsigned_abs z) back
+    (divides_sum g (num +ℤ (x *ℤ den)) (neg_ℤ x *ℤ den) of_sum
+    (divides_multiple g (neg_ℤ x) den of_den)))
+    of_den,
+  );
+}
+  where
+    back : (num +ℤ (x *ℤ den)) +ℤ (neg_ℤ x *ℤ den) ≡ num
+    back =
+        equal (plus (plus (var num) (times (var x) (var den))) (times (negated (var x)) (var den)))
+        (var num) (omega arith)
 
 -- a divisor of both may be taken from either factor
 divided-*ℤ : (a b : ℤ) (g : ℕ) → pos 0 <ℤ b → g ∣ unsigned_abs a → g ∣ unsigned_abs b

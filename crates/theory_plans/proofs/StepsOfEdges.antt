@@ -18,7 +18,7 @@ use Rattle.theory_numbers.proofs.GreatestDivisor.{greatest_divisor_is, divisor_i
 use Rattle.theory_numbers.proofs.GreatestDivisor.{quotients_are_coprime, greatest_divisor-zero}
 use Rattle.theory_numbers.proofs.GreatestDivisor.{zero-greatest_divisor}
 use Rattle.theory_numbers.proofs.Signs.{sign_cases, test_less}
-use Rattle.theory_numbers.proofs.LowestTerms.{abs-divided}
+use Rattle.theory_numbers.proofs.LowestTerms.{abs-divided, times_quotient}
 use Rattle.sb_fraction.specs.Plane.{is_plan_point, is_coordinate, longest_step}
 use Rattle.sb_fraction.specs.Plane.{is_forward, is_direction}
 use Rattle.sb_fraction.specs.Spots.{vector, opposite}
@@ -28,17 +28,6 @@ use Rattle.theory_plans.specs.Plans.{is_same_point}
 use Rattle.theory_plans.proofs.EdgesOfPlans.{is_proper_edge}
 
 -- ---- numbers divided by their greatest common divisor
-
-neg-*ℤ : (q n : ℕ) → pos n *ℤ neg_ℤ (pos q) ≡ neg_ℤ (pos (q * n))
-neg-*ℤ zero n = omega (arith, ints)
-neg-*ℤ (suc q) n = omega (arith, ints)
-
--- a number is its divisor times the quotient
-times_quotient : (z : ℤ) (g : ℕ) → g ∣ unsigned_abs z → z ≡ pos g *ℤ divided z g
-times_quotient (pos n) g divides =
-    let whole = div-mul_cancel g divides in omega (arith, ints)
-times_quotient (negsuc n) g divides =
-    sym (neg-*ℤ (suc n / g) g ∙ ap (λ k. neg_ℤ (pos k)) (div-mul_cancel g divides))
 
 -- two numbers that are not both 0 have a positive divisor
 some_divisor : (a b : ℕ) → (a ≡ 0 → b ≡ 0 → ⊥) → 0 < greatest_divisor a b

@@ -1,0 +1,4 @@
+-- What the laws speak of, in reading order.
+pub mod Coarse
+pub mod Bands
+pub mod Reading
