@@ -13,7 +13,8 @@ use Rattle.theory_numbers.proofs.Arrows.{dot_comm, dot-add, dot-scale, cross-opp
 use Rattle.theory_numbers.proofs.Shapes.{var, num, plus, minus, negated, times, equal}
 use Rattle.theory_numbers.proofs.Shapes.{cross_by, dot_by}
 use Rattle.theory_numbers.proofs.Signs.{less_from, test_at_most, above_or_not}
-use Rattle.theory_numbers.proofs.Products.{weak_factor, positive_product, weak_product, zero_of_positive}
+use Rattle.theory_numbers.proofs.Products.{weak_factor, positive_product, weak_product}
+use Rattle.theory_numbers.proofs.Products.{zero_of_positive}
 use Rattle.theory_numbers.proofs.Products.{positive_factor, negative_factor, weak_negative_factor}
 use Rattle.theory_numbers.proofs.Products.{weak_negative_product, negative_product}
 use Rattle.theory_numbers.proofs.Ring.{mul-zero, zero-mul, mul_comm}
@@ -180,7 +181,8 @@ module _ (e : Edge) (p : Spot) (long : IsLong e) (along : IsAlong e p) where
       let behind = along.a_behind in
       let ahead = along.b_ahead in
       let swap = mul_comm (dot (span_of e) to_a) (dot (span_of e) to_b) in
-      let product = weak_negative_product (dot (span_of e) to_b) (dot (span_of e) to_a) ahead behind in
+      let product = weak_negative_product (dot (span_of e) to_b) (dot (span_of e) to_a) ahead
+      behind in
       let whole = reach_product in
       and_from (int_eq (turn_at e p) (pos 0)) (int_le (reach_at e p) (pos 0))
       ((Decides-int_eq (turn_at e p) (pos 0)).1 level_along)

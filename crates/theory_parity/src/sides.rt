@@ -2,8 +2,8 @@ ghost use Rattle.theory_parity.specs.SideLaws.{HasOneSideALoop, HasTurnedEdges, 
 
 /// Of loops that are bent and whose edges are apart, the solid lies on the left of all edges of a
 /// loop or of none. A loop turned round has it where it had not, and the others as before. So the
-/// loops keep the solid on the left once each is turned whose first edge does not have it there, and
-/// normalised loops become a plan.
+/// loops keep the solid on the left once each is turned whose first edge does not have it there,
+/// and normalised loops become a plan.
 pub fn one_side_a_loop()
     ensures one_side { HasOneSideALoop }
     ensures turned_edges { HasTurnedEdges }
