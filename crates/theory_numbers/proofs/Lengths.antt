@@ -13,8 +13,8 @@ use Rattle.theory_numbers.proofs.Products.{positive_product, negative_product, p
 use Rattle.theory_numbers.proofs.Products.{weak_square, positive_square, square_of_zero}
 use Rattle.theory_numbers.proofs.Products.{positive_factor, negative_factor, same_signs}
 use Rattle.theory_numbers.proofs.Products.{weak_negative_product, weak_negative_factor}
-use Rattle.theory_numbers.proofs.Products.{weak_product_of_negatives}
-use Rattle.theory_numbers.proofs.Ring.{mul_comm, neg-mul, zero-mul}
+use Rattle.theory_numbers.proofs.Products.{weak_product_of_negatives, zero_of_positive}
+use Rattle.theory_numbers.proofs.Ring.{mul_comm, mul-zero, neg-mul, zero-mul}
 use Rattle.theory_numbers.proofs.Signs.{less_from, not_less_from, test_less, test_not_less}
 use Rattle.theory_numbers.proofs.Signs.{sign_cases}
 use Rattle.theory_numbers.proofs.ThreeTerms.{cycle, frame_dot}
@@ -95,6 +95,13 @@ seen_by a b g line =
     left =
         equal (minus (times (var (dot a b)) (var (cross a g))) (times (num 0) (var (dot a g))))
         (times (var (dot a b)) (var (cross a g))) (omega arith)
+
+-- so a third on the line of the first lies on that of the second
+pub on_both_lines : (a b g : Arrow) → cross a b ≡ pos 0 → pos 0 <ℤ dot a a → cross a g ≡ pos 0
+    → cross b g ≡ pos 0
+on_both_lines a b g line long none =
+    zero_of_positive (dot a a) (cross b g) long
+    (seen_by a b g line ∙ ap (λ n. dot a b *ℤ n) none ∙ mul-zero (dot a b))
 
 -- two that are not 0 and do not point one way point opposite ways
 pub opposite_ways : (a b : Arrow) → cross a b ≡ pos 0 → dot a b ≤ℤ pos 0 → pos 0 <ℤ dot a a

@@ -1,7 +1,7 @@
 -- From one side of a point to the other, near it and along a way that is parallel to no edge, the
 -- answer changes by the number of edges that pass through the point.
 
-use Rattle.std.proofs.Common.{◌≡◌, refl, sym, ap, ap₂, ◌∙◌, ◌⊎◌, inl, inr, arith, ℤ, pos, neg_ℤ}
+use Rattle.std.proofs.Common.{◌≡◌, refl, sym, ap, ap₂, ◌∙◌, ◌⊎◌, inl, inr, arith, ℤ, pos}
 use Rattle.std.proofs.Common.{◌<ℤ◌, ◌≤ℤ◌, ◌*ℤ◌, Bool, true, false, not, int_lt}
 use Rattle.std.proofs.Common.{int_le, List}
 use Rattle.std.specs.Ordering.{int_eq}
@@ -14,63 +14,42 @@ use Rattle.theory_lists.proofs.Parity.{odd_where_same, is_odd_number-differ}
 use Rattle.theory_lists.proofs.Members.{all_follow}
 use Rattle.theory_numbers.specs.Tests.{is_positive}
 use Rattle.theory_numbers.specs.Arrows.{Arrow, cross, dot}
-use Rattle.theory_numbers.proofs.Arrows.{cross-turn, dot_comm}
+use Rattle.theory_numbers.proofs.Arrows.{cross-turn}
 use Rattle.theory_numbers.proofs.Signs.{test_less, test_not_less}
 use Rattle.theory_numbers.proofs.Signs.{test_at_most, at_most_from, sign_cases}
 use Rattle.theory_numbers.proofs.Products.{zero_of_positive}
 use Rattle.theory_numbers.proofs.Products.{positive_product, negative_product}
-use Rattle.theory_numbers.proofs.Ring.{mul_comm, neg-mul, zero-mul, mul-zero}
-use Rattle.theory_numbers.proofs.ThreeTerms.{cycle}
+use Rattle.theory_numbers.proofs.Ring.{mul-zero}
 use Rattle.theory_numbers.proofs.SignTables.{hit_of}
 use Rattle.sb_fraction.specs.declared.point.Point.{Point}
 use Rattle.sb_fraction.specs.Spots.{Spot, IsSpot}
 use Rattle.sb_fraction.specs.Edges.{Edge, seen_from, turn_at, reach_at, is_on}
 use Rattle.theory_plans.specs.Rays.{is_left_of, is_struck}
 use Rattle.theory_parity.specs.Halves.{height_over, left_half}
-use Rattle.theory_numbers.proofs.Lengths.{opposed, parted}
+use Rattle.theory_numbers.proofs.Lengths.{opposed, parted, on_both_lines}
 use Rattle.theory_parity.proofs.Heights.{turn_by_height}
 use Rattle.theory_parity.proofs.StayNear.{HasSignOf}
 
 -- ---- two vectors on one line through the origin that point in opposite directions
 
--- the products of a way with both, where the two lie on one line
-on_one_line : (n a b c : Arrow) → cross a b ≡ pos 0
-    → cross n a *ℤ dot b c ≡ cross n b *ℤ dot a c
-on_one_line n a b c level =
-    let round = cycle n a b c in
-    let none : cross a b *ℤ dot n c ≡ pos 0 =
-    ap (λ t. t *ℤ dot n c) level ∙ zero-mul (dot n c) in
-    let turn : cross b n *ℤ dot a c ≡ neg_ℤ (cross n b *ℤ dot a c) =
-    ap (λ t. t *ℤ dot a c) (cross-turn n b) ∙ neg-mul (cross n b) (dot a c) in
-    omega (arith, ints)
-
 -- a way that is not parallel to the line has one on its left and the other not
 module _ (n a b : Arrow) (level : cross a b ≡ pos 0) (near : dot a b ≤ℤ pos 0)
     (a_long : pos 0 <ℤ dot a a) (b_long : pos 0 <ℤ dot b b)
     (slanted : cross n b ≡ cross n a → ⊥) where
-  same_product : cross n a *ℤ dot a b ≡ cross n b *ℤ dot a a
-  same_product =
-      ap (λ t. cross n a *ℤ t) (dot_comm a b) ∙ on_one_line n a b a level
-
-  other_product : cross n a *ℤ dot b b ≡ cross n b *ℤ dot a b
-  other_product = on_one_line n a b b level
+  turned_zero : (r s : Arrow) → cross r s ≡ pos 0 → cross s r ≡ pos 0
+  turned_zero r s zero = let turned = cross-turn r s in omega (arith, ints)
 
   -- none of the two lies on the line of the way
   first_off : cross n a ≡ pos 0 → ⊥
   first_off zero =
-      let none : cross n a *ℤ dot a b ≡ pos 0 =
-      ap (λ t. t *ℤ dot a b) zero ∙ zero-mul (dot a b) in
-      let swap = mul_comm (cross n b) (dot a a) in
-      let same = same_product in
-      slanted (zero_of_positive (dot a a) (cross n b) a_long (omega (arith, ints)) ∙ sym zero)
+      slanted (turned_zero b n (on_both_lines a b n level a_long (turned_zero n a zero)) ∙ sym zero)
 
   second_off : cross n b ≡ pos 0 → ⊥
   second_off zero =
-      let none : cross n b *ℤ dot a b ≡ pos 0 =
-      ap (λ t. t *ℤ dot a b) zero ∙ zero-mul (dot a b) in
-      let swap = mul_comm (cross n a) (dot b b) in
-      let same = other_product in
-      slanted (zero ∙ sym (zero_of_positive (dot b b) (cross n a) b_long (omega (arith, ints))))
+      slanted
+      (zero
+      ∙ sym
+      (turned_zero a n (on_both_lines b a n (turned_zero a b level) b_long (turned_zero n b zero))))
 
   parted_by_way : is_positive (cross n a) ≡ not (is_positive (cross n b))
   parted_by_way = parted n a b level near first_off second_off

@@ -16,8 +16,7 @@ use Rattle.theory_lists.proofs.Blocks.{stands_before, stands_behind, all-append}
 use Rattle.theory_numbers.specs.Arrows.{cross, dot}
 use Rattle.theory_numbers.proofs.Arrows.{cross-turn}
 use Rattle.theory_numbers.proofs.Products.{zero_of_positive}
-use Rattle.theory_numbers.proofs.Lengths.{no_length, some_length, seen_by}
-use Rattle.theory_numbers.proofs.Ring.{mul-zero}
+use Rattle.theory_numbers.proofs.Lengths.{no_length, some_length, on_both_lines}
 use Rattle.theory_numbers.proofs.Shapes.{var, num, minus, negated, times, equal, cross_by}
 use Rattle.theory_numbers.proofs.Signs.{equal_or_not}
 use Rattle.sb_fraction.specs.declared.point.Point.{Point}
@@ -187,11 +186,7 @@ straight_through p p_is a v c first second long =
 
     across : cross (seen_from p a) (seen_from p c) ≡ pos 0
     across =
-        zero_of_positive (dot (seen_from p v) (seen_from p v))
-        (cross (seen_from p a) (seen_from p c)) long
-        (seen_by (seen_from p v) (seen_from p a) (seen_from p c) back
-        ∙ ap (λ n. dot (seen_from p v) (seen_from p a) *ℤ n) second
-        ∙ mul-zero (dot (seen_from p v) (seen_from p a)))
+        on_both_lines (seen_from p v) (seen_from p a) (seen_from p c) back long second
 
     level : cross (from_to (seen_from p v) (seen_from p a))
         (from_to (seen_from p v) (seen_from p c))

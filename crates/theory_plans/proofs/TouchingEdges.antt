@@ -15,12 +15,12 @@ use Rattle.theory_numbers.proofs.Shapes.{dot_by, cross_is, dot_is}
 use Rattle.theory_numbers.proofs.Products.{positive_product, negative_product}
 use Rattle.theory_numbers.proofs.Products.{weak_negative_product, weak_negative_factor}
 use Rattle.theory_numbers.proofs.Products.{zero_of_positive, negative_factor}
-use Rattle.theory_numbers.proofs.Ring.{mul_comm, zero-mul, mul-zero}
+use Rattle.theory_numbers.proofs.Ring.{mul_comm, zero-mul}
 use Rattle.theory_numbers.proofs.Products.{weak_product_of_negatives}
 use Rattle.theory_numbers.proofs.Arrows.{same_arrow, cross-turn, cross-self, dot_comm}
 use Rattle.theory_numbers.proofs.Arrows.{cross-scale, scale-cross, dot-scale, scale-dot}
 use Rattle.theory_numbers.proofs.ThreeTerms.{frame_dot}
-use Rattle.theory_numbers.proofs.Lengths.{no_length, some_length, seen_by, opposite_ways, turns_over}
+use Rattle.theory_numbers.proofs.Lengths.{no_length, some_length, on_both_lines, opposite_ways, turns_over}
 use Rattle.theory_numbers.proofs.Signs.{test_less, test_at_most, at_most_from, sign_cases, equal_or_not}
 use Rattle.sb_fraction.specs.declared.point.Point.{Point}
 use Rattle.sb_fraction.specs.Spots.{Spot, IsSpot, spot_at}
@@ -276,24 +276,18 @@ touch_inside a b g d o long_a long_b long_g long_d = from (sign_cases (cross a g
         let below = seen.0 (omega (arith, ints)) in
         omega (arith, ints)
 
-    none_by : (s t h : Arrow) → cross s t ≡ pos 0 → pos 0 <ℤ dot s s → cross s h ≡ pos 0
-        → cross t h ≡ pos 0
-    none_by s t h line long none =
-        zero_of_positive (dot s s) (cross t h) long
-        (seen_by s t h line ∙ ap (λ n. dot s t *ℤ n) none ∙ mul-zero (dot s t))
-
     on_line : cross a g ≡ pos 0 → OnOneLine a b g d
     on_line none =
         let ga : cross g a ≡ pos 0 = let turned = cross-turn a g in omega (arith, ints) in
-        let da = none_by g d a o.second long_g ga in
+        let da = on_both_lines g d a o.second long_g ga in
         let ad : cross a d ≡ pos 0 = let turned = cross-turn d a in omega (arith, ints) in
         record {
           ab = o.first;
           gd = o.second;
           ag = none;
-          bg = none_by a b g o.first long_a none;
+          bg = on_both_lines a b g o.first long_a none;
           ad = ad;
-          bd = none_by a b d o.first long_a ad;
+          bd = on_both_lines a b d o.first long_a ad;
           long = long_a;
           back = back;
         }
