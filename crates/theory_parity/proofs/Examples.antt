@@ -4,14 +4,14 @@
 use Rattle.std.proofs.Common.{◌≡◌, refl, true, false, Bool, List, [], ◌∷◌, ℕ, pos, neg_ℤ, map}
 use Rattle.std.specs.List.{list_any}
 use Rattle.theory_lists.specs.Parity.{differ, is_odd_number}
-use Rattle.theory_numbers.specs.Arrows.{arrow, cross, dot}
+use Rattle.theory_numbers.specs.Arrows.{Arrow, arrow, cross, dot}
 use Rattle.theory_numbers.specs.Rationals.{rational}
 use Rattle.theory_plane.specs.Sides.{level, value_on}
 use Rattle.theory_plane.specs.Points.{is_above_side}
 use Rattle.theory_plane.specs.Regions.{Region}
 use Rattle.sb_fraction.specs.declared.point.Point.{Point}
 use Rattle.sb_fraction.specs.Spots.{Spot, spot}
-use Rattle.sb_fraction.specs.Edges.{edge, is_on}
+use Rattle.sb_fraction.specs.Edges.{Edge, edge, is_on}
 use Rattle.sb_fraction.specs.Lines.{in_frame, span_along, line_over}
 use Rattle.theory_plans.specs.LoopEdges.{edges_of}
 use Rattle.theory_plans.specs.Inside.{is_in_plan}
@@ -172,14 +172,17 @@ common_edge = refl
 abbrev indented : List (List Point)
 indented = (at 0 0 ∷ at 10 0 ∷ at 5 5 ∷ at 10 10 ∷ at 0 10 ∷ []) ∷ []
 
--- whether an odd number of edges have a value below y at x, whether at most y, and inside
+-- whether an odd number of edges pass the test of a value at x
+abbrev odd_by : (Arrow → Arrow → Arrow → Edge → Bool) → ℕ → ℕ → Bool
+odd_by test x y =
+    is_odd_number
+    (test (arrow (pos 1) (pos 0)) (rational (pos x) (pos 1)) (rational (pos y) (pos 1)))
+    (edges_of indented)
+
+-- whether an odd number have a value below y at x, whether an odd number at most y, and inside
 abbrev by_values : ℕ → ℕ → List Bool
 by_values x y =
-    is_odd_number (is_lower_at (arrow (pos 1) (pos 0)) (rational (pos x) (pos 1)) (rational (pos y) (pos 1)))
-    (edges_of indented)
-    ∷ is_odd_number (is_up_to_at (arrow (pos 1) (pos 0)) (rational (pos x) (pos 1)) (rational (pos y) (pos 1)))
-    (edges_of indented)
-    ∷ is_in_plan indented (spot_by x y 1) ∷ []
+    odd_by is_lower_at x y ∷ odd_by is_up_to_at x y ∷ is_in_plan indented (spot_by x y 1) ∷ []
 
 -- at x = 6 the values are 0, 4, 6 and 10: 3 is inside, 4 is not, since it is a value, 5 is not
 on_a_line_without_a_corner :

@@ -1,6 +1,6 @@
--- On a line u = constant that holds no corner of a plan at most one edge has each value. So a point of
--- it lies inside the plan exactly where an odd number of edges have a lesser value, and an odd number
--- at most its value.
+-- On a line u = constant that holds no corner of a plan at most one edge has each value. So a point
+-- of it lies inside the plan exactly where an odd number of edges have a lesser value, and an odd
+-- number at most its value.
 
 use Rattle.std.proofs.Common.{◌≡◌, refl, sym, ap, ap₂, ◌∙◌, ◌⊎◌, inl, inr, arith, pos, ◌*ℤ◌, ◌<ℤ◌}
 use Rattle.std.proofs.Common.{ℤ, Bool, true, false, not, ◌&&◌, int_le, int_lt, IsTrue, List}
@@ -63,7 +63,8 @@ module _ (d u v : Arrow) (d_is : IsWay d) (u_in : IsRational u) (v_in : IsRation
   unfolding p
   p_is = spot_in_is d u v d_is u_in v_in
 
-  apart_at : (a : Point) → int_eq (cross u (rational (abscissa_at a (flat d)) (pos 1))) (pos 0) ≡ false
+  apart_at : (a : Point)
+      → int_eq (cross u (rational (abscissa_at a (flat d)) (pos 1))) (pos 0) ≡ false
       → cross (down_from d) (seen_from p a) ≡ pos 0 → ⊥
   unfolding p
   apart_at a apart none =

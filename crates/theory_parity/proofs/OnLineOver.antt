@@ -1,4 +1,5 @@
--- A point lies on the line of an edge exactly where it lies on that line in the frame of a direction.
+-- A point lies on the line of an edge exactly where it lies on that line in the frame of a
+-- direction.
 
 use Rattle.std.proofs.Common.{◌≡◌, refl, sym, ap, ap₂, ◌∙◌, arith, pos, neg_ℤ, ◌-ℤ◌, ◌*ℤ◌}
 use Rattle.std.proofs.Common.{Bool, true, false}

@@ -1,5 +1,5 @@
--- The region of a patch, in the frame of a direction, is the meeting of four open half-planes. So a
--- region whose points off finitely many lines lie inside a plan lies inside the plan.
+-- The region of a patch, in the frame of a direction, is the intersection of four open half-planes.
+-- So a region whose points off finitely many lines lie inside a plan lies inside the plan.
 
 use Rattle.std.proofs.Common.{◌≡◌, refl, sym, ap, ap₂, ◌∙◌, arith, pos, neg_ℤ}
 use Rattle.std.proofs.Common.{◌+ℤ◌, ◌-ℤ◌, ◌*ℤ◌, Bool, true, false, not, ◌&&◌, IsTrue}

@@ -65,7 +65,8 @@ HasFlip =
 
 -- ---- whole regions
 
--- a meeting of open half-planes whose points off finitely many lines lie inside a plan lies inside it
+-- an intersection of open half-planes whose points off finitely many lines lie inside a plan lies
+-- inside it
 abbrev pub HasHalvesInside : Type 0
 HasHalvesInside =
     (loops : List (List Point)) (cuts halves : List Half) → IsTrue (is_plan loops)

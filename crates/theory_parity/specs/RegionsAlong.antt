@@ -34,7 +34,7 @@ four_halves d r =
     half_beyond d r.low ∷ opposite_half (half_beyond d r.high) ∷ half_above d r.lower
     ∷ opposite_half (half_above d r.upper) ∷ []
 
--- the point lies in the region
+-- the point lies in the region of the frame of d
 abbrev pub is_in_region : Arrow → Region → Spot → Bool
 is_in_region d r p = is_inside r (in_frame d p)
 

@@ -19,8 +19,8 @@ pub fn across_the_only_edge()
     ensures flip { HasFlip }
 {}
 
-/// A convex region whose points off finitely many lines lie inside a plan lies inside it: a meeting
-/// of open half-planes, and so the region of a patch.
+/// A convex region whose points off finitely many lines lie inside a plan lies inside it: an
+/// intersection of open half-planes, and so the region of a patch.
 pub fn inside_throughout()
     ensures halves { HasHalvesInside }
     ensures region { HasRegionInside }

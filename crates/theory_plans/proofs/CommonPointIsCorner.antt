@@ -215,8 +215,9 @@ on_line p e on =
     (and_parts (int_eq (turn_at e p) (pos 0)) (int_le (reach_at e p) (pos 0)) on).0
 
 at_corner : (loops : List (List Point)) → list_all is_bent_loop loops ≡ true
-    → are_apart loops ≡ true → (e f : Edge) → Stands e (edges_of loops) → Stands f (edges_of loops) → e.b ≡ f.a
-    → (p : Spot) → IsSpot p → is_on p e ≡ true → is_on p f ≡ true → IsAt p e.b
+    → are_apart loops ≡ true → (e f : Edge) → Stands e (edges_of loops)
+    → Stands f (edges_of loops) → e.b ≡ f.a → (p : Spot) → IsSpot p → is_on p e ≡ true
+    → is_on p f ≡ true → IsAt p e.b
 at_corner loops bent apart e f at_e at_f same p p_is on_e on_f =
     from (equal_or_not (dot (seen_from p e.b) (seen_from p e.b)) (pos 0))
   where

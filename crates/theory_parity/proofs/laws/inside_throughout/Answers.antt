@@ -4,7 +4,7 @@ use Rattle.theory_parity.proofs.RegionIsFourHalves.{region_inside_throughout}
 use Rattle.theory_parity.proofs.RegionIsFourHalves.{region_inside_throughout_off_sides}
 use Rattle.theory_parity.proofs.laws.inside_throughout.Goals as goal
 
--- a meeting of half-planes
+-- an intersection of half-planes
 pub returns-clause-halves : goal.returns-clause-halves
 returns-clause-halves g loops cuts halves plan cuts_in inside =
     inside_throughout loops plan cuts halves cuts_in inside
