@@ -1,5 +1,5 @@
--- Of bent loops with edges that are apart no other edge passes strictly inside an edge, and none but
--- its two comes to a corner.
+-- Of bent loops with edges that are apart no other edge passes strictly inside an edge, and none
+-- but its two comes to a corner.
 
 use Rattle.std.proofs.Common.{◌≡◌, refl, sym, ap, ◌∙◌, ◌⊎◌, inl, inr, arith, pos}
 use Rattle.std.proofs.Common.{true, not, List, subst}

@@ -15,7 +15,8 @@ use Rattle.theory_numbers.specs.Tests.{is_positive}
 use Rattle.theory_numbers.specs.Arrows.{cross, dot}
 use Rattle.theory_numbers.proofs.Arrows.{cross-turn, cross-self}
 use Rattle.theory_numbers.proofs.Products.{positive_product, negative_product, positive_factor}
-use Rattle.theory_numbers.proofs.Products.{negative_factor, weak_square, zero_of_positive, weak_product}
+use Rattle.theory_numbers.proofs.Products.{negative_factor, weak_square, zero_of_positive}
+use Rattle.theory_numbers.proofs.Products.{weak_product}
 use Rattle.theory_numbers.proofs.Products.{weak_negative_product}
 use Rattle.theory_numbers.proofs.Ring.{mul-zero, mul-neg, mul-add, mul-sub, mul-one, one-mul}
 use Rattle.theory_numbers.proofs.Ring.{neg-mul-neg}
@@ -54,7 +55,8 @@ use Rattle.theory_numbers.proofs.Soon.{more_than_0}
 none_of_edge : (p : Spot) (g : Edge) (es : List Edge) → Stands g es → list_any (is_on p) es ≡ false
     → is_on p g ≡ false
 none_of_edge p g es stands off =
-    false_from_ne_true (is_on p g) (λ on. false≢true (sym off ∙ any_stands (is_on p) g es stands on))
+    false_from_ne_true (is_on p g)
+    (λ on. false≢true (sym off ∙ any_stands (is_on p) g es stands on))
 
 at_its_end : (k l : ℤ) (p m : Spot) → k ≡ pos 0 → on_way k p l m ≡ scaled l (flat_spot m)
 at_its_end k l p m none =
@@ -286,7 +288,8 @@ module _ (loops : List (List Point)) (plan : IsTrue (is_plan loops)) (e : Edge)
           (is_odd_number (is_struck (way_to p m) m) (edges_of loops))
           (other_answer (strikes_from_left left))
           ∙ ap not
-          (right_ray loops e m long own alone (way_to p m) side ∙ even_back loops plan e e_in m own))
+          (right_ray loops e m long own alone (way_to p m) side
+          ∙ even_back loops plan e e_in m own))
           ∙ sym (test_less (pos 0) (turn_at e p) left)
       from (inl (inr zero)) = absurd (not_level zero)
       from (inr right) =

@@ -1,7 +1,7 @@
 -- Near each point strictly inside an edge of a plan the points left of it lie inside the plan, and
 -- those right of it outside.
 
-use Rattle.std.proofs.Common.{◌≡◌, refl, sym, ap, ap₂, ◌∙◌, arith, ℤ, pos, neg_ℤ}
+use Rattle.std.proofs.Common.{◌≡◌, refl, sym, ap, ap₂, ◌∙◌, ◌⊎◌, inl, inr, arith, ℤ, pos, neg_ℤ}
 use Rattle.std.proofs.Common.{◌<ℤ◌, ◌+ℤ◌, ◌*ℤ◌, Bool, true, false, not, IsTrue, List}
 use Rattle.std.proofs.lemmas.Int.{ints}
 use Rattle.std.proofs.lemmas.Bool.{false≢true}
@@ -9,7 +9,9 @@ use Rattle.theory_lists.proofs.Passing.{passes_if_all}
 use Rattle.theory_lists.specs.Members.{Stands}
 use Rattle.theory_lists.specs.Parity.{is_odd_number}
 use Rattle.theory_numbers.specs.Arrows.{Arrow, cross, dot, opposite, turned, mirror}
-use Rattle.theory_numbers.proofs.Arrows.{cross-opposite}
+use Rattle.theory_numbers.proofs.Arrows.{cross-opposite, cross-turn}
+use Rattle.theory_numbers.proofs.Signs.{sign_cases, test_less, test_not_less}
+use Rattle.theory_numbers.specs.Tests.{is_positive}
 use Rattle.theory_numbers.proofs.Shapes.{var, num, plus, minus, negated, times, equal, cross_by}
 use Rattle.theory_numbers.proofs.Shapes.{dot_by, dot_is}
 use Rattle.sb_fraction.specs.declared.point.Point.{Point}
@@ -28,7 +30,7 @@ use Rattle.theory_parity.proofs.BesideAnEdge.{own_left, own_right, soon_inside}
 use Rattle.theory_parity.proofs.EdgesApart.{long_edges, alone_inside, odd_inside}
 use Rattle.theory_parity.proofs.OneSideALoop.{right_is_right, to_the_right}
 use Rattle.theory_parity.proofs.OwnPoints.{IsOwn, IsLong, own_from_within, middle_is_own}
-use Rattle.theory_parity.proofs.RaysFromEdges.{IsAloneAt, right_ray}
+use Rattle.theory_parity.proofs.RaysFromEdges.{IsAloneAt, right_ray, left_ray}
 use Rattle.theory_numbers.proofs.Soon.{Soon, soon_both}
 
 -- the loops of a plan are bent, and their edges apart
@@ -107,6 +109,28 @@ module _ (loops : List (List Point)) (plan : IsTrue (is_plan loops)) (e : Edge)
       even : (b : Bool) → not b ≡ true → b ≡ false
       even true left = absurd (false≢true left)
       even false left = refl
+
+  -- a ray to the right of the edge strikes an even number of edges, one to the left an odd number
+  pub even_to_the_right : (m : Spot) → IsOwn e m → (r : Arrow)
+      → (cross (span_of e) r ≡ pos 0 → ⊥)
+      → is_odd_number (is_struck r m) (edges_of loops) ≡ is_positive (cross (span_of e) r)
+  even_to_the_right m own r slanted = from (sign_cases (cross (span_of e) r))
+    where
+      turn : cross r (span_of e) ≡ neg_ℤ (cross (span_of e) r)
+      turn = cross-turn (span_of e) r
+
+      from : ((pos 0 <ℤ cross (span_of e) r) ⊎ (cross (span_of e) r ≡ pos 0))
+          ⊎ (cross (span_of e) r <ℤ pos 0)
+          → is_odd_number (is_struck r m) (edges_of loops) ≡ is_positive (cross (span_of e) r)
+      from (inl (inl left)) =
+          left_ray loops e m long own (alone m own) (odd_inside loops are e e_in long m own) r
+          (omega (arith, ints, turn, left))
+          ∙ ap not (even_back m own) ∙ sym (test_less (pos 0) (cross (span_of e) r) left)
+      from (inl (inr none)) = absurd (slanted none)
+      from (inr right) =
+          right_ray loops e m long own (alone m own) r (omega (arith, ints, turn, right))
+          ∙ even_back m own
+          ∙ sym (test_not_less (pos 0) (cross (span_of e) r) (omega (arith, ints, right)))
 
   near_own : (m : Spot) → IsOwn e m → (most : Arrow) × IsClosenessAt loops e m most
   near_own m own = from (soon_both left right)

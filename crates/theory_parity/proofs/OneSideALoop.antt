@@ -148,16 +148,16 @@ module _ (loops : List (List Point)) (are : AreBentApart loops) where
   of_loops points [] bent there stands e f e_in f_in = absurd stands
   of_loops points (first ∷ rest) bent there (inl same) e f e_in f_in =
       let parts = and_parts (is_bent_loop first) (list_all is_bent_loop rest) bent in
-      let blocks = all_in_parts (λ g. Stands g (edges_of loops)) (edges_of_loop first) (edges_of rest)
-      there in
+      let blocks = all_in_parts (λ g. Stands g (edges_of loops)) (edges_of_loop first)
+      (edges_of rest) there in
       of_loop points (ap is_bent_loop same ∙ parts.0)
       (subst
       (λ l. AllByRecursion (λ g. Stands g (edges_of loops)) (edges_of_loop l)) (sym same) blocks.0)
       e f e_in f_in
   of_loops points (first ∷ rest) bent there (inr later) e f e_in f_in =
       let parts = and_parts (is_bent_loop first) (list_all is_bent_loop rest) bent in
-      let blocks = all_in_parts (λ g. Stands g (edges_of loops)) (edges_of_loop first) (edges_of rest)
-      there in
+      let blocks = all_in_parts (λ g. Stands g (edges_of loops)) (edges_of_loop first)
+      (edges_of rest) there in
       of_loops points rest parts.1 blocks.1 later e f e_in f_in
 
   -- the edges of a loop have one answer

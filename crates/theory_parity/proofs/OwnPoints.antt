@@ -12,8 +12,9 @@ use Rattle.theory_numbers.proofs.Arrows.{same_arrow, cross-turn, cross-self, cro
 use Rattle.theory_numbers.proofs.Arrows.{dot_comm, dot-add, dot-scale, cross-opposite, dot-opposite}
 use Rattle.theory_numbers.proofs.Shapes.{var, num, plus, minus, negated, times, equal}
 use Rattle.theory_numbers.proofs.Shapes.{cross_by, dot_by}
-use Rattle.theory_numbers.proofs.Signs.{less_from, test_at_most, above_or_not}
-use Rattle.theory_numbers.proofs.Products.{weak_factor, positive_product, weak_product, zero_of_positive}
+use Rattle.theory_numbers.proofs.Signs.{less_from, test_less, test_at_most, above_or_not}
+use Rattle.theory_numbers.proofs.Products.{weak_factor, positive_product, weak_product}
+use Rattle.theory_numbers.proofs.Products.{zero_of_positive}
 use Rattle.theory_numbers.proofs.Products.{positive_factor, negative_factor, weak_negative_factor}
 use Rattle.theory_numbers.proofs.Products.{weak_negative_product, negative_product}
 use Rattle.theory_numbers.proofs.Ring.{mul-zero, zero-mul, mul_comm}
@@ -180,12 +181,28 @@ module _ (e : Edge) (p : Spot) (long : IsLong e) (along : IsAlong e p) where
       let behind = along.a_behind in
       let ahead = along.b_ahead in
       let swap = mul_comm (dot (span_of e) to_a) (dot (span_of e) to_b) in
-      let product = weak_negative_product (dot (span_of e) to_b) (dot (span_of e) to_a) ahead behind in
+      let product = weak_negative_product (dot (span_of e) to_b) (dot (span_of e) to_a) ahead
+      behind in
       let whole = reach_product in
       and_from (int_eq (turn_at e p) (pos 0)) (int_le (reach_at e p) (pos 0))
       ((Decides-int_eq (turn_at e p) (pos 0)).1 level_along)
       (test_at_most (reach_at e p) (pos 0)
       (weak_negative_factor (dot (span_of e) (span_of e)) (reach_at e p) long (omega (arith, ints))))
+
+-- a point of its own lies strictly inside it
+pub within_from_own : (e : Edge) (p : Spot) → IsLong e → IsOwn e p → is_within p e ≡ true
+within_from_own e p long own =
+    let to_a = seen_from p e.a in
+    let to_b = seen_from p e.b in
+    let behind = own.past in
+    let ahead = own.before in
+    let swap = mul_comm (dot (span_of e) to_a) (dot (span_of e) to_b) in
+    let product = negative_product (dot (span_of e) to_b) (dot (span_of e) to_a) ahead behind in
+    let whole = reach_product e p long own.along in
+    and_from (int_eq (turn_at e p) (pos 0)) (int_lt (reach_at e p) (pos 0))
+    ((Decides-int_eq (turn_at e p) (pos 0)).1 (level_along e p long own.along))
+    (test_less (reach_at e p) (pos 0)
+    (negative_factor (dot (span_of e) (span_of e)) (reach_at e p) long (omega (arith, ints))))
 
 -- ---- points between two points of the edge
 

@@ -1,5 +1,5 @@
--- From a point strictly inside an edge, through which no other edge passes, all rays to the right of
--- the edge strike an odd number of edges or all an even one, and those to its left the opposite.
+-- From a point strictly inside an edge, through which no other edge passes, all rays to the right
+-- of the edge strike an odd number of edges or all an even one, and those to its left the opposite.
 
 use Rattle.std.proofs.Common.{◌≡◌, refl, sym, ap, ap₂, ◌∙◌, arith, pos, neg_ℤ, ◌<ℤ◌}
 use Rattle.std.proofs.Common.{◌*ℤ◌, Bool, true, false, not, ◌&&◌, int_lt, List}

@@ -1,5 +1,6 @@
--- At a bent corner where no other edge comes the points just right of the two edges have one answer:
--- the rays back along them, from their middles, strike an odd number of edges both or an even one.
+-- At a bent corner where no other edge comes the points just right of the two edges have one
+-- answer: the rays back along them, from their middles, strike an odd number of edges both or an
+-- even one.
 
 use Rattle.std.proofs.Common.{◌≡◌, refl, sym, ap, ap₂, ◌∙◌, ◌⊎◌, inl, inr, arith, ℤ, pos, neg_ℤ}
 use Rattle.std.proofs.Common.{◌<ℤ◌, ◌+ℤ◌, ◌-ℤ◌, ◌*ℤ◌, Bool, true, false, not, ◌&&◌, int_lt}

@@ -6,7 +6,7 @@ use Rattle.std.proofs.Common.{Bool, true, false, not, int_lt, List, [], ◌∷�
 use Rattle.std.proofs.Common.{reverse, subst, if◌then◌else◌, ◌↔◌}
 use Rattle.std.specs.List.{list_all, AllByRecursion}
 use Rattle.std.proofs.lemmas.Int.{ints}
-use Rattle.std.proofs.lemmas.Bool.{and_parts, false≢true}
+use Rattle.std.proofs.lemmas.Bool.{and_parts, and_from, false≢true}
 use Rattle.std.proofs.lemmas.List.{reverse-append, reverse-reverse}
 use Rattle.std.proofs.lemmas.List.Folds.{list_all-append}
 use Rattle.theory_lists.proofs.Passing.{all_pass}
@@ -17,7 +17,7 @@ use Rattle.theory_lists.proofs.Members.{all_stands, all_follow, all_both}
 use Rattle.theory_lists.proofs.Parity.{differ-false, differ_comm, is_odd_number-append}
 use Rattle.theory_numbers.specs.Arrows.{Arrow}
 use Rattle.theory_numbers.proofs.Arrows.{cross-turn}
-use Rattle.theory_numbers.proofs.Signs.{same_less}
+use Rattle.theory_numbers.proofs.Signs.{same_less, same_tests}
 use Rattle.theory_numbers.proofs.SignTables.{hit_of, hit_of-exchanged}
 use Rattle.theory_lists.proofs.Members.{all_that_stand}
 use Rattle.theory_lists.proofs.Blocks.{all_in_parts}
@@ -189,7 +189,7 @@ module _ (loops : List (List Point)) (are : AreBentApart loops) where
       (put_all loops (all_that_stand (λ l. Stands l loops) loops (λ l stands. stands)) are.bent
       (all_that_stand (λ e. Stands e (edges_of loops)) (edges_of loops) (λ e stands. stands))))
 
--- ---- loops that keep it on the left already
+-- ---- one edge a loop tells
 
 left_at_first : (edges : List Edge) (points : List Point)
     → list_all (λ e. is_solid_left_of e edges) (edges_of_loop points) ≡ true
@@ -200,23 +200,42 @@ left_at_first edges (a ∷ b ∷ points) all =
     (and_parts (is_solid_left_of (edge a b) edges)
     (list_all (λ e. is_solid_left_of e edges) (edges_back b points a)) all).0
 
-put_none : (edges : List Edge) (loops : List (List Point))
+put_none_where_left : (edges : List Edge) (loops : List (List Point))
+    → list_all (is_left_at_first edges) loops ≡ true → map (put_left edges) loops ≡ loops
+put_none_where_left edges [] all = refl
+put_none_where_left edges (points ∷ loops) all =
+    let parts = and_parts (is_left_at_first edges points) (list_all (is_left_at_first edges) loops)
+    all in
+    ap₂ (λ s t. s ∷ t) (ap (λ b. if b then points else turned_loop points) parts.0)
+    (put_none_where_left edges loops parts.1)
+
+firsts_left : (edges : List Edge) (loops : List (List Point))
     → list_all (λ e. is_solid_left_of e edges) (edges_of loops) ≡ true
-    → map (put_left edges) loops ≡ loops
-put_none edges [] all = refl
-put_none edges (points ∷ loops) all =
+    → list_all (is_left_at_first edges) loops ≡ true
+firsts_left edges [] all = refl
+firsts_left edges (points ∷ loops) all =
     let parts = and_parts (list_all (λ e. is_solid_left_of e edges) (edges_of_loop points))
     (list_all (λ e. is_solid_left_of e edges) (edges_of loops))
     (sym (list_all-append (λ e. is_solid_left_of e edges) (edges_of_loop points) (edges_of loops))
     ∙ all) in
-    ap₂ (λ s t. s ∷ t)
-    (ap (λ b. if b then points else turned_loop points) (left_at_first edges points parts.0))
-    (put_none edges loops parts.1)
+    and_from (is_left_at_first edges points) (list_all (is_left_at_first edges) loops)
+    (left_at_first edges points parts.0) (firsts_left edges loops parts.1)
 
--- they are left as they are
+-- loops that keep it on the left already are left as they are
 pub put_left_once : (loops : List (List Point)) → keep_left loops ≡ true
     → map (put_left (edges_of loops)) loops ≡ loops
-put_left_once loops left = put_none (edges_of loops) loops left
+put_left_once loops left =
+    put_none_where_left (edges_of loops) loops (firsts_left (edges_of loops) loops left)
+
+-- the loops keep the solid on the left exactly where the first edge of each has it there
+pub kept_by_first : (loops : List (List Point)) → AreBentApart loops
+    → keep_left loops ≡ list_all (is_left_at_first (edges_of loops)) loops
+kept_by_first loops are =
+    same_tests (keep_left loops) (list_all (is_left_at_first (edges_of loops)) loops)
+    (λ left. firsts_left (edges_of loops) loops left)
+    (λ all.
+    sym (ap keep_left (put_none_where_left (edges_of loops) loops all))
+    ∙ put_left_keeps_left loops are)
 
 -- ---- one loop turned round
 

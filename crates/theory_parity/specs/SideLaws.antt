@@ -1,9 +1,10 @@
 -- The laws of the solid on the left.
 
-use Rattle.std.specs.Prelude.{◌≡◌, ◌↔◌, true, false, not, IsTrue, List, ◌∷◌, ◌++◌, map}
+use Rattle.std.specs.Prelude.{◌≡◌, ◌↔◌, pos, true, false, not, IsTrue, List, ◌∷◌, ◌++◌, map}
+use Rattle.std.specs.List.{list_all}
 use Rattle.theory_lists.specs.Members.{Stands}
 use Rattle.theory_lists.specs.Parity.{is_odd_number}
-use Rattle.theory_numbers.specs.Arrows.{Arrow, dot}
+use Rattle.theory_numbers.specs.Arrows.{Arrow, cross, dot}
 use Rattle.theory_numbers.specs.Rationals.{IsRational}
 use Rattle.theory_numbers.specs.Tests.{is_positive}
 use Rattle.sb_fraction.specs.declared.point.Point.{Point}
@@ -15,9 +16,10 @@ use Rattle.theory_plans.specs.LoopEdges.{edges_of_loop, edges_of}
 use Rattle.theory_plans.specs.Inside.{is_in_plan}
 use Rattle.theory_plans.specs.Loops.{are_loops}
 use Rattle.theory_plans.specs.Plans.{is_plan, are_apart, is_solid_left_of, keep_left}
+use Rattle.theory_plans.specs.Rays.{is_struck}
 use Rattle.theory_parity.specs.Below.{IsWay, value_of, is_lower_at}
-use Rattle.theory_parity.specs.Sides.{AreBentApart, turned_edge, turned_loop, put_left}
-use Rattle.theory_parity.specs.Sides.{IsFreeTo, IsClosenessAt}
+use Rattle.theory_parity.specs.Sides.{AreBentApart, turned_edge, turned_loop, is_left_at_first}
+use Rattle.theory_parity.specs.Sides.{put_left, IsFreeTo, IsClosenessAt}
 
 -- ---- one answer a loop
 
@@ -51,6 +53,12 @@ HasTurnedAnswer =
     → (e : Edge) → Stands e (edges_of_loop points)
     → is_solid_left_of (turned_edge e) (edges_of (before ++ turned_loop points ∷ after))
     ≡ not (is_solid_left_of e (edges_of (before ++ points ∷ after)))
+
+-- so one edge a loop tells whether all keep it on the left
+abbrev pub HasOneEdgeALoop : Type 0
+HasOneEdgeALoop =
+    (loops : List (List Point)) → AreBentApart loops
+    → keep_left loops ≡ list_all (is_left_at_first (edges_of loops)) loops
 
 -- loops of which each is turned round where its first edge does not have the solid on its left keep
 -- it on the left
@@ -91,6 +99,16 @@ HasInsideWhereLeft =
     → (m : Spot) → IsSpot m → is_within m e ≡ true
     → (p : Spot) → IsSpot p → IsFreeTo loops p m
     → is_in_plan loops p ≡ is_positive (turn_at e p)
+
+-- from such a point a ray that leaves the edge to its right strikes an even number of edges, and one
+-- that leaves it to its left an odd number
+abbrev pub HasEvenToTheRight : Type 0
+HasEvenToTheRight =
+    (loops : List (List Point)) → IsTrue (is_plan loops)
+    → (e : Edge) → Stands e (edges_of loops)
+    → (m : Spot) → IsSpot m → is_within m e ≡ true
+    → (r : Arrow) → (cross (span_of e) r ≡ pos 0 → ⊥)
+    → is_odd_number (is_struck r m) (edges_of loops) ≡ is_positive (cross (span_of e) r)
 
 -- ---- along a direction
 

@@ -14,8 +14,8 @@ use Rattle.theory_plans.specs.Loops.{is_bent_loop}
 use Rattle.theory_plans.specs.Plans.{are_apart, is_solid_left_of}
 use Rattle.theory_parity.specs.Halves.{on_way}
 
--- the loops are bent, and their edges apart: they are a plan but for their range, their first points
--- and the side of the solid
+-- the loops are bent, and their edges apart: they are a plan but for their number, their range,
+-- their first points and the side of the solid
 pub record AreBentApart (loops : List (List Point)) : Type 0 where
   pub bent : list_all is_bent_loop loops ≡ true
   pub apart : are_apart loops ≡ true

@@ -1,7 +1,7 @@
 -- The laws are their lemmas.
 use Rattle.theory_parity.proofs.OneSideALoop.{one_side_a_loop}
 use Rattle.theory_parity.proofs.TurnedIsPlan.{put_left_is_plan}
-use Rattle.theory_parity.proofs.TurnedLoops.{edges_of_turned, others_as_before, turned_among}
+use Rattle.theory_parity.proofs.TurnedLoops.{kept_by_first, edges_of_turned, others_as_before, turned_among}
 use Rattle.theory_parity.proofs.TurnedLoops.{put_left_keeps_left, put_left_once}
 use Rattle.theory_parity.proofs.sides.one_side_a_loop.Goals as goal
 
@@ -22,6 +22,10 @@ returns-clause-others g before points after e = others_as_before before points a
 pub returns-clause-turned : goal.returns-clause-turned
 returns-clause-turned g before points after are e stands =
     turned_among before points after are e stands
+
+-- one edge a loop
+pub returns-clause-one_edge : goal.returns-clause-one_edge
+returns-clause-one_edge g loops are = kept_by_first loops are
 
 -- put on the left
 pub returns-clause-put_left : goal.returns-clause-put_left
