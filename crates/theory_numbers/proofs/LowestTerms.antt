@@ -99,11 +99,11 @@ moved_is_reduced x num den is = record {
     one-dvd _,
     one-dvd _,
     λ g of_sum of_den.
-    is.no_divisor.2 g
-    (subst (λ z. g ∣ unsigned_abs z) back
-    (divides_sum g (num +ℤ (x *ℤ den)) (neg_ℤ x *ℤ den) of_sum
-    (divides_multiple g (neg_ℤ x) den of_den)))
-    of_den,
+        is.no_divisor.2 g
+        (subst (λ z. g ∣ unsigned_abs z) back
+        (divides_sum g (num +ℤ (x *ℤ den)) (neg_ℤ x *ℤ den) of_sum
+        (divides_multiple g (neg_ℤ x) den of_den)))
+        of_den,
   );
 }
   where
