@@ -23,3 +23,5 @@ pub mod ItemsReversed
 pub mod ReadBack
 -- worked walks
 mod Examples
+-- passages from a column
+pub mod Stretched
