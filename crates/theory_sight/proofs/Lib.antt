@@ -25,3 +25,4 @@ pub mod ReadBack
 mod Examples
 -- passages from a column
 pub mod Stretched
+pub mod LayersAlongARay

@@ -50,7 +50,7 @@ module _ (d e c : ℤ) (d_in : pos 0 <ℤ d) (c_in : pos 0 <ℤ c) where
       (var v.y))
       (num 0) (omega arith)
 
-  taken_is : (v : Arrow) → IsRational v → IsFraction (taken_from d e c v)
+  pub taken_is : (v : Arrow) → IsRational v → IsFraction (taken_from d e c v)
   taken_is v v_in =
       fraction_is_reduced ((d *ℤ v.y) -ℤ (e *ℤ v.x)) (c *ℤ v.x) (positive_product c v.x c_in v_in)
 
@@ -89,7 +89,7 @@ module _ (d e c : ℤ) (d_in : pos 0 <ℤ d) (c_in : pos 0 <ℤ c) where
       (omega (arith, ints)) (omega (arith, ints))
 
   -- and back
-  from_above : (v u : Arrow) → IsRational v → IsRational u → IsBelow v (stretched d e c u)
+  pub from_above : (v u : Arrow) → IsRational v → IsRational u → IsBelow v (stretched d e c u)
       → IsBelow (taken_from d e c v) u
   from_above v u v_in u_in above =
       let same = taken_back v v_in in
@@ -113,7 +113,7 @@ module _ (d e c : ℤ) (d_in : pos 0 <ℤ d) (c_in : pos 0 <ℤ c) where
       (stretched_in u u_in) (stretched_in (taken_from d e c v) ((taken_is v v_in).positive)) v_in
       (omega (arith, ints)) (omega (arith, ints))
 
-  from_below : (v u : Arrow) → IsRational v → IsRational u → IsBelow (stretched d e c u) v
+  pub from_below : (v u : Arrow) → IsRational v → IsRational u → IsBelow (stretched d e c u) v
       → IsBelow u (taken_from d e c v)
   from_below v u v_in u_in below =
       let same = taken_back v v_in in
