@@ -87,6 +87,16 @@ reading_is r a u = ap₂ arrow den num_is
         read_along r.start r.normal a (u.x *ℤ inner r.normal r.normal) (u.y *ℤ r.start.w)
         ∙ gather (times_w r.start a) (inner r.normal r.normal) u.x (inner r.normal a) u.y r.start.w
 
+-- the map turned about, of a number turned about
+pub turned_map : (d e c : ℤ) (u : Arrow)
+    → stretched d e (neg_ℤ c) (mirror u) ≡ stretched d e c u
+turned_map d e c u = ap (arrow (d *ℤ u.x)) (same d e c u.x u.y)
+  where
+    same : (d e c x y : ℤ) → (e *ℤ x) +ℤ (neg_ℤ c *ℤ neg_ℤ y) ≡ (e *ℤ x) +ℤ (c *ℤ y)
+    same d e c x y =
+        equal (plus (times (var e) (var x)) (times (negated (var c)) (negated (var y))))
+        (plus (times (var e) (var x)) (times (var c) (var y))) (omega arith)
+
 -- ---- a part of the ray within the extent
 
 -- a function has a reduced cutting between these ends
@@ -214,15 +224,6 @@ module _ (r : Ray) (start_in : IsSpot r.start) (some : pos 0 <ℤ inner r.normal
           (taken_is (den_along r) (start_along r a) (slope_along r a) den_in slope (high_end_of s a)
           (omega (arith, ints))).positive
 
-  turned_map : (d e c : ℤ) (u : Arrow)
-      → stretched d e (neg_ℤ c) (mirror u) ≡ stretched d e c u
-  turned_map d e c u = ap (arrow (d *ℤ u.x)) (same d e c u.x u.y)
-    where
-      same : (d e c x y : ℤ) → (e *ℤ x) +ℤ (neg_ℤ c *ℤ neg_ℤ y) ≡ (e *ℤ x) +ℤ (c *ℤ y)
-      same d e c x y =
-          equal (plus (times (var e) (var x)) (times (negated (var c)) (negated (var y))))
-          (plus (times (var e) (var x)) (times (var c) (var y))) (omega arith)
-
   -- where it falls
   falling_cut : slope_along r a <ℤ pos 0 → (from to : Arrow) → IsRational from → IsRational to
       → IsBelow from to → IsWithin from to → CanBeCut layer_there from (Some to)
@@ -289,7 +290,7 @@ module _ (r : Ray) (start_in : IsSpot r.start) (some : pos 0 <ℤ inner r.normal
           (omega (arith, ints))).positive
 
   -- where it stays there is one layer
-  level_cut : slope_along r a ≡ pos 0 → (from : Arrow) (high : Option Arrow) → IsOpen (Some from) high
+  pub level_cut : slope_along r a ≡ pos 0 → (from : Arrow) (high : Option Arrow) → IsOpen (Some from) high
       → CanBeCut layer_there from high
   level_cut slope from high some_part = (
     record { first = layer_along s (l ∷ ls) a (arrow (den_along r) (start_along r a)); rest = [] },

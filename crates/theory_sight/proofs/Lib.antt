@@ -26,3 +26,4 @@ mod Examples
 -- passages from a column
 pub mod Stretched
 pub mod LayersAlongARay
+pub mod PassagesFromColumn

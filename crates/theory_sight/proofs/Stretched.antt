@@ -75,7 +75,7 @@ module _ (d e c : ℤ) (d_in : pos 0 <ℤ d) (c_in : pos 0 <ℤ c) where
           times_zero k = equal (times (var k) (num 0)) (num 0) (omega arith)
 
   -- above the number that is taken to v the map lies above v
-  above_from : (v u : Arrow) → IsRational v → IsRational u → IsBelow (taken_from d e c v) u
+  pub above_from : (v u : Arrow) → IsRational v → IsRational u → IsBelow (taken_from d e c v) u
       → IsBelow v (stretched d e c u)
   above_from v u v_in u_in above =
       let grown =
@@ -101,7 +101,7 @@ module _ (d e c : ℤ) (d_in : pos 0 <ℤ d) (c_in : pos 0 <ℤ c) where
       let is = cross-stretched d e c (taken_from d e c v) u in
       positive_factor (d *ℤ c) (cross (taken_from d e c v) u) slope_in (omega (arith, ints))
 
-  below_from : (v u : Arrow) → IsRational v → IsRational u → IsBelow u (taken_from d e c v)
+  pub below_from : (v u : Arrow) → IsRational v → IsRational u → IsBelow u (taken_from d e c v)
       → IsBelow (stretched d e c u) v
   below_from v u v_in u_in below =
       let grown =
