@@ -1,7 +1,7 @@
 -- A ray with a coarse column has passages: each piece of the column is cut by the bands of its element,
 -- and the pieces are read through.
 use Rattle.std.proofs.Common.{◌≡◌, ◌⊎◌, inl, inr, refl, sym, ap, ◌∙◌, arith, subst, subst₂, ℕ, ℤ, pos}
-use Rattle.std.proofs.Common.{neg_ℤ, ◌*ℤ◌, ◌<ℤ◌, Bool, true, false, IsTrue, List, [], ◌∷◌, Option, Some, None}
+use Rattle.std.proofs.Common.{neg_ℤ, ◌*ℤ◌, ◌<ℤ◌, Bool, true, false, ◌||◌, IsTrue, List, [], ◌∷◌, Option, Some, None}
 use Rattle.std.proofs.lemmas.Int.{ints}
 use Rattle.std.proofs.lemmas.Bool.{false≢true, and_parts}
 use Rattle.theory_lists.specs.Members.{Stands}
@@ -36,7 +36,8 @@ use Rattle.sb_model.specs.Passages.{Ray, at_depth, ArePassages}
 use Rattle.sb_model.specs.Labels.{axis_vector, low_along, high_along, label_at, layer_at}
 use Rattle.theory_sight.specs.Coarse.{coarse}
 use Rattle.theory_sight.proofs.BandsOfPrisms.{low_end_of, high_end_of}
-use Rattle.theory_sight.proofs.CrossingItems.{label_along}
+use Rattle.theory_models.proofs.RaysAlike.{along_is_spot}
+use Rattle.theory_sight.proofs.CrossingItems.{label_along, axis_is_some, element_layering}
 use Rattle.theory_sight.proofs.ElementAt.{IsElementAt, element_is_at, coarse_element}
 use Rattle.theory_sight.proofs.LayersAlongARay.{CanBeCut, layers_can_be_cut, level_cut, slope_along}
 use Rattle.theory_sight.proofs.LayersAlongARay.{den_along, start_along, reading_is, turned_map}
@@ -221,3 +222,168 @@ module _ (r : Ray) (start_in : IsSpot r.start) (some : pos 0 <ℤ inner r.normal
           (at_most_from_below (read_at u) low_end
           (subst (λ v. IsBelow v low_end)
           (turned_map (den_along r) (start_along r a) (slope_along r a) u) falls))
+
+-- ---- labels with one coarse label
+
+only_space : (n : ℕ) (l : Label) → coarse l ≡ label.Space n → l ≡ label.Space n
+only_space n (label.Space k) same = same
+only_space n (label.Element k layer) same = absurd (clash same)
+  where
+    clash : label.Element k 0 ≡ label.Space n → ⊥
+    clash same = cc
+only_space n label.Earth same = same
+only_space n label.Void same = same
+
+only_earth : (l : Label) → coarse l ≡ label.Earth → l ≡ label.Earth
+only_earth (label.Space k) same = same
+only_earth (label.Element k layer) same = absurd (clash same)
+  where
+    clash : label.Element k 0 ≡ label.Earth → ⊥
+    clash same = cc
+only_earth label.Earth same = same
+only_earth label.Void same = same
+
+only_void : (l : Label) → coarse l ≡ label.Void → l ≡ label.Void
+only_void (label.Space k) same = same
+only_void (label.Element k layer) same = absurd (clash same)
+  where
+    clash : label.Element k 0 ≡ label.Void → ⊥
+    clash same = cc
+only_void label.Earth same = same
+only_void label.Void same = same
+
+-- ---- a piece of the column
+
+module _ (m : Building) (r : Ray) (lies : LiesInExtents m r) (low : Arrow) (low_in : IsRational low) where
+  -- what is known of a piece of a layered element
+  pub record IsLayeredPiece (high : Option Arrow) (k : ℕ) (e : Element) (l : Layer) (ls : List Layer)
+      (axis : Axis) : Type 0 where
+    pub layering_is : e.layering ≡ Layered (l ∷ ls) axis
+    pub right : are_layers 0 (l ∷ ls) ≡ true
+    pub wide : low_along e.prism (axis_vector axis) <ℤ high_along e.prism (axis_vector axis)
+    pub within : (u : Arrow) → IsRational u → IsBelow low u → IsBefore u high
+        → IsBelow (low_end_of e.prism (axis_vector axis))
+        (stretched (den_along r) (start_along r (axis_vector axis)) (slope_along r (axis_vector axis)) u)
+        × IsBelow
+        (stretched (den_along r) (start_along r (axis_vector axis)) (slope_along r (axis_vector axis)) u)
+        (high_end_of e.prism (axis_vector axis))
+
+  -- its layers can be cut
+  layered_piece : (high : Option Arrow) → IsEnd high → IsOpen (Some low) high → (k : ℕ) (e : Element)
+      (l : Layer) (ls : List Layer) (axis : Axis) → IsLayeredPiece high k e l ls axis
+      → CanBeCut (λ u. layer_at e.prism (Layered (l ∷ ls) axis) (at_depth r u)) low high
+  layered_piece (Some to) high_in wide k e l ls axis is =
+      layers_can_be_cut r lies.start lies.some e.prism l ls axis is.right is.wide low to low_in high_in
+      wide is.within
+  layered_piece None high_in wide k e l ls axis is = by (sign_cases (slope_along r (axis_vector axis)))
+    where
+      by : ((pos 0 <ℤ slope_along r (axis_vector axis)) ⊎ (slope_along r (axis_vector axis) ≡ pos 0))
+          ⊎ (slope_along r (axis_vector axis) <ℤ pos 0)
+          → CanBeCut (λ u. layer_at e.prism (Layered (l ∷ ls) axis) (at_depth r u)) low None
+      by (inl (inl up)) =
+          absurd
+          (leaves_up r lies.start lies.some (axis_vector axis) (low_end_of e.prism (axis_vector axis))
+          (high_end_of e.prism (axis_vector axis)) low (omega (arith, ints)) (omega (arith, ints)) low_in
+          up (λ u u_in after. (is.within u u_in after tt).1))
+      by (inl (inr none)) =
+          level_cut r lies.start lies.some e.prism l ls axis is.right is.wide none low None wide
+      by (inr down) =
+          absurd
+          (leaves_down r lies.start lies.some (axis_vector axis)
+          (low_end_of e.prism (axis_vector axis)) (high_end_of e.prism (axis_vector axis)) low
+          (omega (arith, ints)) (omega (arith, ints)) low_in down
+          (λ u u_in after. (is.within u u_in after tt).0))
+
+  -- a piece of an element can be cut
+  element_piece : (high : Option Arrow) (high_in : IsEnd high) (wide : IsOpen (Some low) high) (k first : ℕ)
+      (v : Arrow) → IsRational v → IsBelow low v → IsBefore v high
+      → (at : IsElementAt m (at_depth r v) k first)
+      → HasLabel (λ u. coarse (label_along m r u)) (Some low) high (label.Element k 0)
+      → (layering : Layering) → at.element.layering ≡ layering
+      → CanBeCut (label_along m r) low high
+  element_piece high high_in wide k first v v_in after_v before_v at has Plain same =
+      one_label (label_along m r) low high (label.Element k 0) wide
+      (λ u u_in after before.
+      (element_there m r lies low high low_in high_in wide k first v at has u u_in after before).0
+      ∙ ap (λ layering. label.Element k (layer_at at.element.prism layering (at_depth r u))) same)
+  element_piece high high_in wide k first v v_in after_v before_v at has (Single material) same =
+      one_label (label_along m r) low high (label.Element k 0) wide
+      (λ u u_in after before.
+      (element_there m r lies low high low_in high_in wide k first v at has u u_in after before).0
+      ∙ ap (λ layering. label.Element k (layer_at at.element.prism layering (at_depth r u))) same)
+  element_piece high high_in wide k first v v_in after_v before_v at has (Layered [] axis) same =
+      absurd
+      (false≢true
+      (ap is_layering (sym same) ∙ element_layering m lies.model at.element at.stands))
+  element_piece high high_in wide k first v v_in after_v before_v at has (Layered (l ∷ ls) axis) same =
+      labels_cut m r lies low high low_in high_in wide k
+      (λ u. layer_at at.element.prism (Layered (l ∷ ls) axis) (at_depth r u))
+      (λ u u_in after before.
+      sym
+      ((element_there m r lies low high low_in high_in wide k first v at has u u_in after before).0
+      ∙ ap (λ layering. label.Element k (layer_at at.element.prism layering (at_depth r u))) same))
+      (layered_piece high high_in wide k at.element l ls axis
+      (record {
+        layering_is = same;
+        right = layers_right;
+        wide = whole_rise (low_along at.element.prism (axis_vector axis))
+            (high_along at.element.prism (axis_vector axis)) (reading (at_depth r v) (axis_vector axis))
+            (along_is_spot r.start r.normal v lies.start lies.some v_in) there.0 there.1;
+        within =
+            λ u u_in after before.
+            subst
+            (λ p.
+            IsBelow (low_end_of at.element.prism (axis_vector axis)) p
+            × IsBelow p (high_end_of at.element.prism (axis_vector axis)))
+            (reading_is r (axis_vector axis) u)
+            (lies.within at.element at.stands (axis_vector axis) axis_in u u_in
+            ((element_there m r lies low high low_in high_in wide k first v at has u u_in after
+            before).1));
+      }))
+    where
+      right : is_layering (Layered (l ∷ ls) axis) ≡ true
+      right = ap is_layering (sym same) ∙ element_layering m lies.model at.element at.stands
+
+      layers_right : are_layers 0 (l ∷ ls) ≡ true
+      layers_right =
+          (and_parts _ (are_layers 0 (l ∷ ls))
+          (and_parts _ (is_level_axis axis || is_upright_axis axis) right).0).1
+
+      axis_in : pos 0 <ℤ inner (axis_vector axis) (axis_vector axis)
+      axis_in =
+          some_square (axis_vector axis)
+          (axis_is_some axis (and_parts _ (is_level_axis axis || is_upright_axis axis) right).1)
+
+      there : IsBelow (low_end_of at.element.prism (axis_vector axis))
+          (reading (at_depth r v) (axis_vector axis))
+          × IsBelow (reading (at_depth r v) (axis_vector axis))
+          (high_end_of at.element.prism (axis_vector axis))
+      there = lies.within at.element at.stands (axis_vector axis) axis_in v v_in at.inside
+
+  -- each piece can
+  piece_can_be_cut : (high : Option Arrow) → IsEnd high → IsOpen (Some low) high → (c : Label)
+      → HasLabel (λ u. coarse (label_along m r u)) (Some low) high c
+      → CanBeCut (label_along m r) low high
+  piece_can_be_cut high high_in wide c has = by (number_between (Some low) high low_in high_in wide)
+    where
+      alone : (l : Label) → ((k : Label) → coarse k ≡ l → k ≡ l) → c ≡ l
+          → CanBeCut (label_along m r) low high
+      alone l only same =
+          one_label (label_along m r) low high l wide
+          (λ u u_in after before. only (label_along m r u) (has u u_in after before ∙ same))
+
+      by : (v : Arrow) × IsBetween (Some low) high v → CanBeCut (label_along m r) low high
+      by (v, is) = of (label_along m r v) refl
+        where
+          c_is : (l : Label) → label_along m r v ≡ l → c ≡ coarse l
+          c_is l same = sym (has v is.rational is.after is.before) ∙ ap coarse same
+
+          of : (l : Label) → label_along m r v ≡ l → CanBeCut (label_along m r) low high
+          of (label.Space n) same = alone (label.Space n) (only_space n) (c_is (label.Space n) same)
+          of label.Earth same = alone label.Earth only_earth (c_is label.Earth same)
+          of label.Void same = alone label.Void only_void (c_is label.Void same)
+          of (label.Element k first) same =
+              let at = element_is_at m lies.model (at_depth r v) k first same in
+              element_piece high high_in wide k first v is.rational is.after is.before at
+              (λ u u_in after before. has u u_in after before ∙ c_is (label.Element k first) same)
+              at.element.layering refl
