@@ -1,30 +1,30 @@
 -- The layer of an element along a ray of any normal: its bands, seen through the reading along the axis,
 -- cut each part of the ray that lies within the element's extent along it.
-use Rattle.std.proofs.Common.{◌≡◌, ◌⊎◌, inl, inr, refl, sym, ap, ap₂, ◌∙◌, arith, subst, subst₂, ℕ, ℤ, pos}
-use Rattle.std.proofs.Common.{neg_ℤ, ◌+ℤ◌, ◌*ℤ◌, ◌<ℤ◌, ◌≤ℤ◌, Bool, true, false, IsTrue, List, [], ◌∷◌}
-use Rattle.std.proofs.Common.{Option, Some, None}
+use Rattle.std.proofs.Common.{◌≡◌, ◌⊎◌, inl, inr, sym, ap, ap₂, ◌∙◌, arith, subst, ℕ, ℤ, pos}
+use Rattle.std.proofs.Common.{neg_ℤ, ◌+ℤ◌, ◌*ℤ◌, ◌<ℤ◌, true, List, [], ◌∷◌}
+use Rattle.std.proofs.Common.{Option, Some}
 use Rattle.std.proofs.lemmas.Int.{ints}
 use Rattle.theory_numbers.specs.Arrows.{Arrow, arrow, mirror, scale}
-use Rattle.theory_numbers.specs.Rationals.{IsRational, IsBelow, IsAtMost, rational}
+use Rattle.theory_numbers.specs.Rationals.{IsRational, IsBelow, IsAtMost}
 use Rattle.theory_numbers.proofs.Shapes.{var, num, plus, times, negated, equal}
 use Rattle.theory_numbers.proofs.Signs.{sign_cases}
 use Rattle.theory_numbers.proofs.Products.{positive_product}
 use Rattle.theory_numbers.proofs.Ring.{mul_comm}
 use Rattle.theory_numbers.proofs.Arrows.{cross-mirror_comm, mirror-cross}
 use Rattle.theory_numbers.proofs.Rationals.{below_or_not, below_clash, at_most_from_below}
-use Rattle.theory_cuttings.specs.Ends.{IsEnd, IsOpen, IsAfter, IsBefore, mirror_end}
-use Rattle.theory_cuttings.specs.Cuttings.{Break, IsCutting, IsReducedCutting, HasLabel}
+use Rattle.theory_cuttings.specs.Ends.{IsOpen}
+use Rattle.theory_cuttings.specs.Cuttings.{Break, IsReducedCutting}
 use Rattle.theory_cuttings.specs.Changes.{Fine, label_after, breaks_before, breaks_after}
 use Rattle.theory_cuttings.specs.Changes.{last_label, flip_onto}
 use Rattle.theory_cuttings.proofs.Ends.{IsBetween, below_two_ends}
 use Rattle.theory_cuttings.proofs.Backwards.{flip_is_reduced}
 use Rattle.theory_cuttings.proofs.Parts.{cut_off_is_reduced}
 use Rattle.theory_cuttings.proofs.CutTwice.{above_two_ends}
-use Rattle.sb_fraction.specs.Spots.{Spot, IsSpot, Vector, inner, reading, times_w, along}
+use Rattle.sb_fraction.specs.Spots.{Spot, IsSpot, Vector, inner, reading, times_w}
 use Rattle.sb_model.specs.declared.layers.Axis.{Axis}
 use Rattle.sb_model.specs.declared.layers.Layer.{Layer}
 use Rattle.sb_model.specs.declared.layers.Layering.TheVariants.{Layered}
-use Rattle.sb_model.specs.Solids.{Upright, is_in_solid}
+use Rattle.sb_model.specs.Solids.{Upright}
 use Rattle.sb_model.specs.Building.{are_layers}
 use Rattle.sb_model.specs.Passages.{Ray, at_depth}
 use Rattle.sb_model.specs.Labels.{axis_vector, low_along, high_along, layer_at}
@@ -40,9 +40,11 @@ use Rattle.theory_sight.specs.Bands.{bands_up}
 abbrev pub den_along : Ray → ℤ
 den_along r = r.start.w *ℤ inner r.normal r.normal
 
+-- the reading of its start, so many times
 abbrev pub start_along : Ray → Vector → ℤ
 start_along r a = times_w r.start a *ℤ inner r.normal r.normal
 
+-- how fast the reading grows
 abbrev pub slope_along : Ray → Vector → ℤ
 slope_along r a = inner r.normal a *ℤ r.start.w
 

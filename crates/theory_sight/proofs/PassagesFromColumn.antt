@@ -1,7 +1,7 @@
 -- A ray with a coarse column has passages: each piece of the column is cut by the bands of its element,
 -- and the pieces are read through.
-use Rattle.std.proofs.Common.{◌≡◌, ◌⊎◌, inl, inr, refl, sym, ap, ◌∙◌, arith, subst, subst₂, ℕ, ℤ, pos}
-use Rattle.std.proofs.Common.{neg_ℤ, ◌*ℤ◌, ◌<ℤ◌, Bool, true, false, ◌||◌, IsTrue, List, [], ◌∷◌, Option, Some, None}
+use Rattle.std.proofs.Common.{◌≡◌, ◌⊎◌, inl, inr, refl, sym, ap, ap₂, ◌∙◌, arith, subst, subst₂, ℕ, ℤ, pos}
+use Rattle.std.proofs.Common.{neg_ℤ, ◌<ℤ◌, true, ◌||◌, IsTrue, List, [], ◌∷◌, Option, Some, None}
 use Rattle.std.proofs.lemmas.Int.{ints}
 use Rattle.std.proofs.lemmas.Bool.{false≢true, and_parts}
 use Rattle.theory_lists.specs.Members.{Stands}
@@ -12,8 +12,8 @@ use Rattle.theory_numbers.proofs.Products.{positive_square, weak_square, positiv
 use Rattle.theory_numbers.proofs.Arrows.{mirror-cross}
 use Rattle.theory_numbers.proofs.Rationals.{below_or_not, below_clash, at_most_from_below}
 use Rattle.theory_numbers.proofs.Rationals.{at_most_below_trans, below_trans}
-use Rattle.theory_cuttings.specs.Ends.{IsEnd, IsOpen, IsAfter, IsBefore}
-use Rattle.theory_cuttings.specs.Cuttings.{Break, IsFraction, HasLabel, IsCutting, IsReducedCutting}
+use Rattle.theory_cuttings.specs.Ends.{IsEnd, IsOpen, IsBefore}
+use Rattle.theory_cuttings.specs.Cuttings.{Break, HasLabel, IsCutting, IsReducedCutting}
 use Rattle.theory_cuttings.specs.Cuttings.{AreDifferent}
 use Rattle.theory_cuttings.specs.Passages.{ray_start}
 use Rattle.theory_cuttings.specs.Changes.{break_at, Fine, refined, map_labels}
@@ -29,11 +29,11 @@ use Rattle.sb_model.specs.declared.layers.Layer.{Layer}
 use Rattle.sb_model.specs.declared.layers.Layering.{Layering}
 use Rattle.sb_model.specs.declared.layers.Layering.TheVariants.{Plain, Single, Layered}
 use Rattle.sb_model.specs.declared.products.Element.{Element}
-use Rattle.sb_model.specs.Solids.{Upright, is_in_solid}
+use Rattle.sb_model.specs.Solids.{is_in_solid}
 use Rattle.sb_model.specs.Building.{Building, is_building, is_layering, are_layers}
 use Rattle.sb_model.specs.Building.{is_level_axis, is_upright_axis}
 use Rattle.sb_model.specs.Passages.{Ray, at_depth, ArePassages}
-use Rattle.sb_model.specs.Labels.{axis_vector, low_along, high_along, label_at, layer_at}
+use Rattle.sb_model.specs.Labels.{axis_vector, low_along, high_along, layer_at}
 use Rattle.theory_sight.specs.Coarse.{coarse}
 use Rattle.theory_sight.proofs.BandsOfPrisms.{low_end_of, high_end_of}
 use Rattle.theory_models.proofs.RaysAlike.{along_is_spot}
@@ -210,7 +210,7 @@ module _ (r : Ray) (start_in : IsSpot r.start) (some : pos 0 <ℤ inner r.normal
           u)) → ⊥
       by (u, is) =
           let falls : IsBelow (stretched (den_along r) (start_along r a) (neg_ℤ (slope_along r a)) (mirror u))
-              low_end =
+          low_end =
           below_from (den_along r) (start_along r a) (neg_ℤ (slope_along r a)) den_in down low_end
           (mirror u) low_in is.0
           (rw
@@ -387,3 +387,74 @@ module _ (m : Building) (r : Ray) (lies : LiesInExtents m r) (low : Arrow) (low_
               element_piece high high_in wide k first v is.rational is.after is.before at
               (λ u u_in after before. has u u_in after before ∙ c_is (label.Element k first) same)
               at.element.layering refl
+
+-- ---- all pieces
+
+-- the pieces of a coarse cutting, each cut itself, with the coarse labels and breaks of that cutting
+pub record IsCutThrough (m : Building) (r : Ray) (low : Arrow) (c : Label) (cs : List (Break Label))
+    : Type 0 where
+  pub piece : Fine Label
+  pub rest : List (Break (Fine Label))
+  pub cut : AreCut (label_along m r) (Some low) None piece rest
+  pub first_is : coarse piece.first ≡ c
+  pub breaks_are : coarse_breaks coarse rest ≡ cs
+
+-- a piece's first label has the coarse label of the piece
+first_coarse : (m : Building) (r : Ray) (low : Arrow) (high : Option Arrow) → IsRational low → IsEnd high
+    → (c : Label) → HasLabel (λ u. coarse (label_along m r u)) (Some low) high c → (first : Label)
+    (bs : List (Break Label)) → IsCutting (label_along m r) (Some low) high first bs
+    → coarse first ≡ c
+first_coarse m r low high low_in high_in c has first bs cut =
+    (labels_have (label_along m r) (λ l. coarse l ≡ c) high high_in (Some low) low_in has first bs cut).0
+
+module _ (m : Building) (r : Ray) (lies : LiesInExtents m r) where
+  cut_through : (low : Arrow) → IsRational low → (c : Label) (cs : List (Break Label))
+      → IsCutting (λ u. coarse (label_along m r u)) (Some low) None c cs → IsCutThrough m r low c cs
+  cut_through low low_in c [] cut = by (piece_can_be_cut m r lies low low_in None tt cut.0 c cut.1)
+    where
+      by : CanBeCut (label_along m r) low None → IsCutThrough m r low c []
+      by (fine, is) = record {
+        piece = fine;
+        rest = [];
+        cut = is;
+        first_is = first_coarse m r low None low_in tt c cut.1 fine.first fine.rest is.cutting;
+        breaks_are = refl;
+      }
+  cut_through low low_in c (d ∷ ds) cut =
+      by
+      (piece_can_be_cut m r lies low low_in (Some d.start) cut.0.positive cut.1 c cut.2)
+      (cut_through d.start cut.0.positive d.label ds cut.3)
+    where
+      by : CanBeCut (label_along m r) low (Some d.start) → IsCutThrough m r d.start d.label ds
+          → IsCutThrough m r low c (d ∷ ds)
+      by (fine, is) later = record {
+        piece = fine;
+        rest = break_at d.start later.piece ∷ later.rest;
+        cut = (cut.0, is, later.cut);
+        first_is =
+            first_coarse m r low (Some d.start) low_in cut.0.positive c cut.2 fine.first fine.rest
+            is.cutting;
+        breaks_are =
+            ap₂ (λ b bs. b ∷ bs) (ap (break_at d.start) later.first_is) later.breaks_are;
+      }
+
+  -- a ray with a coarse column has passages
+  pub passages_from_column : (c : Label) (cs : List (Break Label))
+      → IsReducedCutting (λ u. coarse (label_along m r u)) (Some ray_start) None c cs
+      → (breaks : List (Break Label)) × ArePassages m r breaks
+  passages_from_column c cs column =
+      by (cut_through ray_start (omega (arith, ints)) c cs column.cutting)
+    where
+      by : IsCutThrough m r ray_start c cs → (breaks : List (Break Label)) × ArePassages m r breaks
+      by t = (
+        break_at ray_start t.piece.first ∷ refined t.piece.rest t.rest,
+        (
+          refl,
+          refined_is_reduced (label_along m r) coarse None tt (Some ray_start) t.piece t.rest
+              (omega (arith, ints)) t.cut
+              (subst₂
+              (λ k ks. IsCutting (λ u. coarse (label_along m r u)) (Some ray_start) None k ks)
+              (sym t.first_is) (sym t.breaks_are) column.cutting)
+              (subst₂ AreDifferent (sym t.first_is) (sym t.breaks_are) column.different),
+        ),
+      )

@@ -1,10 +1,10 @@
 -- A cutting seen through an increasing linear map of positions: the breaks lie where the map takes them
 -- from, and stay reduced fractions.
-use Rattle.std.proofs.Common.{◌≡◌, refl, sym, ap, ap₂, ◌∙◌, arith, subst, ℤ, pos, neg_ℤ, ◌+ℤ◌, ◌-ℤ◌, ◌*ℤ◌}
-use Rattle.std.proofs.Common.{◌<ℤ◌, Option, Some, List, [], ◌∷◌, map}
+use Rattle.std.proofs.Common.{◌≡◌, ap, ◌∙◌, arith, ℤ, pos, ◌+ℤ◌, ◌-ℤ◌, ◌*ℤ◌}
+use Rattle.std.proofs.Common.{◌<ℤ◌, Some, List, [], ◌∷◌, map}
 use Rattle.std.proofs.lemmas.Int.{ints}
 use Rattle.theory_numbers.specs.Arrows.{Arrow, arrow, cross}
-use Rattle.theory_numbers.specs.Rationals.{IsRational, IsBelow, IsSame, rational}
+use Rattle.theory_numbers.specs.Rationals.{IsRational, IsBelow, IsSame}
 use Rattle.theory_numbers.proofs.Shapes.{var, num, plus, minus, times, equal, cross_by, cross_is}
 use Rattle.theory_numbers.proofs.Arrows.{cross-turn}
 use Rattle.theory_numbers.proofs.Products.{positive_product, positive_factor}
@@ -50,6 +50,7 @@ module _ (d e c : ℤ) (d_in : pos 0 <ℤ d) (c_in : pos 0 <ℤ c) where
       (var v.y))
       (num 0) (omega arith)
 
+  -- it is a reduced fraction
   pub taken_is : (v : Arrow) → IsRational v → IsFraction (taken_from d e c v)
   taken_is v v_in =
       fraction_is_reduced ((d *ℤ v.y) -ℤ (e *ℤ v.x)) (c *ℤ v.x) (positive_product c v.x c_in v_in)
@@ -101,6 +102,7 @@ module _ (d e c : ℤ) (d_in : pos 0 <ℤ d) (c_in : pos 0 <ℤ c) where
       let is = cross-stretched d e c (taken_from d e c v) u in
       positive_factor (d *ℤ c) (cross (taken_from d e c v) u) slope_in (omega (arith, ints))
 
+  -- below it the map lies below v
   pub below_from : (v u : Arrow) → IsRational v → IsRational u → IsBelow u (taken_from d e c v)
       → IsBelow (stretched d e c u) v
   below_from v u v_in u_in below =
@@ -113,6 +115,7 @@ module _ (d e c : ℤ) (d_in : pos 0 <ℤ d) (c_in : pos 0 <ℤ c) where
       (stretched_in u u_in) (stretched_in (taken_from d e c v) ((taken_is v v_in).positive)) v_in
       (omega (arith, ints)) (omega (arith, ints))
 
+  -- and back
   pub from_below : (v u : Arrow) → IsRational v → IsRational u → IsBelow (stretched d e c u) v
       → IsBelow u (taken_from d e c v)
   from_below v u v_in u_in below =
