@@ -161,6 +161,7 @@ module _ (low extent : ℤ) (total : ℕ) (wide : pos 0 <ℤ extent) (some : 0 <
   behind_band index rest true c c_is = rw c_is refl
   behind_band index rest false c c_is = refl
 
+  -- the layers are a cutting, from a start on
   pub bands_cut : (l : Layer) (ls : List Layer) (before thick : ℕ) (start high : Arrow)
       → are_layers before (l ∷ ls) ≡ true → thick + total_of (l ∷ ls) ≡ total
       → IsRational start → IsSame start (end_behind thick)

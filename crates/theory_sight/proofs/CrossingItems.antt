@@ -56,7 +56,7 @@ unfolding greatest_divisor divisor_within
 zeros_not_coprime = refl
 
 -- an axis of a layered element is not 0
-axis_is_some : (a : Axis) → (is_level_axis a || is_upright_axis a) ≡ true → a.x ≡ pos 0 → a.y ≡ pos 0
+pub axis_is_some : (a : Axis) → (is_level_axis a || is_upright_axis a) ≡ true → a.x ≡ pos 0 → a.y ≡ pos 0
     → a.z ≡ pos 0 → ⊥
 axis_is_some a is x_is y_is z_is = by (or_cases (is_level_axis a) (is_upright_axis a) is)
   where
@@ -101,6 +101,14 @@ all_elements e (x ∷ xs) all stands =
         → Stands e (x ∷ xs) → is_layering e.layering ≡ true
     by first later (inl here) = ap (λ y. is_layering y.layering) here ∙ first
     by first later (inr there) = later there
+
+-- the layers of a model's element stand right
+pub element_layering : (m : Building) → IsTrue (is_building m) → (e : Element) → Stands e m.elements
+    → is_layering e.layering ≡ true
+element_layering m is e stands =
+    let range = and_parts (is_in_range m) (is_none (first_bad m)) is in
+    let last = and_parts _ (list_all (λ x. is_layering x.layering) m.elements) range.0 in
+    all_elements e m.elements last.1 stands
 
 -- ---- what is known of a ray
 
@@ -241,10 +249,7 @@ module _ (m : Building) (r : Ray) (x0 : ℤ) (seen : IsSeen m r x0) (x y : ℤ) 
 
   -- the element's layers stand right
   layering_right : is_layering e.layering ≡ true
-  layering_right =
-      let range = and_parts (is_in_range m) (is_none (first_bad m)) seen.model in
-      let last = and_parts _ (list_all (λ x. is_layering x.layering) m.elements) range.0 in
-      all_elements e m.elements last.1 c.stands
+  layering_right = element_layering m seen.model e c.stands
 
   -- the crossing's items, by the element's layering
   items_by_layering : (layering : Layering) → e.layering ≡ layering → (items : List Item)

@@ -23,3 +23,7 @@ pub mod ItemsReversed
 pub mod ReadBack
 -- worked walks
 mod Examples
+-- passages from a column
+pub mod Stretched
+pub mod LayersAlongARay
+pub mod PassagesFromColumn
