@@ -127,42 +127,41 @@ fn each_write_offers_the_whole_rest(rt: HostRuntime) -> Result<(), Fail> {
     Ok(())
 }
 
-// A text of two pieces, over a shelf that never fails and over real files.
+// A text of two pieces over a shelf that never fails.
 #[test]
-fn a_long_text_is_read_and_written(rt: HostRuntime) -> Result<(), Fail> {
+fn a_long_text_is_read(rt: HostRuntime) -> Result<(), Fail> {
     let long = vec![in rt.alloc(); b'#'; 70_000]?;
     let name = Text::of(rt.alloc(), b"model.ifc")?;
     let bytes = Text::of(rt.alloc(), long.as_slice())?;
     let mut steady = SteadyShelf::new(rt.alloc(), name, bytes);
-    assert_eq!(rt;
-        read_word(rt.alloc(), &mut steady, "model.ifc", long.as_slice()),
-        "all",
-        "steady"
-    );
+    let got = read_word(rt.alloc(), &mut steady, "model.ifc", long.as_slice());
+    assert_eq!(rt; got, "all", "steady");
+    Ok(())
+}
 
+// The same over real files.
+#[test]
+fn a_long_file_is_read(rt: HostRuntime) -> Result<(), Fail> {
+    let long = vec![in rt.alloc(); b'#'; 70_000]?;
     let mut host = HostShelf::new(rt.clone()?);
-    assert_eq!(rt;
-        read_word(rt.alloc(), &mut host, "absent.ifc", b""),
-        "fault",
-        "no such file"
-    );
     fs::write(&rt, "long.ifc", long.as_slice())?;
-    assert_eq!(rt;
-        read_word(rt.alloc(), &mut host, "long.ifc", long.as_slice()),
-        "all",
-        "a file"
-    );
-    assert!(rt;
-        !is_written(rt.clone()?, "absent/report.json", &long),
-        "no such folder"
-    );
+    let got = read_word(rt.alloc(), &mut host, "long.ifc", long.as_slice());
+    assert_eq!(rt; got, "all", "a file");
+    let got = read_word(rt.alloc(), &mut host, "absent.ifc", b"");
+    assert_eq!(rt; got, "fault", "no such file");
+    fs::remove_file(&rt, "long.ifc")?;
+    Ok(())
+}
+
+#[test]
+fn a_long_file_is_written(rt: HostRuntime) -> Result<(), Fail> {
+    let long = vec![in rt.alloc(); b'#'; 70_000]?;
+    let is_whole = is_written(rt.clone()?, "absent/report.json", &long);
+    assert!(rt; !is_whole, "no such folder");
     assert!(rt; is_written(rt.clone()?, "long.json", &long), "a new file");
     let written = fs::read(&rt, "long.json")?;
-    assert!(rt;
-        written.as_slice() == long.as_slice(),
-        "the whole text stands there"
-    );
-    fs::remove_file(&rt, "long.ifc")?;
+    let is_whole = written.as_slice() == long.as_slice();
+    assert!(rt; is_whole, "the whole text stands there");
     fs::remove_file(&rt, "long.json")?;
     Ok(())
 }
@@ -183,29 +182,41 @@ fn are_created<R: Files + Print + Drop>(rt: R, report: &str, ifc: &str) -> bool 
 #[test]
 fn a_file_in_use_stands(rt: HostRuntime) -> Result<(), Fail> {
     fs::write(&rt, "used.ifc", b"ISO")?;
-    fs::write(&rt, "free.json", b"before")?;
     rt.hard_link("used.ifc", "link.json")?;
     for (report, want, why) in [
         ("./used.ifc", false, "the model by another path"),
         ("link.json", false, "the model by another name"),
-        ("free.json", true, "a file that is in no use"),
         ("/dev/null", true, "a device"),
     ] {
-        assert_eq!(rt;
-            is_created_beside(rt.clone()?, "used.ifc", report),
-            want,
-            "{why}"
-        );
+        let is_created = is_created_beside(rt.clone()?, "used.ifc", report);
+        assert_eq!(rt; is_created, want, "{why}");
     }
-    assert!(rt; are_created(rt.clone()?, "a.json", "a.ifc"), "two files");
-    assert!(rt; !are_created(rt.clone()?, "a.json", "./a.json"), "one file");
     let used = fs::read(&rt, "used.ifc")?;
     assert!(rt; used.as_slice() == b"ISO".as_slice(), "the model stands");
+    fs::remove_file(&rt, "used.ifc")?;
+    fs::remove_file(&rt, "link.json")?;
+    Ok(())
+}
+
+#[test]
+fn a_file_in_no_use_is_emptied(rt: HostRuntime) -> Result<(), Fail> {
+    fs::write(&rt, "model.ifc", b"ISO")?;
+    fs::write(&rt, "free.json", b"before")?;
+    let is_created = is_created_beside(rt.clone()?, "model.ifc", "free.json");
+    assert!(rt; is_created, "a file that is in no use");
     let free = fs::read(&rt, "free.json")?;
-    assert!(rt; free.is_empty(), "the other file was emptied");
-    for path in ["used.ifc", "link.json", "free.json", "a.json", "a.ifc"] {
-        fs::remove_file(&rt, path)?;
-    }
+    assert!(rt; free.is_empty(), "it was emptied");
+    fs::remove_file(&rt, "model.ifc")?;
+    fs::remove_file(&rt, "free.json")?;
+    Ok(())
+}
+
+#[test]
+fn outputs_are_files_of_their_own(rt: HostRuntime) -> Result<(), Fail> {
+    assert!(rt; are_created(rt.clone()?, "a.json", "a.ifc"), "two files");
+    assert!(rt; !are_created(rt.clone()?, "a.json", "./a.json"), "one file");
+    fs::remove_file(&rt, "a.json")?;
+    fs::remove_file(&rt, "a.ifc")?;
     Ok(())
 }
 
