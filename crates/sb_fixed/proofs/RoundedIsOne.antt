@@ -1,13 +1,15 @@
 -- Each fraction is rounded to one whole number, and one division finds it.
-use Rattle.std.proofs.Common.{◌≡◌, refl, ℕ, zero, suc, ◌+◌, ◌*◌, ◌/◌, ◌<◌, ◌≤◌, Bool, true, false, ap, sym, ◌∙◌, ⊎_elim, arith, ℤ, pos, negsuc, ◌<ℤ◌, unsigned_abs, mul-le-mul_right, le_antisymm, div-mul-le_self}
+use Rattle.std.proofs.Common.{◌≡◌, refl, ℕ, zero, suc, ◌+◌, ◌*◌, ◌/◌, ◌<◌, ◌≤◌, Bool, true, false, List, length, ap, sym, ◌∙◌, ⊎_elim, arith, ℤ, pos, negsuc, ◌<ℤ◌, unsigned_abs, mul-le-mul_right, le_antisymm, div-mul-le_self}
 use Rattle.std.proofs.Math.Nat.{lt-div-mul-add, div-eq_of_lt}
 use Rattle.std.proofs.lemmas.Bool.{cases_lt}
 use Rattle.std.proofs.lemmas.Int.{ints}
 use Rattle.theory_numbers.specs.Fractions.{Ratio}
 use Rattle.theory_numbers.specs.Tests.{is_negative}
 use Rattle.theory_numbers.proofs.Signs.{test_less, test_not_less}
-use Rattle.sb_fixed.specs.Decimals.{signed}
-use Rattle.sb_fixed.specs.Rounding.{HasSignOf, IsRounded, rounded, RoundedIsTheOne}
+use Rattle.sb_fixed.specs.Decimals.{digits_in, fraction, exponent, lowered, signed, decimal_of}
+use Rattle.sb_fixed.specs.Lengths.{TextsAreRounded}
+use Rattle.sb_fixed.proofs.LeadingDigits.{tens_positive}
+use Rattle.sb_fixed.specs.Rounding.{scaled, HasSignOf, IsRounded, rounded, RoundedIsTheOne}
 use Rattle.sb_fixed.proofs.RoundedByTenths.{size_of_signed, not_negative}
 
 -- the size that one division finds
@@ -103,3 +105,12 @@ found_is f some =
 -- each fraction is rounded to this one number
 pub rounded_is_the_one : RoundedIsTheOne
 rounded_is_the_one f r some = (is_found f r some, λ same. rw same (found_is f some))
+
+-- and the number of each text is, at any places
+pub texts_are_rounded : TextsAreRounded
+unfolding decimal_of
+texts_are_rounded text places =
+    found_is (scaled places (decimal_of text)) (omega (arith, ints, tens_positive (tens_below text)))
+  where
+    tens_below : List ℕ → ℕ
+    tens_below text = length (digits_in (fraction text)) + lowered (exponent text)

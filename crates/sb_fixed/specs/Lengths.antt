@@ -3,7 +3,7 @@ use Rattle.std.specs.Prelude.{ℕ, ℤ, ◌^◌, List}
 use Rattle.sb_fraction.specs.declared.unit.Unit.{Unit}
 use Rattle.sb_fraction.specs.declared.unit.Unit.TheVariants as unit
 use Rattle.sb_fixed.specs.Decimals.{decimal_of}
-use Rattle.sb_fixed.specs.Rounding.{scaled, rounded}
+use Rattle.sb_fixed.specs.Rounding.{scaled, IsRounded, rounded}
 
 -- a length in nanometres has so many places in its unit: 1 m is 10^9 nm, 1 mm is 10^6 nm
 abbrev pub nanometre_places : Unit → ℕ
@@ -42,3 +42,11 @@ greatest_micrometres = 10 ^ 12
 -- of a ratio: 10^12
 abbrev pub greatest_ratio : ℕ
 greatest_ratio = 10 ^ 24
+
+-- Law
+
+-- lengths and ratios are the decimal of their text, rounded
+abbrev pub TextsAreRounded : Type 0
+TextsAreRounded =
+    (text : List ℕ) (places : ℕ)
+    → IsRounded (scaled places (decimal_of text)) (rounded (scaled places (decimal_of text)))

@@ -1,12 +1,14 @@
 ghost use Rattle.sb_fixed.specs.Rounding.{RoundedIsTheOne};
+ghost use Rattle.sb_fixed.specs.Lengths.{TextsAreRounded};
 ghost use Rattle.sb_fixed.specs.Tokens.{IntegersAreDecimals, RealsAreDecimals, ExponentsAreDecimals};
 ghost use Rattle.sb_fixed.specs.Printed.{PrintedIsRead, PrintedIsTheValue, PrintedIsReal};
 
 /// A law of rounding: each fraction is rounded to one number, the greatest in size that is not too
-/// great, and halves go away from zero.
+/// great, and halves go away from zero. Lengths and ratios are rounded so.
 #[inline(always)]
 pub fn rounding_is_one_number()
-    ensures { RoundedIsTheOne }
+    ensures one { RoundedIsTheOne }
+    ensures texts { TextsAreRounded }
 {}
 
 /// Laws of the tokens of an exchange text: the number of an integer and of a real is that of its
