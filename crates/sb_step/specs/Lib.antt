@@ -14,3 +14,5 @@ pub mod Index
 pub mod Records
 -- what a parameter list says, and how it is read
 pub mod Params
+-- what a cursor over parameters stands before
+pub mod Cursor

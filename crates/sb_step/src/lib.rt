@@ -2,6 +2,7 @@
 //! its fault.
 #![tactic(auto)]
 
+mod cursor;
 mod error;
 mod indexing;
 mod kinds;
@@ -11,6 +12,7 @@ mod step_file;
 #[cfg(test)]
 mod tests;
 
+pub use crate::cursor::Cursor;
 pub use crate::error::{ParamsError, StepError};
 pub use crate::indexing::index;
 pub use crate::laws::{one_file_or_one_fault, one_list_of_parameters};

@@ -6,7 +6,7 @@ ghost use Rattle.sb_step.specs.Params.Parameters.{HasParameters};
 ghost use Rattle.sb_step.specs.Params.ParamsAnswers.{IsParamsAnswer, HasMemory, AwaitsByForm, SaysByForm, AwaitsList, ListSays, Gives};
 
 pub(crate) mod param;
-mod reading;
+pub(crate) mod reading;
 mod values;
 
 use crate::error::ParamsError;

@@ -1,0 +1,3 @@
+-- A cursor stands before the parameters of its instance that are left.
+pub mod LeftIsUnique
+pub mod CursorsBegin
