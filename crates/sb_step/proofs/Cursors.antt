@@ -1,3 +1,5 @@
 -- A cursor stands before the parameters of its instance that are left.
 pub mod LeftIsUnique
 pub mod CursorsBegin
+pub mod ParametersClose
+pub mod ParametersArePassed

@@ -16,3 +16,5 @@ pub mod Records
 pub mod Params
 -- what a cursor over parameters stands before
 pub mod Cursor
+-- how it passes over one
+pub mod Passing

@@ -6,10 +6,11 @@ ghost use Rattle.sb_step.specs.Params.ParamsAnswers.{AwaitsByForm, SaysByForm, A
 ghost use Rattle.std.specs.Coded.{Coded-set, coded_list};
 ghost use Rattle.sb_step.specs.contracts.parameters.param.Param as param;
 ghost use Rattle.sb_step.specs.Cursor as spec;
-ghost use Rattle.sb_step.specs.Cursor.{AreLeft, Left, Left-prop, LeftAreUnique, LeftAreUnique-prop};
+ghost use Rattle.sb_step.specs.Cursor.{AreLeft, StandsAt, Left, Left-prop, LeftAreUnique, LeftAreUnique-prop};
 
 use crate::kinds::is_close;
 use crate::parameters::reading::next;
+use crate::passing::{following, pass};
 use crate::step_file::StepFile;
 use crate::step_file::records::Form;
 use crate::step_file::table::form;
@@ -72,6 +73,15 @@ impl<'a> Cursor<'a> {
     {
         self.place.next.is_none()
     }
+
+    /// Passes over one parameter, whatever it holds, where one is left.
+    pub fn skip(&mut self)
+        ensures { self.new ≡ drop 1 self.old }
+    {
+        if let Some(first) = self.place.next {
+            *self = behind(self.place.bytes, first);
+        }
+    }
 }
 
 /// A cursor before the parameters of a record of this form.
@@ -94,6 +104,17 @@ fn at_list<'a>(bytes: &'a [u8], place: usize) -> Cursor<'a>
     let _opens = next(&mut lexer);
     let first = next(&mut lexer);
     standing_at(bytes, unless_closed(first))
+}
+
+/// A cursor behind the parameter that begins with this token.
+fn behind<'a>(bytes: &'a [u8], first: Token) -> Cursor<'a>
+    requires { (ps : List Param) × StandsAt bytes.now first ps }
+    ensures { (ps : List Param) → StandsAt bytes.now first ps → result ≡ drop 1 ps }
+{
+    let mut lexer = Lexer::at(bytes, first.end);
+    pass(&mut lexer, first);
+    let next = following(&mut lexer);
+    standing_at(bytes, next)
 }
 
 /// The token, unless it ends a list.

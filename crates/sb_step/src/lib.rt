@@ -8,6 +8,7 @@ mod indexing;
 mod kinds;
 mod laws;
 mod parameters;
+mod passing;
 mod step_file;
 #[cfg(test)]
 mod tests;
