@@ -3,3 +3,4 @@ pub mod LeftIsUnique
 pub mod CursorsBegin
 pub mod ParametersClose
 pub mod ParametersArePassed
+pub mod FormsByToken

@@ -18,3 +18,5 @@ pub mod Params
 pub mod Cursor
 -- how it passes over one
 pub mod Passing
+-- and which form the next one has
+pub mod Forms

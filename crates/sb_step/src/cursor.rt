@@ -19,9 +19,9 @@ use std::marker::Model;
 
 /// Where a cursor stands: the first token of the next parameter, or none where nothing is left.
 #[derive(Drop)]
-struct Place<'a> {
-    bytes: &'a [u8],
-    next: Option<Token>,
+pub(crate) struct Place<'a> {
+    pub(crate) bytes: &'a [u8],
+    pub(crate) next: Option<Token>,
     ghost unique: { LeftAreUnique } by { LeftAreUnique-prop (Coded-set (coded_list param.the_row.coded)) },
     ghost left: { Left bytes.now next } by { Left-prop (Coded-set (coded_list param.the_row.coded)) unique bytes.now next },
 }
@@ -30,7 +30,7 @@ struct Place<'a> {
 /// left.
 #[derive(Drop)]
 pub struct Cursor<'a> {
-    place: Place<'a>,
+    pub(crate) place: Place<'a>,
 }
 
 impl<'a> Model for Cursor<'a> {

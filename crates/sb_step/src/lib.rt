@@ -4,6 +4,7 @@
 
 mod cursor;
 mod error;
+mod forms;
 mod indexing;
 mod kinds;
 mod laws;

@@ -1,0 +1,48 @@
+-- What the calls of a cursor give of the next parameter, form by form: a value where the parameter is
+-- of the form, and none where it is of another or where none is left.
+use Rattle.std.specs.Prelude.{◌≡◌, ℕ, List, Option, Some, None}
+use Rattle.sb_lex.specs.declared.kinds.Kind.{Kind}
+use Rattle.sb_lex.specs.declared.kinds.Kind.TheVariants as kind
+use Rattle.sb_lex.specs.declared.kinds.Mark.TheVariants as mark
+use Rattle.sb_step.specs.declared.parameters.param.Param.{Param}
+use Rattle.sb_step.specs.declared.parameters.param.Param.TheVariants as param
+
+-- a reference: the number of its instance
+abbrev pub reference_in : Option Param → Option ℕ
+reference_in (Some (param.Reference n)) = Some n
+reference_in _ = None
+
+-- a reference or `$`, which gives no number
+abbrev pub reference_or_none_in : Option Param → Option (Option ℕ)
+reference_or_none_in (Some (param.Reference n)) = Some (Some n)
+reference_or_none_in (Some param.Null) = Some None
+reference_or_none_in _ = None
+
+-- an integer or a real, as it stands
+abbrev pub number_in : Option Param → Option (List ℕ)
+number_in (Some (param.Int text)) = Some text
+number_in (Some (param.Real text)) = Some text
+number_in _ = None
+
+-- a list of these parameters
+abbrev pub IsList : Option Param → List Param → Type 0
+IsList first ps = first ≡ Some (param.List ps)
+
+-- The same by the token with which the parameter begins
+
+-- of a name its number
+abbrev pub name_of : Kind → Option ℕ
+name_of (kind.Name n) = Some n
+name_of _ = None
+
+-- of a name its number, of `$` none
+abbrev pub name_or_none_of : Kind → Option (Option ℕ)
+name_or_none_of (kind.Name n) = Some (Some n)
+name_or_none_of (kind.Mark mark.Dollar) = Some None
+name_or_none_of _ = None
+
+-- of an integer and of a real the text
+abbrev pub number_text : Kind → List ℕ → Option (List ℕ)
+number_text kind.Integer text = Some text
+number_text kind.Real text = Some text
+number_text _ text = None

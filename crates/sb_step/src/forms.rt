@@ -1,0 +1,101 @@
+// The next parameter, by its form.
+ghost use Rattle.std.specs.Prelude.{◌≡◌, ◌≤◌, drop, slice_get, slice_range, length};
+ghost use Rattle.std.specs.Option.{option_copied};
+ghost use Rattle.sb_step.specs.Forms.{reference_in, reference_or_none_in, number_in};
+ghost use Rattle.sb_step.specs.Forms.{name_of, name_or_none_of, number_text};
+
+use crate::cursor::Cursor;
+use sb_lex::{Kind, Mark};
+
+impl<'a> Cursor<'a> {
+    /// The number of the instance to which the next parameter refers. The cursor then stands behind
+    /// it.
+    ///
+    /// `None`: exactly where the parameter is no reference, or none is left.
+    pub fn reference(&mut self) -> Option<u32>
+        ensures value { result ≡ reference_in (slice_get self.old 0) }
+        ensures left { self.new ≡ drop 1 self.old }
+    {
+        let value = self.name();
+        self.skip();
+        value
+    }
+
+    /// The same of a reference or `$`, which gives `Some(None)`.
+    pub fn reference_or_none(&mut self) -> Option<Option<u32>>
+        ensures value { result ≡ reference_or_none_in (slice_get self.old 0) }
+        ensures left { self.new ≡ drop 1 self.old }
+    {
+        let value = self.name_or_none();
+        self.skip();
+        value
+    }
+
+    /// The next parameter, an integer or a real, as it stands in the text. The cursor then stands
+    /// behind it.
+    ///
+    /// `None`: exactly where the parameter is neither, or none is left.
+    pub fn number(&mut self) -> Option<&'a [u8]>
+        ensures value { option_copied result ≡ number_in (slice_get self.old 0) }
+        ensures left { self.new ≡ drop 1 self.old }
+    {
+        let value = self.number_text();
+        self.skip();
+        value
+    }
+
+    fn name(&self) -> Option<u32>
+        ensures { result ≡ reference_in (slice_get self.now 0) }
+    {
+        match self.place.next {
+            Some(token) => name_of(token.kind),
+            None => None,
+        }
+    }
+
+    fn name_or_none(&self) -> Option<Option<u32>>
+        ensures { result ≡ reference_or_none_in (slice_get self.now 0) }
+    {
+        match self.place.next {
+            Some(token) => name_or_none_of(token.kind),
+            None => None,
+        }
+    }
+
+    fn number_text(&self) -> Option<&'a [u8]>
+        ensures { option_copied result ≡ number_in (slice_get self.now 0) }
+    {
+        match self.place.next {
+            Some(token) => number_in(token.kind, &self.place.bytes[token.start..token.end]),
+            None => None,
+        }
+    }
+}
+
+fn name_of(kind: Kind) -> Option<u32>
+    ensures { result ≡ name_of kind }
+{
+    match kind {
+        Kind::Name(number) => Some(number),
+        _ => None,
+    }
+}
+
+fn name_or_none_of(kind: Kind) -> Option<Option<u32>>
+    ensures { result ≡ name_or_none_of kind }
+{
+    match kind {
+        Kind::Name(number) => Some(Some(number)),
+        Kind::Mark(Mark::Dollar) => Some(None),
+        _ => None,
+    }
+}
+
+fn number_in<'a>(kind: Kind, text: &'a [u8]) -> Option<&'a [u8]>
+    ensures { option_copied result ≡ number_text kind text.now }
+{
+    match kind {
+        Kind::Integer | Kind::Real => Some(text),
+        _ => None,
+    }
+}
