@@ -24,6 +24,13 @@ abbrev pub AreLeft : List ℕ → Option Token → List Param → Type 0
 AreLeft input None ps = ps ≡ []
 AreLeft input (Some t) ps = StandsAt input t ps
 
+-- the parameters of the list whose parenthesis this token is
+pub record ListBehind (input : List ℕ) (t : Token) (ps : List Param) : Type 0 where
+  pub xs : List Lexeme
+  pub rest : List Lexeme
+  pub ahead : AreAhead (behind input t) xs
+  pub says : AreInList ps xs rest
+
 -- a token that was read in a list, unless it ends that
 abbrev pub unless_closed : Token → Option Token
 unless_closed t = if is_close t.kind then None else Some t

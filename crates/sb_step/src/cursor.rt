@@ -1,4 +1,5 @@
 ghost use Rattle.std.specs.Prelude.{◌≡◌, ◌↔◌, ℕ, nat_eq, List, [], drop, None, IfSome, IsTrue};
+ghost use Rattle.std.specs.Prelude.{◌≤◌, length};
 ghost use Rattle.std.specs.Map.{lookup};
 ghost use Rattle.sb_step.specs.declared.parameters.param.Param.{Param};
 ghost use Rattle.sb_step.specs.Params.Parameters.{HasParameters};
@@ -6,7 +7,7 @@ ghost use Rattle.sb_step.specs.Params.ParamsAnswers.{AwaitsByForm, SaysByForm, A
 ghost use Rattle.std.specs.Coded.{Coded-set, coded_list};
 ghost use Rattle.sb_step.specs.contracts.parameters.param.Param as param;
 ghost use Rattle.sb_step.specs.Cursor as spec;
-ghost use Rattle.sb_step.specs.Cursor.{AreLeft, StandsAt, Left, Left-prop, LeftAreUnique, LeftAreUnique-prop};
+ghost use Rattle.sb_step.specs.Cursor.{AreLeft, StandsAt, ListBehind, Left, Left-prop, LeftAreUnique, LeftAreUnique-prop};
 
 use crate::kinds::is_close;
 use crate::parameters::reading::next;
@@ -115,6 +116,17 @@ fn behind<'a>(bytes: &'a [u8], first: Token) -> Cursor<'a>
     pass(&mut lexer, first);
     let next = following(&mut lexer);
     standing_at(bytes, next)
+}
+
+/// A cursor before the parameters of the list that begins with this parenthesis.
+pub(crate) fn inside<'a>(bytes: &'a [u8], parenthesis: Token) -> Cursor<'a>
+    requires within { parenthesis.end ≤ length bytes.now }
+    requires list { (ps : List Param) × ListBehind bytes.now parenthesis ps }
+    ensures { (ps : List Param) → ListBehind bytes.now parenthesis ps → result ≡ ps }
+{
+    let mut lexer = Lexer::at(bytes, parenthesis.end);
+    let first = next(&mut lexer);
+    standing_at(bytes, unless_closed(first))
 }
 
 /// The token, unless it ends a list.

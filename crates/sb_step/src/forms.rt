@@ -1,11 +1,14 @@
 // The next parameter, by its form.
-ghost use Rattle.std.specs.Prelude.{◌≡◌, ◌≤◌, drop, slice_get, slice_range, length};
+ghost use Rattle.std.specs.Prelude.{◌≡◌, ◌↔◌, List, None, drop, slice_get, IfSome};
+ghost use Rattle.sb_step.specs.declared.parameters.param.Param.{Param};
+ghost use Rattle.sb_step.specs.Cursor.{StandsAt};
 ghost use Rattle.std.specs.Option.{option_copied};
-ghost use Rattle.sb_step.specs.Forms.{reference_in, reference_or_none_in, number_in};
+ghost use Rattle.sb_step.specs.Forms.{reference_in, reference_or_none_in, number_in, IsList};
 ghost use Rattle.sb_step.specs.Forms.{name_of, name_or_none_of, number_text};
 
-use crate::cursor::Cursor;
-use sb_lex::{Kind, Mark};
+use crate::cursor::{Cursor, inside};
+use crate::kinds::is_open;
+use sb_lex::{Kind, Mark, Token};
 
 impl<'a> Cursor<'a> {
     /// The number of the instance to which the next parameter refers. The cursor then stands behind
@@ -44,6 +47,32 @@ impl<'a> Cursor<'a> {
         value
     }
 
+    /// A cursor before the parameters of the next parameter, a list. This cursor then stands behind
+    /// it.
+    ///
+    /// `None`: exactly where the parameter is no list, or none is left.
+    pub fn list(&mut self) -> Option<Cursor<'a>>
+        ensures some { IfSome result (IsList (slice_get self.old 0)) }
+        ensures none { (result ≡ None)
+            ↔ ((ps : List Param) → ¬ IsList (slice_get self.old 0) ps) }
+        ensures left { self.new ≡ drop 1 self.old }
+    {
+        let items = self.items();
+        self.skip();
+        items
+    }
+
+    fn items(&self) -> Option<Cursor<'a>>
+        ensures some { IfSome result (IsList (slice_get self.now 0)) }
+        ensures none { (result ≡ None)
+            ↔ ((ps : List Param) → ¬ IsList (slice_get self.now 0) ps) }
+    {
+        match self.place.next {
+            Some(token) => items_of(self.place.bytes, token),
+            None => None,
+        }
+    }
+
     fn name(&self) -> Option<u32>
         ensures { result ≡ reference_in (slice_get self.now 0) }
     {
@@ -69,6 +98,21 @@ impl<'a> Cursor<'a> {
             Some(token) => number_in(token.kind, &self.place.bytes[token.start..token.end]),
             None => None,
         }
+    }
+}
+
+/// The parameters of the list that begins with this token, if one does.
+fn items_of<'a>(bytes: &'a [u8], first: Token) -> Option<Cursor<'a>>
+    requires { (ps : List Param) × StandsAt bytes.now first ps }
+    ensures some { (ps : List Param) → StandsAt bytes.now first ps
+        → IfSome result (IsList (slice_get ps 0)) }
+    ensures none { (ps qs : List Param) → StandsAt bytes.now first ps → result ≡ None
+        → ¬ IsList (slice_get ps 0) qs }
+{
+    if is_open(first.kind) {
+        Some(inside(bytes, first))
+    } else {
+        None
     }
 }
 

@@ -7,11 +7,11 @@ use Rattle.sb_step.specs.declared.parameters.param.Param.{Param}
 use Rattle.sb_step.specs.Lexemes.{Lexeme, lexeme_at, is_close}
 use Rattle.sb_step.specs.Grammar.{ParameterList}
 use Rattle.sb_step.specs.Params.Parameters.{AreParameters}
-use Rattle.sb_step.specs.Params.Readers.{ReadsToken, AreAhead, Awaits, AreInList, behind}
-use Rattle.sb_step.specs.Cursor.{StandsAt, AreLeft, unless_closed}
+use Rattle.sb_step.specs.Params.Readers.{HasNext, ReadsToken, AreAhead, Awaits, AreInList, behind}
+use Rattle.sb_step.specs.Cursor.{StandsAt, AreLeft, ListBehind, unless_closed}
 use Rattle.sb_step.proofs.Texts.ListsByLexeme.{parameter_on, parameter_closes_none}
 use Rattle.sb_step.proofs.ParameterLists.SaidIsParameter.{said_parameter}
-use Rattle.sb_step.proofs.ParameterLists.ParametersAreRead.{FirstPassed, passes, input_stays}
+use Rattle.sb_step.proofs.ParameterLists.ParametersAreRead.{FirstPassed, passes, input_stays, first_has_next}
 use Rattle.sb_step.proofs.ParameterLists.ParametersExist.{list_says}
 use Rattle.sb_step.specs.Params.ParamsAnswers.{reader_at, ListSays}
 use Rattle.sb_step.proofs.ParameterLists.ParametersAreUnique.{ListSaysOn, list_says_on}
@@ -101,3 +101,25 @@ module _ (bytes : List ℕ) (place : ℕ) (a b c : Reading) (o t : Token) (opens
       let said = list_says l (reader_at bytes place) ahead in
       subst (λ all. AreParameters all xs rest)
       (sym (only said.ps (all_left said.ps xs rest ahead said.are))) said.are
+
+-- ---- inside a list
+
+module _ (bytes : List ℕ) (o : Token) (b : Reading) (b_is : b ≡ behind bytes o) (ps : List Param)
+    (l : ListBehind bytes o ps) where
+  -- there is a token behind its parenthesis
+  pub inside_has_next : HasNext b
+  inside_has_next = by_first l.xs l.ahead l.says
+    where
+      by_first : (xs : List Lexeme) → AreAhead (behind bytes o) xs → AreInList ps xs l.rest
+          → HasNext b
+      by_first [] ahead says = absurd (not_nothing ps l.rest says)
+      by_first (x ∷ xs) ahead says =
+          first_has_next b x xs (subst (λ r. AreAhead r (x ∷ xs)) (sym b_is) ahead)
+
+  -- and its parameters are left
+  pub inside_left : (c : Reading) (t : Token) → ReadsToken b c t → (next : Option Token)
+      → next ≡ unless_closed t → AreLeft bytes next ps
+  inside_left c t read next next_is =
+      subst (λ n. AreLeft bytes n ps) (sym next_is)
+      (left_in_list bytes b c t read (ap (λ r. r.input) b_is) ps l.xs l.rest
+      (subst (λ r. AreAhead r l.xs) (sym b_is) l.ahead) l.says)

@@ -1,6 +1,7 @@
 -- The form of the next parameter shows in the token with which it begins.
-use Rattle.std.proofs.Common.{◌≡◌, ℕ, List, [], ◌∷◌, Option, Some, refl, sym, ap, ◌∙◌, inl, inr}
+use Rattle.std.proofs.Common.{◌≡◌, ℕ, List, [], ◌∷◌, Option, Some, false, true, refl, sym, ap, ◌∙◌, subst, inl, inr}
 use Rattle.std.proofs.lemmas.Bool.{false≢true}
+use Rattle.std.proofs.lemmas.Option.{same_Some}
 use Rattle.std.specs.Prelude.{slice_get, slice_range}
 use Rattle.sb_lex.specs.declared.kinds.Kind.{Kind}
 use Rattle.sb_lex.specs.declared.kinds.Kind.TheVariants as kind
@@ -8,11 +9,13 @@ use Rattle.sb_lex.specs.declared.kinds.Mark.TheVariants as mark
 use Rattle.sb_lex.specs.declared.kinds.Token.{Token}
 use Rattle.sb_step.specs.declared.parameters.param.Param.{Param}
 use Rattle.sb_step.specs.declared.parameters.param.Param.TheVariants as param
-use Rattle.sb_step.specs.Lexemes.{Lexeme, lexeme_at, is_close}
+use Rattle.sb_step.specs.Lexemes.{Lexeme, lexeme_at, is_close, is_open}
 use Rattle.sb_step.specs.Params.Parameters.{Says}
-use Rattle.sb_step.specs.Cursor.{StandsAt}
+use Rattle.sb_step.specs.Cursor.{StandsAt, ListBehind}
 use Rattle.sb_step.specs.Forms.{reference_in, reference_or_none_in, number_in, name_of, name_or_none_of, number_text}
 use Rattle.sb_step.proofs.ParameterLists.ParametersAreUnique.{SaysOn, TypedSays, says_on}
+use Rattle.sb_step.proofs.ParameterLists.SaidIsParameter.{says_value}
+use Rattle.sb_step.proofs.Cursors.ParametersArePassed.{value_opens_none}
 
 -- the next parameter, and how it begins
 record Next (bytes : List ℕ) (t : Token) (ps : List Param) : Type 0 where
@@ -128,3 +131,66 @@ pub number_is : (bytes : List ℕ) (t : Token) (ps : List Param) → StandsAt by
     → number_in (slice_get ps 0) ≡ number_text t.kind (slice_range bytes t.start t.end)
 number_is =
     told_by_token number_in number_text number_says (λ ps text. refl) (λ name text p. refl)
+
+-- ---- lists
+
+no_list : (k : Kind) (text : List ℕ) (qs : List Param) → Says k text (param.List qs) → ⊥
+no_list kind.Integer text qs says = cc
+no_list kind.Real text qs says = cc
+no_list kind.Str text qs says = let other = says.2 in cc
+no_list kind.Enumeration text qs says = let other = says.2 in cc
+no_list kind.Binary text qs says = let other = says.2 in cc
+no_list (kind.Name n) text qs says = cc
+no_list (kind.Mark mark.Dollar) text qs says = cc
+no_list (kind.Mark mark.Asterisk) text qs says = cc
+no_list _ text qs says = says
+
+typed_is_no_list : (p inner : Param) (name : List ℕ) (qs : List Param) → p ≡ param.Typed name inner
+    → p ≡ param.List qs → ⊥
+typed_is_no_list p inner name qs typed is = cc
+
+-- where the token is no parenthesis, the parameter is no list
+pub list_is_open : (bytes : List ℕ) (t : Token) (ps qs : List Param) → StandsAt bytes t ps
+    → is_open t.kind ≡ false → slice_get ps 0 ≡ Some (param.List qs) → ⊥
+list_is_open bytes t ps qs s other is =
+    let n = next_of bytes t ps s in
+    let same : n.p ≡ param.List qs = same_Some n.p (param.List qs) (sym n.is ∙ is) in
+    by_case n.p n.rest n.xs n.says same
+  where
+    by_case : (p : Param) (rest xs : List Lexeme) → SaysOn p rest (lexeme_at bytes t ∷ xs)
+        → p ≡ param.List qs → ⊥
+    by_case p rest xs (inl v) same =
+        no_list t.kind (slice_range bytes t.start t.end) qs
+        (subst (Says t.kind (slice_range bytes t.start t.end)) same v.0)
+    by_case p rest xs (inr (inl l)) same = false≢true (sym other ∙ ap is_open l.0)
+    by_case p rest xs (inr (inr k)) same =
+        let q = typed_is (lexeme_at bytes t) p rest xs k.1 in
+        typed_is_no_list p q.0 (lexeme_at bytes t).text qs q.1 same
+
+-- where it is one, the parameter is the list behind it
+pub record FirstList (bytes : List ℕ) (t : Token) (ps : List Param) : Type 0 where
+  pub items : List Param
+  pub is : slice_get ps 0 ≡ Some (param.List items)
+  pub behind_it : ListBehind bytes t items
+
+pub first_list : (bytes : List ℕ) (t : Token) (ps : List Param) → StandsAt bytes t ps
+    → is_open t.kind ≡ true → FirstList bytes t ps
+first_list bytes t [] s opens = absurd (false≢true (sym s.going ∙ ap is_close s.says.0))
+first_list bytes t (p ∷ ps) s opens = by_case (says_on s.says.first)
+  where
+    by_case : SaysOn p s.says.middle (lexeme_at bytes t ∷ s.xs) → FirstList bytes t (p ∷ ps)
+    by_case (inl v) =
+        let none = value_opens_none t.kind
+        (says_value t.kind (slice_range bytes t.start t.end) p v.0) in
+        absurd (false≢true (sym none ∙ opens))
+    by_case (inr (inl l)) = record {
+      items = l.1.items;
+      is = ap (λ q. Some q) l.1.is;
+      behind_it = record {
+        xs = s.xs;
+        rest = s.says.middle;
+        ahead = s.ahead;
+        says = l.1.says;
+      };
+    }
+    by_case (inr (inr k)) = absurd (false≢true (sym (ap is_open k.0) ∙ opens))

@@ -22,7 +22,7 @@ use Rattle.sb_step.proofs.Cursors.ParametersClose.{list_closes_one, typed_closes
 
 -- ---- the beginning of a parameter
 
-value_opens_none : (k : Kind) → is_value k ≡ true → is_open k ≡ false
+pub value_opens_none : (k : Kind) → is_value k ≡ true → is_open k ≡ false
 value_opens_none (kind.Mark mark.Open) v = absurd (false≢true v)
 value_opens_none _ v = refl
 
