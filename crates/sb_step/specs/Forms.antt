@@ -1,6 +1,7 @@
 -- What the calls of a cursor give of the next parameter, form by form: a value where the parameter is
 -- of the form, and none where it is of another or where none is left.
-use Rattle.std.specs.Prelude.{◌≡◌, ℕ, List, Option, Some, None}
+use Rattle.std.specs.Prelude.{◌≡◌, ℕ, Bool, true, false, List, Option, Some, None}
+use Rattle.theory_bytes.specs.Insides.{inside_of}
 use Rattle.sb_lex.specs.declared.kinds.Kind.{Kind}
 use Rattle.sb_lex.specs.declared.kinds.Kind.TheVariants as kind
 use Rattle.sb_lex.specs.declared.kinds.Mark.TheVariants as mark
@@ -24,6 +25,16 @@ number_in (Some (param.Int text)) = Some text
 number_in (Some (param.Real text)) = Some text
 number_in _ = None
 
+-- an enumeration, without its points
+abbrev pub enumeration_in : Option Param → Option (List ℕ)
+enumeration_in (Some (param.Enumeration text)) = Some text
+enumeration_in _ = None
+
+-- a string, in which a doubled apostrophe is one
+abbrev pub string_in : Option Param → Option (List ℕ)
+string_in (Some (param.Str text)) = Some text
+string_in _ = None
+
 -- a list of these parameters
 abbrev pub IsList : Option Param → List Param → Type 0
 IsList first ps = first ≡ Some (param.List ps)
@@ -46,3 +57,13 @@ abbrev pub number_text : Kind → List ℕ → Option (List ℕ)
 number_text kind.Integer text = Some text
 number_text kind.Real text = Some text
 number_text _ text = None
+
+-- of an enumeration what is inside
+abbrev pub enumeration_text : Kind → List ℕ → Option (List ℕ)
+enumeration_text kind.Enumeration text = Some (inside_of text)
+enumeration_text _ text = None
+
+-- a string
+abbrev pub is_string : Kind → Bool
+is_string kind.Str = true
+is_string _ = false

@@ -4,11 +4,17 @@ ghost use Rattle.sb_step.specs.declared.parameters.param.Param.{Param};
 ghost use Rattle.sb_step.specs.Cursor.{StandsAt};
 ghost use Rattle.std.specs.Option.{option_copied};
 ghost use Rattle.sb_step.specs.Forms.{reference_in, reference_or_none_in, number_in, IsList};
+ghost use Rattle.sb_step.specs.Forms.{enumeration_in, string_in, enumeration_text, is_string as is_string_of};
+ghost use Rattle.std.specs.Prelude.{◌≤◌, length, IfOk, OnOk, OnErr};
 ghost use Rattle.sb_step.specs.Forms.{name_of, name_or_none_of, number_text};
 
 use crate::cursor::{Cursor, inside};
 use crate::kinds::is_open;
+use crate::parameters::param::Param;
+use crate::parameters::values::value;
 use sb_lex::{Kind, Mark, Token};
+use sb_list::Text;
+use std::alloc::{AllocError, Global};
 
 impl<'a> Cursor<'a> {
     /// The number of the instance to which the next parameter refers. The cursor then stands behind
@@ -45,6 +51,50 @@ impl<'a> Cursor<'a> {
         let value = self.number_text();
         self.skip();
         value
+    }
+
+    /// The next parameter, an enumeration, without its points. The cursor then stands behind it.
+    ///
+    /// `None`: exactly where the parameter is no enumeration, or none is left.
+    pub fn enumeration(&mut self) -> Option<&'a [u8]>
+        ensures value { option_copied result ≡ enumeration_in (slice_get self.old 0) }
+        ensures left { self.new ≡ drop 1 self.old }
+    {
+        let value = self.enumeration_text();
+        self.skip();
+        value
+    }
+
+    /// The next parameter, a string in which a doubled apostrophe is one. The cursor then stands
+    /// behind it. Want of memory leaves it where it stood.
+    ///
+    /// `Ok(None)`: exactly where the parameter is no string, or none is left.
+    pub fn string(&mut self, alloc: Global) -> Result<Option<Text>, AllocError>
+        ensures value { IfOk result (λ value. value ≡ string_in (slice_get self.old 0)) }
+        ensures left { OnOk result (self.new ≡ drop 1 self.old) }
+        ensures err { OnErr result (self.new ≡ self.old) }
+    {
+        let value = self.string_text(alloc)?;
+        self.skip();
+        Ok(value)
+    }
+
+    fn enumeration_text(&self) -> Option<&'a [u8]>
+        ensures { option_copied result ≡ enumeration_in (slice_get self.now 0) }
+    {
+        match self.place.next {
+            Some(token) => { enumeration_of(token.kind, &self.place.bytes[token.start..token.end]) }
+            None => None,
+        }
+    }
+
+    fn string_text(&self, alloc: Global) -> Result<Option<Text>, AllocError>
+        ensures { IfOk result (λ value. value ≡ string_in (slice_get self.now 0)) }
+    {
+        match self.place.next {
+            Some(token) => string_of(alloc, self.place.bytes, token),
+            None => Ok(None),
+        }
     }
 
     /// A cursor before the parameters of the next parameter, a list. This cursor then stands behind
@@ -98,6 +148,44 @@ impl<'a> Cursor<'a> {
             Some(token) => number_in(token.kind, &self.place.bytes[token.start..token.end]),
             None => None,
         }
+    }
+}
+
+fn enumeration_of<'a>(kind: Kind, text: &'a [u8]) -> Option<&'a [u8]>
+    requires { kind ≡ Kind.Enumeration → 2 ≤ length text.now }
+    ensures { option_copied result ≡ enumeration_text kind text.now }
+{
+    match kind {
+        Kind::Enumeration => Some(&text[1..text.len() - 1]),
+        _ => None,
+    }
+}
+
+/// The string that this token is, if it is one.
+fn string_of(alloc: Global, bytes: &[u8], first: Token) -> Result<Option<Text>, AllocError>
+    requires { (ps : List Param) × StandsAt bytes.now first ps }
+    ensures { (ps : List Param) → StandsAt bytes.now first ps
+        → IfOk result (λ value. value ≡ string_in (slice_get ps 0)) }
+{
+    if !is_string(first.kind) {
+        return Ok(None);
+    }
+    let read = value(alloc, bytes, first)?;
+    Ok(text_of(read))
+}
+
+fn is_string(kind: Kind) -> bool
+    ensures { result ≡ is_string_of kind }
+{
+    matches!(kind, Kind::Str)
+}
+
+fn text_of(read: Param) -> Option<Text>
+    ensures { result ≡ string_in (Some read) }
+{
+    match read {
+        Param::Str(text) => Some(text),
+        _ => None,
     }
 }
 

@@ -3,6 +3,8 @@
 #![tactic(auto)]
 
 mod cursor;
+#[cfg(test)]
+mod cursor_tests;
 mod error;
 mod forms;
 mod indexing;

@@ -7,7 +7,7 @@ ghost use Rattle.sb_step.specs.Params.ParamsAnswers.{IsParamsAnswer, HasMemory, 
 
 pub(crate) mod param;
 pub(crate) mod reading;
-mod values;
+pub(crate) mod values;
 
 use crate::error::ParamsError;
 use crate::laws::one_list_of_parameters;

@@ -10,10 +10,13 @@ use Rattle.sb_lex.specs.declared.kinds.Token.{Token}
 use Rattle.sb_step.specs.declared.parameters.param.Param.{Param}
 use Rattle.sb_step.specs.declared.parameters.param.Param.TheVariants as param
 use Rattle.sb_step.specs.Lexemes.{Lexeme, lexeme_at, is_close, is_open}
-use Rattle.sb_step.specs.Params.Parameters.{Says}
+use Rattle.sb_step.specs.Params.Parameters.{Says, Encloses}
+use Rattle.sb_lex.specs.Bytes as byte
+use Rattle.theory_bytes.specs.Insides.{inside_of}
+use Rattle.theory_bytes.proofs.InsidesAreBetween.{inside-between}
 use Rattle.sb_step.specs.Cursor.{StandsAt, ListBehind}
-use Rattle.sb_step.specs.Forms.{reference_in, reference_or_none_in, number_in, name_of, name_or_none_of, number_text}
-use Rattle.sb_step.proofs.ParameterLists.ParametersAreUnique.{SaysOn, TypedSays, says_on}
+use Rattle.sb_step.specs.Forms.{reference_in, reference_or_none_in, number_in, enumeration_in, name_of, name_or_none_of, number_text, enumeration_text}
+use Rattle.sb_step.proofs.ParameterLists.ParametersAreUnique.{SaysOn, TypedSays, says_on, parameter_once}
 use Rattle.sb_step.proofs.ParameterLists.SaidIsParameter.{says_value}
 use Rattle.sb_step.proofs.Cursors.ParametersArePassed.{value_opens_none}
 
@@ -131,6 +134,41 @@ pub number_is : (bytes : List ℕ) (t : Token) (ps : List Param) → StandsAt by
     → number_in (slice_get ps 0) ≡ number_text t.kind (slice_range bytes t.start t.end)
 number_is =
     told_by_token number_in number_text number_says (λ ps text. refl) (λ name text p. refl)
+
+inside_is : (q : ℕ) (s text : List ℕ) → Encloses (q ∷ []) s text → s ≡ inside_of text
+inside_is q s text e = sym (inside-between q q s) ∙ ap inside_of (sym e.whole)
+
+enumeration_says : (k : Kind) (text : List ℕ) (p : Param) → Says k text p
+    → enumeration_in (Some p) ≡ enumeration_text k text
+enumeration_says kind.Integer text p says = ap (λ q. enumeration_in (Some q)) says
+enumeration_says kind.Real text p says = ap (λ q. enumeration_in (Some q)) says
+enumeration_says kind.Str text p says = ap (λ q. enumeration_in (Some q)) says.2
+enumeration_says kind.Enumeration text p says =
+    ap (λ q. enumeration_in (Some q)) says.2
+    ∙ ap (λ s. Some s) (inside_is byte.point says.0 text says.1)
+enumeration_says kind.Binary text p says = ap (λ q. enumeration_in (Some q)) says.2
+enumeration_says (kind.Name n) text p says = ap (λ q. enumeration_in (Some q)) says
+enumeration_says (kind.Mark mark.Dollar) text p says = ap (λ q. enumeration_in (Some q)) says
+enumeration_says (kind.Mark mark.Asterisk) text p says = ap (λ q. enumeration_in (Some q)) says
+enumeration_says _ text p says = absurd says
+
+-- an enumeration is what is inside its token
+pub enumeration_first : (bytes : List ℕ) (t : Token) (ps : List Param) → StandsAt bytes t ps
+    → enumeration_in (slice_get ps 0)
+    ≡ enumeration_text t.kind (slice_range bytes t.start t.end)
+enumeration_first =
+    told_by_token enumeration_in enumeration_text enumeration_says (λ ps text. refl)
+    (λ name text p. refl)
+
+-- ---- strings
+
+-- the parameter is what its token says, where that says one
+pub what_says_is_first : (bytes : List ℕ) (t : Token) (ps : List Param) → StandsAt bytes t ps
+    → (p : Param) → Says t.kind (slice_range bytes t.start t.end) p → slice_get ps 0 ≡ Some p
+what_says_is_first bytes t [] s p says = absurd (false≢true (sym s.going ∙ ap is_close s.says.0))
+what_says_is_first bytes t (q ∷ ps) s p says =
+    ap (λ q. Some q)
+    (parameter_once s.says.first p s.xs (inl (says, refl))).0
 
 -- ---- lists
 
