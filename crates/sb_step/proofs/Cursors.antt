@@ -4,3 +4,4 @@ pub mod CursorsBegin
 pub mod ParametersClose
 pub mod ParametersArePassed
 pub mod FormsByToken
+pub mod TypedByToken

@@ -1,6 +1,6 @@
 -- What the calls of a cursor give of the next parameter, form by form: a value where the parameter is
 -- of the form, and none where it is of another or where none is left.
-use Rattle.std.specs.Prelude.{◌≡◌, ℕ, Bool, true, false, List, Option, Some, None}
+use Rattle.std.specs.Prelude.{◌≡◌, ℕ, Bool, true, false, List, [], ◌∷◌, Option, Some, None}
 use Rattle.theory_bytes.specs.Insides.{inside_of}
 use Rattle.sb_lex.specs.declared.kinds.Kind.{Kind}
 use Rattle.sb_lex.specs.declared.kinds.Kind.TheVariants as kind
@@ -38,6 +38,10 @@ string_in _ = None
 -- a list of these parameters
 abbrev pub IsList : Option Param → List Param → Type 0
 IsList first ps = first ≡ Some (param.List ps)
+
+-- a keyword with one parameter in parentheses, which is given as a list of one
+abbrev pub IsTyped : Option Param → List ℕ → List Param → Type 0
+IsTyped first name ps = (p : Param) × (first ≡ Some (param.Typed name p)) × (ps ≡ p ∷ [])
 
 -- The same by the token with which the parameter begins
 

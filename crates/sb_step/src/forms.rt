@@ -3,18 +3,30 @@ ghost use Rattle.std.specs.Prelude.{◌≡◌, ◌↔◌, List, None, drop, slic
 ghost use Rattle.sb_step.specs.declared.parameters.param.Param.{Param};
 ghost use Rattle.sb_step.specs.Cursor.{StandsAt};
 ghost use Rattle.std.specs.Option.{option_copied};
-ghost use Rattle.sb_step.specs.Forms.{reference_in, reference_or_none_in, number_in, IsList};
+ghost use Rattle.sb_step.specs.Forms.{reference_in, reference_or_none_in, number_in, IsList, IsTyped};
+ghost use Rattle.std.specs.Prelude.{ℕ, slice_range, IsTrue};
+ghost use Rattle.sb_step.specs.KindTests.{is_keyword as is_keyword_of};
 ghost use Rattle.sb_step.specs.Forms.{enumeration_in, string_in, enumeration_text, is_string as is_string_of};
 ghost use Rattle.std.specs.Prelude.{◌≤◌, length, IfOk, OnOk, OnErr};
 ghost use Rattle.sb_step.specs.Forms.{name_of, name_or_none_of, number_text};
 
 use crate::cursor::{Cursor, inside};
-use crate::kinds::is_open;
+use crate::kinds::{is_keyword, is_open};
 use crate::parameters::param::Param;
+use crate::parameters::reading::next;
 use crate::parameters::values::value;
-use sb_lex::{Kind, Mark, Token};
+use sb_lex::{Kind, Lexer, Mark, Token};
 use sb_list::Text;
 use std::alloc::{AllocError, Global};
+
+/// A keyword, and a cursor before the one parameter in its parentheses.
+#[derive(Drop)]
+pub struct Typed<'a> {
+    /// The keyword as it stands.
+    pub keyword: &'a [u8],
+    /// The parameter in its parentheses.
+    pub inner: Cursor<'a>,
+}
 
 impl<'a> Cursor<'a> {
     /// The number of the instance to which the next parameter refers. The cursor then stands behind
@@ -112,6 +124,32 @@ impl<'a> Cursor<'a> {
         items
     }
 
+    /// The keyword and the parameter of the next parameter, a typed one. This cursor then stands
+    /// behind it.
+    ///
+    /// `None`: exactly where the parameter is not typed, or none is left.
+    pub fn typed(&mut self) -> Option<Typed<'a>>
+        ensures some { IfSome result (λ t. IsTyped (slice_get self.old 0) t.keyword.now t.inner) }
+        ensures none { (result ≡ None) ↔ ((name : List ℕ) (ps : List Param)
+            → ¬ IsTyped (slice_get self.old 0) name ps) }
+        ensures left { self.new ≡ drop 1 self.old }
+    {
+        let typed = self.typed_next();
+        self.skip();
+        typed
+    }
+
+    fn typed_next(&self) -> Option<Typed<'a>>
+        ensures some { IfSome result (λ t. IsTyped (slice_get self.now 0) t.keyword.now t.inner) }
+        ensures none { (result ≡ None) ↔ ((name : List ℕ) (ps : List Param)
+            → ¬ IsTyped (slice_get self.now 0) name ps) }
+    {
+        match self.place.next {
+            Some(token) => typed_of(self.place.bytes, token),
+            None => None,
+        }
+    }
+
     fn items(&self) -> Option<Cursor<'a>>
         ensures some { IfSome result (IsList (slice_get self.now 0)) }
         ensures none { (result ≡ None)
@@ -149,6 +187,37 @@ impl<'a> Cursor<'a> {
             None => None,
         }
     }
+}
+
+/// The typed parameter that begins with this token, if one does.
+fn typed_of<'a>(bytes: &'a [u8], first: Token) -> Option<Typed<'a>>
+    requires { (ps : List Param) × StandsAt bytes.now first ps }
+    ensures some { (ps : List Param) → StandsAt bytes.now first ps
+        → IfSome result (λ t. IsTyped (slice_get ps 0) t.keyword.now t.inner) }
+    ensures none { (ps qs : List Param) (name : List ℕ) → StandsAt bytes.now first ps
+        → result ≡ None → ¬ IsTyped (slice_get ps 0) name qs }
+{
+    if is_keyword(first.kind) {
+        let inner = argument(bytes, first);
+        Some(Typed {
+            keyword: &bytes[first.start..first.end],
+            inner,
+        })
+    } else {
+        None
+    }
+}
+
+/// A cursor before the parameter in the parentheses of this keyword.
+fn argument<'a>(bytes: &'a [u8], keyword: Token) -> Cursor<'a>
+    requires keyword { IsTrue (is_keyword_of keyword.kind) }
+    requires stands { (ps : List Param) × StandsAt bytes.now keyword ps }
+    ensures { (ps : List Param) → StandsAt bytes.now keyword ps
+        → IsTyped (slice_get ps 0) (slice_range bytes.now keyword.start keyword.end) result }
+{
+    let mut lexer = Lexer::at(bytes, keyword.end);
+    let opens = next(&mut lexer);
+    inside(bytes, opens)
 }
 
 fn enumeration_of<'a>(kind: Kind, text: &'a [u8]) -> Option<&'a [u8]>

@@ -18,6 +18,7 @@ mod tests;
 
 pub use crate::cursor::Cursor;
 pub use crate::error::{ParamsError, StepError};
+pub use crate::forms::Typed;
 pub use crate::indexing::index;
 pub use crate::laws::{one_file_or_one_fault, one_list_of_parameters};
 pub use crate::parameters::param::{Param, Params};

@@ -26,7 +26,7 @@ pub value_opens_none : (k : Kind) → is_value k ≡ true → is_open k ≡ fals
 value_opens_none (kind.Mark mark.Open) v = absurd (false≢true v)
 value_opens_none _ v = refl
 
-value_is_no_keyword : (k : Kind) → is_value k ≡ true → is_keyword k ≡ false
+pub value_is_no_keyword : (k : Kind) → is_value k ≡ true → is_keyword k ≡ false
 value_is_no_keyword kind.Keyword v = absurd (false≢true v)
 value_is_no_keyword _ v = refl
 
