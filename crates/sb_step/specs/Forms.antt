@@ -35,6 +35,11 @@ abbrev pub string_in : Option Param → Option (List ℕ)
 string_in (Some (param.Str text)) = Some text
 string_in _ = None
 
+-- `$`, which is no value
+abbrev pub is_null_in : Option Param → Bool
+is_null_in (Some param.Null) = true
+is_null_in _ = false
+
 -- a list of these parameters
 abbrev pub IsList : Option Param → List Param → Type 0
 IsList first ps = first ≡ Some (param.List ps)
@@ -71,3 +76,8 @@ enumeration_text _ text = None
 abbrev pub is_string : Kind → Bool
 is_string kind.Str = true
 is_string _ = false
+
+-- the mark `$`
+abbrev pub is_dollar : Kind → Bool
+is_dollar (kind.Mark mark.Dollar) = true
+is_dollar _ = false

@@ -36,6 +36,11 @@ fn show_next(
             Some(_items) => text.push(b'(')?,
             None => text.push(b'-')?,
         },
+        b't' => match cursor.typed() {
+            Some(typed) => text.extend_from_slice(typed.keyword)?,
+            None => text.push(b'-')?,
+        },
+        b'z' => text.push(if cursor.is_null() { b'y' } else { b'n' })?,
         _ => cursor.skip(),
     }
     text.push(b' ')?;
@@ -60,7 +65,8 @@ fn shown(alloc: Global, number: u32, forms: &[u8]) -> Result<Vec<u8>, AllocError
 }
 
 // An instance, the forms that its parameters are asked for, and what is given.
-const ROWS: [(u32, &[u8], &[u8]); 9] = [
+const ROWS: [(u32, &[u8], &[u8]); 10] = [
+    (1, b"tzt....t", b"- y -     C ..."),
     (1, b"#$n(es", b"2 $ 1.5 ( T it's ..."),
     (1, b"#$n(es....", b"2 $ 1.5 ( T it's     end"),
     (1, b"........s#", b"        ( 3 end"),

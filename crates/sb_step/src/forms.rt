@@ -7,6 +7,7 @@ ghost use Rattle.sb_step.specs.Forms.{reference_in, reference_or_none_in, number
 ghost use Rattle.std.specs.Prelude.{ℕ, slice_range, IsTrue};
 ghost use Rattle.sb_step.specs.KindTests.{is_keyword as is_keyword_of};
 ghost use Rattle.sb_step.specs.Forms.{enumeration_in, string_in, enumeration_text, is_string as is_string_of};
+ghost use Rattle.sb_step.specs.Forms.{is_null_in, is_dollar as is_dollar_of};
 ghost use Rattle.std.specs.Prelude.{◌≤◌, length, IfOk, OnOk, OnErr};
 ghost use Rattle.sb_step.specs.Forms.{name_of, name_or_none_of, number_text};
 
@@ -29,6 +30,16 @@ pub struct Typed<'a> {
 }
 
 impl<'a> Cursor<'a> {
+    /// Whether the next parameter is `$`, no value. The cursor stays where it stands.
+    pub fn is_null(&self) -> bool
+        ensures { result ≡ is_null_in (slice_get self.now 0) }
+    {
+        match self.place.next {
+            Some(token) => is_dollar(token.kind),
+            None => false,
+        }
+    }
+
     /// The number of the instance to which the next parameter refers. The cursor then stands behind
     /// it.
     ///
@@ -241,6 +252,12 @@ fn string_of(alloc: Global, bytes: &[u8], first: Token) -> Result<Option<Text>, 
     }
     let read = value(alloc, bytes, first)?;
     Ok(text_of(read))
+}
+
+fn is_dollar(kind: Kind) -> bool
+    ensures { result ≡ is_dollar_of kind }
+{
+    matches!(kind, Kind::Mark(Mark::Dollar))
 }
 
 fn is_string(kind: Kind) -> bool

@@ -15,7 +15,7 @@ use Rattle.sb_lex.specs.Bytes as byte
 use Rattle.theory_bytes.specs.Insides.{inside_of}
 use Rattle.theory_bytes.proofs.InsidesAreBetween.{inside-between}
 use Rattle.sb_step.specs.Cursor.{StandsAt, ListBehind}
-use Rattle.sb_step.specs.Forms.{reference_in, reference_or_none_in, number_in, enumeration_in, name_of, name_or_none_of, number_text, enumeration_text}
+use Rattle.sb_step.specs.Forms.{reference_in, reference_or_none_in, number_in, enumeration_in, is_null_in, is_dollar, name_of, name_or_none_of, number_text, enumeration_text}
 use Rattle.sb_step.proofs.ParameterLists.ParametersAreUnique.{SaysOn, TypedSays, says_on, parameter_once}
 use Rattle.sb_step.proofs.ParameterLists.SaidIsParameter.{says_value}
 use Rattle.sb_step.proofs.Cursors.ParametersArePassed.{value_opens_none}
@@ -46,7 +46,7 @@ typed_is x p rest (y ∷ xs) t = (t.inner, t.is)
 
 -- A form is told by the first token where it is so of a token that says a parameter, and where lists
 -- and typed parameters are not of it.
-module _ {V : Type 0} (form : Option Param → Option V) (by_token : Kind → List ℕ → Option V)
+module _ {V : Type 0} (form : Option Param → V) (by_token : Kind → List ℕ → V)
     (by_value : (k : Kind) (text : List ℕ) (p : Param) → Says k text p
     → form (Some p) ≡ by_token k text)
     (no_list : (ps : List Param) (text : List ℕ) → form (Some (param.List ps))
@@ -169,6 +169,27 @@ what_says_is_first bytes t [] s p says = absurd (false≢true (sym s.going ∙ a
 what_says_is_first bytes t (q ∷ ps) s p says =
     ap (λ q. Some q)
     (parameter_once s.says.first p s.xs (inl (says, refl))).0
+
+-- ---- no value
+
+null_says : (k : Kind) (text : List ℕ) (p : Param) → Says k text p
+    → is_null_in (Some p) ≡ is_dollar k
+null_says kind.Integer text p says = ap (λ q. is_null_in (Some q)) says
+null_says kind.Real text p says = ap (λ q. is_null_in (Some q)) says
+null_says kind.Str text p says = ap (λ q. is_null_in (Some q)) says.2
+null_says kind.Enumeration text p says = ap (λ q. is_null_in (Some q)) says.2
+null_says kind.Binary text p says = ap (λ q. is_null_in (Some q)) says.2
+null_says (kind.Name n) text p says = ap (λ q. is_null_in (Some q)) says
+null_says (kind.Mark mark.Dollar) text p says = ap (λ q. is_null_in (Some q)) says
+null_says (kind.Mark mark.Asterisk) text p says = ap (λ q. is_null_in (Some q)) says
+null_says _ text p says = absurd says
+
+-- no value is the mark `$`
+pub null_is : (bytes : List ℕ) (t : Token) (ps : List Param) → StandsAt bytes t ps
+    → is_null_in (slice_get ps 0) ≡ is_dollar t.kind
+null_is =
+    told_by_token is_null_in (λ k text. is_dollar k) null_says (λ ps text. refl)
+    (λ name text p. refl)
 
 -- ---- lists
 
