@@ -7,3 +7,5 @@ pub mod Collecting
 pub mod Records
 -- a parameter list says one list, and this is read
 pub mod ParameterLists
+-- a cursor stands before the parameters that are left
+pub mod Cursors

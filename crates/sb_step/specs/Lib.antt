@@ -14,3 +14,9 @@ pub mod Index
 pub mod Records
 -- what a parameter list says, and how it is read
 pub mod Params
+-- what a cursor over parameters stands before
+pub mod Cursor
+-- how it passes over one
+pub mod Passing
+-- and which form the next one has
+pub mod Forms

@@ -2,16 +2,23 @@
 //! its fault.
 #![tactic(auto)]
 
+mod cursor;
+#[cfg(test)]
+mod cursor_tests;
 mod error;
+mod forms;
 mod indexing;
 mod kinds;
 mod laws;
 mod parameters;
+mod passing;
 mod step_file;
 #[cfg(test)]
 mod tests;
 
+pub use crate::cursor::Cursor;
 pub use crate::error::{ParamsError, StepError};
+pub use crate::forms::Typed;
 pub use crate::indexing::index;
 pub use crate::laws::{one_file_or_one_fault, one_list_of_parameters};
 pub use crate::parameters::param::{Param, Params};

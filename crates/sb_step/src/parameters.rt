@@ -6,8 +6,8 @@ ghost use Rattle.sb_step.specs.Params.Parameters.{HasParameters};
 ghost use Rattle.sb_step.specs.Params.ParamsAnswers.{IsParamsAnswer, HasMemory, AwaitsByForm, SaysByForm, AwaitsList, ListSays, Gives};
 
 pub(crate) mod param;
-mod reading;
-mod values;
+pub(crate) mod reading;
+pub(crate) mod values;
 
 use crate::error::ParamsError;
 use crate::laws::one_list_of_parameters;

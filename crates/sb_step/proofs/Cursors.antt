@@ -1,0 +1,7 @@
+-- A cursor stands before the parameters of its instance that are left.
+pub mod LeftIsUnique
+pub mod CursorsBegin
+pub mod ParametersClose
+pub mod ParametersArePassed
+pub mod FormsByToken
+pub mod TypedByToken
