@@ -38,7 +38,8 @@ use Rattle.theory_parity.proofs.TurnedLoops.{way-more, turned_edges}
 turn-turned : (e : Edge) (p : Spot) → turn_at (turned_edge e) p ≡ neg_ℤ (turn_at e p)
 turn-turned e p = cross-turn (seen_from p e.a) (seen_from p e.b)
 
-on-turned : (p : Spot) (e : Edge) → is_on p (turned_edge e) ≡ is_on p e
+-- nor does a point that lies on it
+pub on-turned : (p : Spot) (e : Edge) → is_on p (turned_edge e) ≡ is_on p e
 on-turned p e =
     ap₂ (λ s t. s && t)
     (ap (λ n. int_eq n (pos 0)) (turn-turned e p) ∙ opposite_zero (turn_at e p))

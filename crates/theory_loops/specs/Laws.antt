@@ -1,0 +1,86 @@
+-- The laws of loops that are handed in.
+
+use Rattle.std.specs.Prelude.{◌≡◌, pos, true, false, not, IsTrue, List}
+use Rattle.std.specs.List.{list_all, list_any}
+use Rattle.theory_lists.specs.Parity.{differ, is_odd_number}
+use Rattle.theory_numbers.specs.Arrows.{Arrow}
+use Rattle.sb_fraction.specs.declared.point.Point.{Point}
+use Rattle.sb_fraction.specs.Plane.{is_plan_point}
+use Rattle.sb_fraction.specs.Spots.{Spot}
+use Rattle.sb_fraction.specs.Edges.{edge, is_on}
+use Rattle.theory_plans.specs.LoopEdges.{edges_of}
+use Rattle.theory_plans.specs.Inside.{is_crossed, is_in_plan}
+use Rattle.theory_plans.specs.Loops.{bend, is_bent_loop, is_loop}
+use Rattle.theory_plans.specs.Plans.{is_same_point, is_of_each_two, is_plan}
+use Rattle.theory_plans.specs.Rays.{is_struck}
+use Rattle.theory_loops.specs.Normal.{normal_loop}
+use Rattle.theory_loops.specs.Answers.{keeps_few, are_flat, are_knotted, plan_of}
+
+-- ---- a point that is dropped
+
+-- of three points on one line, a ray strikes the edge between the outer two exactly where it strikes
+-- one of the two edges between neighbours and not both
+abbrev pub HasDropStruck : Type 0
+HasDropStruck =
+    (r : Arrow) (p : Spot) (a b c : Point) → bend a b c ≡ pos 0
+    → differ (is_struck r p (edge a b)) (is_struck r p (edge b c)) ≡ is_struck r p (edge a c)
+
+-- so with the ray to the right
+abbrev pub HasDropCrossed : Type 0
+HasDropCrossed =
+    (p : Spot) (a b c : Point) → bend a b c ≡ pos 0
+    → differ (is_crossed p (edge a b)) (is_crossed p (edge b c)) ≡ is_crossed p (edge a c)
+
+-- a point on neither of the two edges between neighbours is not on the edge between the outer two
+abbrev pub HasOuterCovered : Type 0
+HasOuterCovered =
+    (p : Spot) (a b c : Point) → bend a b c ≡ pos 0 → is_on p (edge a b) ≡ false
+    → is_on p (edge b c) ≡ false → is_on p (edge a c) ≡ false
+
+-- ---- the plan is the same
+
+-- at each point an odd number of edges of the plan cross the ray to the right exactly where an odd
+-- number of the edges handed in do
+abbrev pub HasSameParity : Type 0
+HasSameParity =
+    (loops : List (List Point)) (p : Spot)
+    → is_odd_number (is_crossed p) (edges_of (plan_of loops))
+    ≡ is_odd_number (is_crossed p) (edges_of loops)
+
+-- a point on no edge handed in is on no edge of the plan
+abbrev pub HasNoOtherEdge : Type 0
+HasNoOtherEdge =
+    (loops : List (List Point)) (p : Spot) → list_any (is_on p) (edges_of loops) ≡ false
+    → list_any (is_on p) (edges_of (plan_of loops)) ≡ false
+
+-- so such a point lies inside the plan exactly where it lies inside the loops handed in
+abbrev pub HasSameInside : Type 0
+HasSameInside =
+    (loops : List (List Point)) (p : Spot) → list_any (is_on p) (edges_of loops) ≡ false
+    → is_in_plan (plan_of loops) p ≡ is_in_plan loops p
+
+-- ---- what comes out is a plan
+
+-- a loop that keeps three points or more is bent at each
+abbrev pub HasNormalBent : Type 0
+HasNormalBent =
+    (points : List Point) → keeps_few points ≡ false → is_bent_loop (normal_loop points) ≡ true
+
+-- where its points are in range and no two that it keeps are one, it is a normalised loop
+abbrev pub HasNormalLoop : Type 0
+HasNormalLoop =
+    (points : List Point) → list_all is_plan_point points ≡ true → keeps_few points ≡ false
+    → is_of_each_two (λ a b. not (is_same_point a b)) (normal_loop points) ≡ true
+    → is_loop (normal_loop points) ≡ true
+
+-- loops in range that are neither flat nor knotted give a plan
+abbrev pub HasPlan : Type 0
+HasPlan =
+    (loops : List (List Point)) → list_all (list_all is_plan_point) loops ≡ true
+    → are_flat loops ≡ false → are_knotted loops ≡ false → is_plan (plan_of loops) ≡ true
+
+-- and a plan is neither, and is left as it is
+abbrev pub HasPlanOnce : Type 0
+HasPlanOnce =
+    (loops : List (List Point)) → IsTrue (is_plan loops)
+    → (are_flat loops ≡ false) × ((are_knotted loops ≡ false) × (plan_of loops ≡ loops))

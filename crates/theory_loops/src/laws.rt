@@ -1,0 +1,28 @@
+ghost use Rattle.theory_loops.specs.Laws.{HasDropStruck, HasDropCrossed, HasOuterCovered, HasSameParity, HasNoOtherEdge, HasSameInside, HasNormalBent, HasNormalLoop, HasPlan, HasPlanOnce};
+
+/// Of three points on one line, equal ones and spikes among them, a ray strikes the edge between the
+/// outer two exactly where it strikes one of the edges between neighbours and not both; and each
+/// point of that edge lies on one of these.
+pub fn drop_point()
+    ensures struck { HasDropStruck }
+    ensures crossed { HasDropCrossed }
+    ensures covered { HasOuterCovered }
+{}
+
+/// The plan of loops is what they were when they were handed in: at each point an odd number of its
+/// edges cross the ray to the right where an odd number of theirs do, and a point on none of their
+/// edges is on none of its edges, and inside it where it is inside them.
+pub fn same_plan()
+    ensures parity { HasSameParity }
+    ensures no_other_edge { HasNoOtherEdge }
+    ensures inside { HasSameInside }
+{}
+
+/// Loops in range that are neither flat nor knotted give a plan; a plan is neither, and stays as it
+/// is.
+pub fn plans_come_out()
+    ensures bent { HasNormalBent }
+    ensures normal { HasNormalLoop }
+    ensures plan { HasPlan }
+    ensures once { HasPlanOnce }
+{}
