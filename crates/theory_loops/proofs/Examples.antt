@@ -1,10 +1,13 @@
 -- Worked loops: what is dropped, where the loop begins, and which of the three answers loops get.
 
-use Rattle.std.proofs.Common.{◌≡◌, refl, ℕ, true, false, Bool, List, [], ◌∷◌, pos}
+use Rattle.std.proofs.Common.{◌≡◌, refl, ℕ, true, false, Bool, List, [], ◌∷◌, pos, arith}
+use Rattle.std.proofs.lemmas.Int.{ints}
 use Rattle.theory_numbers.specs.Arrows.{cross, dot}
 use Rattle.sb_fraction.specs.declared.point.Point.{Point}
 use Rattle.theory_plans.specs.Rectangles.{corner}
 use Rattle.theory_loops.specs.Normal.{drop_first, dropped, normal_loop}
+use Rattle.theory_loops.specs.Orders.{IsLevelAt, Becomes, IsSameLoop}
+use Rattle.theory_loops.specs.Orders.Becomes.{stays, begins_next, loses_first}
 use Rattle.theory_loops.specs.Answers.{are_flat, are_knotted, plan_of}
 
 abbrev at : ℕ → ℕ → Point
@@ -58,6 +61,26 @@ there_and_back_round_a_corner = refl
 least_first : normal_loop (at 5 0 ∷ at 9 5 ∷ at 0 8 ∷ at 0 2 ∷ [])
     ≡ at 0 2 ∷ at 5 0 ∷ at 9 5 ∷ at 0 8 ∷ []
 least_first = refl
+
+-- ---- in another order
+
+-- of two points within an edge the second may go first: the loop is begun at it, and stays there
+second_before_first : Becomes (at 0 0 ∷ at 3 0 ∷ at 6 0 ∷ at 9 0 ∷ at 0 9 ∷ [])
+    (at 9 0 ∷ at 0 9 ∷ at 0 0 ∷ [])
+second_before_first =
+    begins_next (begins_next (loses_first refl
+    (begins_next (begins_next (begins_next (loses_first refl stays))))))
+
+-- it is the normal form, read from another point
+read_from_another :
+    IsSameLoop (at 9 0 ∷ at 0 9 ∷ at 0 0 ∷ [])
+    (normal_loop (at 0 0 ∷ at 3 0 ∷ at 6 0 ∷ at 9 0 ∷ at 0 9 ∷ []))
+read_from_another =
+    record { front = at 9 0 ∷ at 0 9 ∷ []; back = at 0 0 ∷ []; one = refl; other = refl }
+
+-- a corner may not go
+corner_stays : IsLevelAt (at 9 0) (at 0 9 ∷ at 0 0 ∷ []) → ⊥
+corner_stays level = absurd (omega (arith, ints, level))
 
 -- ---- plans
 

@@ -2,7 +2,7 @@
 
 use Rattle.std.proofs.Common.{◌≡◌, refl, sym, ap, ◌∙◌, subst, ◌⊎◌, inl, inr, arith}
 use Rattle.std.proofs.Common.{◌<ℤ◌, Bool, true, false, not, ◌&&◌, int_lt, List, [], ◌∷◌, ◌++◌}
-use Rattle.std.proofs.Common.{if◌then◌else◌}
+use Rattle.std.proofs.Common.{if◌then◌else◌, length}
 use Rattle.std.specs.Ordering.{int_eq}
 use Rattle.std.specs.List.{list_all, AllByRecursion}
 use Rattle.std.proofs.lemmas.Int.{ints}
@@ -16,7 +16,7 @@ use Rattle.sb_fraction.specs.declared.point.Point.{Point}
 use Rattle.theory_plans.specs.Loops.{comes_before, is_least_first}
 use Rattle.theory_plans.specs.Plans.{is_same_point, is_of_each_two}
 use Rattle.theory_plans.proofs.EdgesOfPlans.{same_point}
-use Rattle.theory_loops.specs.Normal.{least_of, read_from, from_least}
+use Rattle.theory_loops.specs.Normal.{first_of, least_of, read_from, from_least}
 use Rattle.theory_loops.proofs.DropsKeep.{from_least_keeps}
 
 -- ---- the order of points
@@ -197,6 +197,27 @@ all_behind m (b ∷ points) late other =
     (list_all (λ c. not (is_same_point m c)) points) other in
     and_from (comes_before m b) (list_all (comes_before m) points)
     (before_or_same m b late.0 parts.0) (all_behind m points late.1 parts.1)
+
+-- no point comes before the one at which it begins
+pub none_before_head : (points : List Point) (c : Point) (rest : List Point)
+    → from_least points ≡ c ∷ rest → AllByRecursion (IsNotBefore c) (c ∷ rest)
+none_before_head [] c rest same = absurd (none (ap length same))
+  where
+    none : 0 ≡ length (c ∷ rest) → ⊥
+    none size = absurd (omega (arith, size))
+none_before_head (a ∷ points) c rest same =
+    subst (AllByRecursion (IsNotBefore c)) same
+    (subst (λ h. AllByRecursion (IsNotBefore h) (from_least (a ∷ points))) head_is
+    (from_least_keeps (AllByRecursion (IsNotBefore m)) (next_of_all m) (a ∷ points)
+    (none_before_least a points)))
+  where
+    m : Point
+    m = least_of a points
+
+    head_is : m ≡ c
+    head_is =
+        let at = begins m [] (a ∷ points) (least_stands a points) in
+        ap (λ l. first_of l m) (sym at.1 ∙ same)
 
 -- no point twice: it comes before all others
 pub least_is_first : (points : List Point)

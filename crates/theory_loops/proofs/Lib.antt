@@ -12,4 +12,10 @@ pub mod NormalIsLoop
 pub mod SamePlan
 pub mod PlanComesOut
 pub mod PlansStay
+-- any order
+pub mod SameLoop
+pub mod TwoDropsMeet
+pub mod AnyOrder
+pub mod LeftInAnyOrder
+pub mod ApartFromAny
 mod Examples

@@ -41,7 +41,8 @@ bent_from_next a (b ∷ c ∷ points) bent =
     let parts = and_parts (is_bent a b c) (are_bent b c points a b) bent in
     bent_with_last b c points a b c parts.1 parts.0
 
-done_from_next : (a : Point) (points : List Point) → IsDone (a ∷ points)
+-- nothing is left to drop, from whichever point it is read
+pub done_from_next : (a : Point) (points : List Point) → IsDone (a ∷ points)
     → IsDone (points ++ (a ∷ []))
 done_from_next a points (inl none) = absurd (some (ap length none))
   where

@@ -49,7 +49,7 @@ less_or_bent before (b ∷ points) beyond =
 -- ---- a loop
 
 -- a way there and back goes straight
-there_and_back : (a b : Point) → bend a b a ≡ pos 0
+pub there_and_back : (a b : Point) → bend a b a ≡ pos 0
 there_and_back a b =
     equal
     (minus (times (minus (var b.x) (var a.x)) (minus (var a.y) (var b.y)))

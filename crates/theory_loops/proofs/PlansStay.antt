@@ -31,7 +31,8 @@ same_between before (b ∷ points) beyond bent =
     ap (λ t. if t then b ∷ drop_between b points beyond else points) parts.0
     ∙ ap (λ l. b ∷ l) (same_between b points beyond parts.1)
 
-between_from : (a b : Point) (points : List Point) (first second : Point)
+-- the way back to the first and the second point, point by point
+pub between_from : (a b : Point) (points : List Point) (first second : Point)
     → are_bent a b points first second ≡ true
     → (is_bent_between a (b ∷ points) first ≡ true) × (is_bent (last_of b points) first second ≡ true)
 between_from a b [] first second bent =

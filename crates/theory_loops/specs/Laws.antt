@@ -1,6 +1,6 @@
 -- The laws of loops that are handed in.
 
-use Rattle.std.specs.Prelude.{◌≡◌, pos, true, false, not, IsTrue, List}
+use Rattle.std.specs.Prelude.{◌≡◌, ◌<◌, pos, true, false, not, IsTrue, List, length}
 use Rattle.std.specs.List.{list_all, list_any}
 use Rattle.theory_lists.specs.Parity.{differ, is_odd_number}
 use Rattle.theory_numbers.specs.Arrows.{Arrow}
@@ -10,11 +10,12 @@ use Rattle.sb_fraction.specs.Spots.{Spot}
 use Rattle.sb_fraction.specs.Edges.{edge, is_on}
 use Rattle.theory_plans.specs.LoopEdges.{edges_of}
 use Rattle.theory_plans.specs.Inside.{is_crossed, is_in_plan}
-use Rattle.theory_plans.specs.Loops.{bend, is_bent_loop, is_loop}
-use Rattle.theory_plans.specs.Plans.{is_same_point, is_of_each_two, is_plan}
+use Rattle.theory_plans.specs.Loops.{bend, is_bent_loop, is_least_first, is_loop}
+use Rattle.theory_plans.specs.Plans.{is_same_point, is_of_each_two, are_apart, is_plan}
 use Rattle.theory_plans.specs.Rays.{is_struck}
 use Rattle.theory_loops.specs.Normal.{normal_loop}
 use Rattle.theory_loops.specs.Answers.{keeps_few, are_flat, are_knotted, plan_of}
+use Rattle.theory_loops.specs.Orders.{Becomes, IsSameLoop, AreSameLoops}
 
 -- ---- a point that is dropped
 
@@ -36,6 +37,35 @@ abbrev pub HasOuterCovered : Type 0
 HasOuterCovered =
     (p : Spot) (a b c : Point) → bend a b c ≡ pos 0 → is_on p (edge a b) ≡ false
     → is_on p (edge b c) ≡ false → is_on p (edge a c) ≡ false
+
+-- ---- in any order
+
+-- the normal form comes of the loop
+abbrev pub HasNormalLeft : Type 0
+HasNormalLeft = (points : List Point) → Becomes points (normal_loop points)
+
+-- whatever was dropped before, a bent loop that comes of it is the normal form, read from some point
+abbrev pub HasOneLeft : Type 0
+HasOneLeft =
+    (points left : List Point) → Becomes points left → is_bent_loop left ≡ true
+    → IsSameLoop left (normal_loop points)
+
+-- begun at its least point it is the normal form
+abbrev pub HasLeastLeft : Type 0
+HasLeastLeft =
+    (points left : List Point) → Becomes points left → is_bent_loop left ≡ true
+    → is_least_first left ≡ true → left ≡ normal_loop points
+
+-- and where fewer than three points come of it, it keeps fewer than three
+abbrev pub HasFewLeft : Type 0
+HasFewLeft =
+    (points left : List Point) → Becomes points left → length left < 3 → keeps_few points ≡ true
+
+-- whether edges are apart does not depend on the points from which the loops are read
+abbrev pub HasApartFromAny : Type 0
+HasApartFromAny =
+    (loops others : List (List Point)) → AreSameLoops loops others
+    → are_apart loops ≡ are_apart others
 
 -- ---- the plan is the same
 

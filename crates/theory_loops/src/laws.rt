@@ -1,4 +1,4 @@
-ghost use Rattle.theory_loops.specs.Laws.{HasDropStruck, HasDropCrossed, HasOuterCovered, HasSameParity, HasNoOtherEdge, HasSameInside, HasNormalBent, HasNormalLoop, HasPlan, HasPlanOnce};
+ghost use Rattle.theory_loops.specs.Laws.{HasDropStruck, HasDropCrossed, HasOuterCovered, HasNormalLeft, HasOneLeft, HasLeastLeft, HasFewLeft, HasApartFromAny, HasSameParity, HasNoOtherEdge, HasSameInside, HasNormalBent, HasNormalLoop, HasPlan, HasPlanOnce};
 
 /// Of three points on one line, equal ones and spikes among them, a ray strikes the edge between the
 /// outer two exactly where it strikes one of the edges between neighbours and not both; and each
@@ -7,6 +7,18 @@ pub fn drop_point()
     ensures struck { HasDropStruck }
     ensures crossed { HasDropCrossed }
     ensures covered { HasOuterCovered }
+{}
+
+/// In whatever order points that lie on one line with their neighbours are dropped from a closed
+/// loop, what is left with none to drop is its normal form, read from some point; begun at its least
+/// point it is the normal form itself. Fewer than three points are left in one order where they are in
+/// each. Edges are apart from whichever points the loops are read.
+pub fn any_order()
+    ensures normal { HasNormalLeft }
+    ensures one { HasOneLeft }
+    ensures least { HasLeastLeft }
+    ensures few { HasFewLeft }
+    ensures apart { HasApartFromAny }
 {}
 
 /// The plan of loops is what they were when they were handed in: at each point an odd number of its
