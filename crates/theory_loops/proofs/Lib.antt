@@ -18,4 +18,7 @@ pub mod TwoDropsMeet
 pub mod AnyOrder
 pub mod LeftInAnyOrder
 pub mod ApartFromAny
+-- touching
+pub mod TouchingHavePoint
+pub mod ApartInWords
 mod Examples

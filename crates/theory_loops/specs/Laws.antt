@@ -1,21 +1,23 @@
 -- The laws of loops that are handed in.
 
-use Rattle.std.specs.Prelude.{◌≡◌, ◌<◌, pos, true, false, not, IsTrue, List, length}
+use Rattle.std.specs.Prelude.{◌≡◌, ◌↔◌, ◌<◌, pos, true, false, not, IsTrue, List, length}
 use Rattle.std.specs.List.{list_all, list_any}
+use Rattle.theory_lists.specs.Members.{AllOfTwo, AreOnce}
 use Rattle.theory_lists.specs.Parity.{differ, is_odd_number}
 use Rattle.theory_numbers.specs.Arrows.{Arrow}
 use Rattle.sb_fraction.specs.declared.point.Point.{Point}
 use Rattle.sb_fraction.specs.Plane.{is_plan_point}
-use Rattle.sb_fraction.specs.Spots.{Spot}
-use Rattle.sb_fraction.specs.Edges.{edge, is_on}
+use Rattle.sb_fraction.specs.Spots.{Spot, IsSpot}
+use Rattle.sb_fraction.specs.Edges.{Edge, edge, is_on}
 use Rattle.theory_plans.specs.LoopEdges.{edges_of}
 use Rattle.theory_plans.specs.Inside.{is_crossed, is_in_plan}
 use Rattle.theory_plans.specs.Loops.{bend, is_bent_loop, is_least_first, is_loop}
-use Rattle.theory_plans.specs.Plans.{is_same_point, is_of_each_two, are_apart, is_plan}
+use Rattle.theory_plans.specs.Plans.{is_same_point, is_of_each_two, do_touch, corners_in}
+use Rattle.theory_plans.specs.Plans.{are_apart, is_plan}
 use Rattle.theory_plans.specs.Rays.{is_struck}
 use Rattle.theory_loops.specs.Normal.{normal_loop}
 use Rattle.theory_loops.specs.Answers.{keeps_few, are_flat, are_knotted, plan_of}
-use Rattle.theory_loops.specs.Orders.{Becomes, IsSameLoop, AreSameLoops}
+use Rattle.theory_loops.specs.Orders.{Becomes, IsSameLoop, AreSameLoops, MeetConsecutively}
 
 -- ---- a point that is dropped
 
@@ -66,6 +68,19 @@ abbrev pub HasApartFromAny : Type 0
 HasApartFromAny =
     (loops others : List (List Point)) → AreSameLoops loops others
     → are_apart loops ≡ are_apart others
+
+-- two edges touch exactly where they have a point in common
+abbrev pub HasTouch : Type 0
+HasTouch =
+    (e f : Edge) → do_touch e f ≡ true
+    ↔ ((p : Spot) × (IsSpot p × ((is_on p e ≡ true) × (is_on p f ≡ true))))
+
+-- edges are apart exactly where no point is a corner twice and two of them have a point in common
+-- only where one begins as the other ends
+abbrev pub HasApartInWords : Type 0
+HasApartInWords =
+    (loops : List (List Point)) → are_apart loops ≡ true
+    ↔ (AreOnce (corners_in loops) × AllOfTwo MeetConsecutively (edges_of loops))
 
 -- ---- the plan is the same
 

@@ -1,8 +1,12 @@
--- Points dropped from a closed loop in any order, and one closed loop read from two of its points.
+-- Points dropped from a closed loop in any order, one closed loop read from two of its points, and
+-- edges that meet only where they are consecutive.
 
-use Rattle.std.specs.Prelude.{◌≡◌, pos, List, [], ◌∷◌, ◌++◌}
+use Rattle.std.specs.Prelude.{◌≡◌, pos, true, List, [], ◌∷◌, ◌++◌}
 use Rattle.sb_fraction.specs.declared.point.Point.{Point}
+use Rattle.sb_fraction.specs.Spots.{Spot, IsSpot}
+use Rattle.sb_fraction.specs.Edges.{Edge, is_on}
 use Rattle.theory_plans.specs.Loops.{bend}
+use Rattle.theory_plans.specs.Plans.{is_consecutive}
 use Rattle.theory_loops.specs.Normal.{first_of, last_of}
 
 -- the first point of the closed loop lies on one line with its two neighbours, the last point and
@@ -33,3 +37,8 @@ AreSameLoops [] [] = Unit {0}
 AreSameLoops [] (ys ∷ others) = ⊥
 AreSameLoops (xs ∷ loops) [] = ⊥
 AreSameLoops (xs ∷ loops) (ys ∷ others) = IsSameLoop xs ys × AreSameLoops loops others
+
+-- where the two edges have a point in common one of them begins as the other ends
+abbrev pub MeetConsecutively : Edge → Edge → Type 0
+MeetConsecutively e f =
+    (p : Spot) → IsSpot p → is_on p e ≡ true → is_on p f ≡ true → is_consecutive e f ≡ true

@@ -1,4 +1,4 @@
-ghost use Rattle.theory_loops.specs.Laws.{HasDropStruck, HasDropCrossed, HasOuterCovered, HasNormalLeft, HasOneLeft, HasLeastLeft, HasFewLeft, HasApartFromAny, HasSameParity, HasNoOtherEdge, HasSameInside, HasNormalBent, HasNormalLoop, HasPlan, HasPlanOnce};
+ghost use Rattle.theory_loops.specs.Laws.{HasDropStruck, HasDropCrossed, HasOuterCovered, HasNormalLeft, HasOneLeft, HasLeastLeft, HasFewLeft, HasApartFromAny, HasTouch, HasApartInWords, HasSameParity, HasNoOtherEdge, HasSameInside, HasNormalBent, HasNormalLoop, HasPlan, HasPlanOnce};
 
 /// Of three points on one line, equal ones and spikes among them, a ray strikes the edge between the
 /// outer two exactly where it strikes one of the edges between neighbours and not both; and each
@@ -19,6 +19,13 @@ pub fn any_order()
     ensures least { HasLeastLeft }
     ensures few { HasFewLeft }
     ensures apart { HasApartFromAny }
+{}
+
+/// Two edges touch exactly where they have a point in common; so the edges of loops are apart exactly
+/// where no point is a corner twice and two edges meet only where one begins as the other ends.
+pub fn edges_meet()
+    ensures touch { HasTouch }
+    ensures apart { HasApartInWords }
 {}
 
 /// The plan of loops is what they were when they were handed in: at each point an odd number of its
