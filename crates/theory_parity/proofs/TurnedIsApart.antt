@@ -38,7 +38,8 @@ use Rattle.theory_parity.proofs.TurnedLoops.{way-more, turned_edges}
 turn-turned : (e : Edge) (p : Spot) → turn_at (turned_edge e) p ≡ neg_ℤ (turn_at e p)
 turn-turned e p = cross-turn (seen_from p e.a) (seen_from p e.b)
 
-on-turned : (p : Spot) (e : Edge) → is_on p (turned_edge e) ≡ is_on p e
+-- nor does a point that lies on it
+pub on-turned : (p : Spot) (e : Edge) → is_on p (turned_edge e) ≡ is_on p e
 on-turned p e =
     ap₂ (λ s t. s && t)
     (ap (λ n. int_eq n (pos 0)) (turn-turned e p) ∙ opposite_zero (turn_at e p))
@@ -104,7 +105,8 @@ touch_turned e f = touch_comm e (turned_edge f) ∙ touch-turned f e ∙ touch_c
 
 -- ---- two edges that are apart
 
-same_comm : (a b : Point) → is_same_point a b ≡ is_same_point b a
+-- whether two points are one does not depend on their order
+pub same_comm : (a b : Point) → is_same_point a b ≡ is_same_point b a
 same_comm a b = ap₂ (λ s t. s && t) (swapped a.x b.x) (swapped a.y b.y)
   where
     swapped : (m n : ℤ) → int_eq m n ≡ int_eq n m
@@ -123,7 +125,8 @@ or_comm false false = refl
 abbrev pub AreNear : Edge → Edge → Type 0
 AreNear e f = (is_consecutive e f || not (do_touch e f)) ≡ true
 
-near_comm : (e f : Edge) → AreNear e f → AreNear f e
+-- nor whether two edges are near each other
+pub near_comm : (e f : Edge) → AreNear e f → AreNear f e
 near_comm e f near =
     ap₂ (λ s t. s || not t) (or_comm (is_same_point f.b e.a) (is_same_point e.b f.a))
     (touch_comm f e)
@@ -149,7 +152,8 @@ two_of_each {X} R f step (x ∷ xs) two =
     mapped [] all = tt
     mapped (y ∷ ys) all = (step x y all.0, mapped ys all.1)
 
-pass_each_two : {X : Type 0} (test : X → X → Bool) (xs : List X)
+-- what holds of each two passes of each two
+pub pass_each_two : {X : Type 0} (test : X → X → Bool) (xs : List X)
     → AllOfTwo (λ x y. test x y ≡ true) xs → is_of_each_two test xs ≡ true
 pass_each_two test [] two = refl
 pass_each_two test (x ∷ xs) two =

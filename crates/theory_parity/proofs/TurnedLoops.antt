@@ -109,7 +109,7 @@ module _ (test : Edge → Bool) (sees_none : (e : Edge) → test (turned_edge e)
       by false = odd_turned points
 
   -- so it is where some of the loops are turned
-  odd_where_put : (edges : List Edge) (loops : List (List Point))
+  pub odd_where_put : (edges : List Edge) (loops : List (List Point))
       → is_odd_number test (edges_of (map (put_left edges) loops))
       ≡ is_odd_number test (edges_of loops)
   odd_where_put edges [] = refl
