@@ -1,0 +1,82 @@
+-- Slabs of a direction: the plan between two abscissae with no abscissa between them, the edges that
+-- span it, and their order from below.
+
+use Rattle.std.specs.Prelude.{◌≡◌, ◌⊎◌, ℕ, suc, ◌<◌, pos, ◌<ℤ◌, Bool, true, false, ◌&&◌, ◌||◌}
+use Rattle.std.specs.Prelude.{List, [], ◌∷◌, Some, slice_get, if◌then◌else◌, IsPermutation}
+use Rattle.theory_lists.specs.Members.{AllOfTwo}
+use Rattle.theory_numbers.specs.Arrows.{Arrow}
+use Rattle.theory_numbers.specs.Rationals.{rational, IsRational, IsBelow, is_at_most, IsZeroForm}
+use Rattle.theory_plane.specs.Sides.{clearance, clearance_at}
+use Rattle.sb_fraction.specs.declared.point.Point.{Point}
+use Rattle.sb_fraction.specs.Edges.{Edge}
+use Rattle.sb_fraction.specs.Crossings.{abscissa_at}
+use Rattle.sb_fraction.specs.Lines.{flat, line_over}
+use Rattle.sb_model.specs.Building.{Building}
+use Rattle.sb_model.specs.PlanEdges.{PlanEdge, is_abscissa}
+
+-- ---- slabs
+
+-- a slab of the direction d of a model, from low to high: no abscissa of d lies strictly between
+pub record IsSlab (m : Building) (d low high : Arrow) : Type 0 where
+  pub low_in : IsRational low
+  pub high_in : IsRational high
+  pub wide : IsBelow low high
+  pub none : (u : Arrow) → IsRational u → IsBelow low u → IsBelow u high
+      → is_abscissa m (flat d) u ≡ false
+
+-- low and high are neighbouring abscissae of d: both are abscissae, and none lies between
+pub record AreNeighbours (m : Building) (d low high : Arrow) : Type 0 where
+  pub slab : IsSlab m d low high
+  pub first : is_abscissa m (flat d) low ≡ true
+  pub last : is_abscissa m (flat d) high ≡ true
+
+-- ---- the edges of a slab
+
+-- the abscissa of a plan point along d, as a number
+abbrev pub abscissa_along : Arrow → Point → Arrow
+abscissa_along d p = rational (abscissa_at p (flat d)) (pos 1)
+
+-- from the first point, at low or before, to the second, at high or after
+abbrev pub runs_over : Arrow → Arrow → Arrow → Point → Point → Bool
+runs_over d low high a b =
+    is_at_most (abscissa_along d a) low && is_at_most high (abscissa_along d b)
+
+-- the edge spans the slab from low to high: one of its ends lies at low or before, the other at high
+-- or after
+abbrev pub is_spanning : Arrow → Arrow → Arrow → Edge → Bool
+is_spanning d low high e = runs_over d low high e.a e.b || runs_over d low high e.b e.a
+
+-- the places, counted from n, of the items that pass the test
+abbrev pub places_from : {X : Type 0} → (X → Bool) → ℕ → List X → List ℕ
+places_from test n [] = []
+places_from test n (x ∷ xs) =
+    if test x then n ∷ places_from test (suc n) xs else places_from test (suc n) xs
+
+-- the places of the edges that span the slab, counted from 0
+abbrev pub spanning_places : List PlanEdge → Arrow → Arrow → Arrow → List ℕ
+spanning_places edges d low high = places_from (λ e. is_spanning d low high e.edge) 0 edges
+
+-- ---- their order
+
+-- e lies below f at every u strictly between low and high
+abbrev pub IsUnder : Arrow → Arrow → Arrow → Edge → Edge → Type 0
+IsUnder d low high e f =
+    (u : Arrow) → IsRational u → IsBelow low u → IsBelow u high
+    → pos 0 <ℤ clearance_at (line_over d e) (line_over d f) u
+
+-- the two lie on one line
+abbrev pub AreOnOneLine : Arrow → Edge → Edge → Type 0
+AreOnOneLine d e f = IsZeroForm (clearance (line_over d e) (line_over d f))
+
+-- the edge at place i comes before that at place j: it lies below it strictly inside the slab, or
+-- both lie on one line and i is the lesser place
+abbrev pub IsUnderOver : List PlanEdge → Arrow → Arrow → Arrow → ℕ → ℕ → Type 0
+IsUnderOver edges d low high i j =
+    (e f : PlanEdge) → slice_get edges i ≡ Some e → slice_get edges j ≡ Some f
+    → IsUnder d low high e.edge f.edge ⊎ (AreOnOneLine d e.edge f.edge × (i < j))
+
+-- the order of a slab from below: the places of exactly the edges that span it, each once, and of
+-- each two the earlier comes before the later
+pub record IsSlabOrder (edges : List PlanEdge) (d low high : Arrow) (order : List ℕ) : Type 0 where
+  pub spanning : IsPermutation order (spanning_places edges d low high)
+  pub ordered : AllOfTwo (IsUnderOver edges d low high) order
