@@ -1,2 +1,3 @@
 -- What the laws speak of.
 pub mod Slabs
+pub mod Sorted
