@@ -9,3 +9,4 @@ pub mod LinesMeetAtCrossings
 -- the order of two
 pub mod OneLiesBelow
 pub mod SlabOrderIsOne
+pub mod SortedByValues

@@ -73,6 +73,11 @@ value_of_none form r zero =
     dot_eq form r ∙ ap₂ (λ a b. (a *ℤ r.x) +ℤ (b *ℤ r.y)) zero.0 zero.1
     ∙ equal (plus (times (num 0) (var r.x)) (times (num 0) (var r.y))) (num 0) (omega arith)
 
+-- two on one line have one value at each number
+pub one_line_meets : (d : Arrow) (e f : Edge) → AreOnOneLine d e f → (u : Arrow)
+    → clearance_at (line_over d e) (line_over d f) u ≡ pos 0
+one_line_meets d e f one u = value_of_none (clearance (line_over d e) (line_over d f)) u one
+
 -- the line of neither leads
 pub one_line_leads_not : (u d : Arrow) (e f : Edge) → AreOnOneLine d e f
     → leads u (line_over d e) (line_over d f) ≡ false

@@ -1,8 +1,9 @@
 -- Slabs of a direction: the plan between two abscissae with no abscissa between them, the edges that
 -- span it, and their order from below.
 
-use Rattle.std.specs.Prelude.{◌≡◌, ◌⊎◌, ℕ, suc, ◌<◌, pos, ◌<ℤ◌, Bool, true, false, ◌&&◌, ◌||◌}
-use Rattle.std.specs.Prelude.{List, [], ◌∷◌, Some, slice_get, if◌then◌else◌, IsPermutation}
+use Rattle.std.specs.Prelude.{◌≡◌, ◌⊎◌, ℕ, suc, ◌<◌, pos, ◌<ℤ◌, ◌≤ℤ◌, Bool, true, false}
+use Rattle.std.specs.Prelude.{◌&&◌, ◌||◌, List, [], ◌∷◌, Option, Some, None, slice_get}
+use Rattle.std.specs.Prelude.{if◌then◌else◌, IsPermutation}
 use Rattle.theory_lists.specs.Members.{AllOfTwo}
 use Rattle.theory_numbers.specs.Arrows.{Arrow}
 use Rattle.theory_numbers.specs.Rationals.{rational, IsRational, IsBelow, is_at_most, IsZeroForm}
@@ -13,6 +14,7 @@ use Rattle.sb_fraction.specs.Crossings.{abscissa_at}
 use Rattle.sb_fraction.specs.Lines.{flat, line_over}
 use Rattle.sb_model.specs.Building.{Building}
 use Rattle.sb_model.specs.PlanEdges.{PlanEdge, is_abscissa}
+use Rattle.theory_parity.specs.Below.{is_lower_at, is_up_to_at}
 
 -- ---- slabs
 
@@ -80,3 +82,24 @@ IsUnderOver edges d low high i j =
 pub record IsSlabOrder (edges : List PlanEdge) (d low high : Arrow) (order : List ℕ) : Type 0 where
   pub spanning : IsPermutation order (spanning_places edges d low high)
   pub ordered : AllOfTwo (IsUnderOver edges d low high) order
+
+-- at u the edge at place i does not lie above that at place j
+abbrev pub IsNotAbove : List PlanEdge → Arrow → Arrow → ℕ → ℕ → Type 0
+IsNotAbove edges d u i j =
+    (e f : PlanEdge) → slice_get edges i ≡ Some e → slice_get edges j ≡ Some f
+    → pos 0 ≤ℤ clearance_at (line_over d e.edge) (line_over d f.edge) u
+
+-- ---- places by the values of their edges
+
+-- there is an item and it passes the test
+abbrev pub has_passing : {X : Type 0} → (X → Bool) → Option X → Bool
+has_passing test (Some x) = test x
+has_passing test None = false
+
+-- the edge at the place reaches past u and has a lesser value than v there
+abbrev pub is_lower_place : List PlanEdge → Arrow → Arrow → Arrow → ℕ → Bool
+is_lower_place edges d u v k = has_passing (λ e. is_lower_at d u v e.edge) (slice_get edges k)
+
+-- the edge at the place reaches past u and has at most the value v there
+abbrev pub is_up_to_place : List PlanEdge → Arrow → Arrow → Arrow → ℕ → Bool
+is_up_to_place edges d u v k = has_passing (λ e. is_up_to_at d u v e.edge) (slice_get edges k)
