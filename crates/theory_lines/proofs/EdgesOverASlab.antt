@@ -1,5 +1,5 @@
--- An edge of a model spans a slab where it reaches past a number strictly inside it; and an edge that
--- spans reaches past each number of the slab but the last, and ends at none strictly inside.
+-- An edge of a model spans a slab exactly where it reaches past a number of it, be it any but the last;
+-- and an edge that spans ends at no number strictly inside.
 
 use Rattle.std.proofs.Common.{◌≡◌, ◌⊎◌, inl, inr, refl, sym, ap, ◌∙◌, arith, pos, ◌≤ℤ◌, Bool, true}
 use Rattle.std.proofs.Common.{false, ◌&&◌, ◌||◌}
@@ -143,7 +143,7 @@ module _ (d low high u : Arrow) (low_in : IsRational low) (high_in : IsRational 
       from (inr against) =
           neither (not_at_last e.a against.last before) (not_at_first e.b against.first after)
 
--- ---- an edge of the model that reaches past a number of the slab
+-- ---- an edge of the model, at numbers of the slab
 
 module _ (m : Building) (d low high : Arrow) (slab : IsSlab m d low high) where
   -- an end of an edge of the model is an abscissa, so it does not lie strictly inside
@@ -174,7 +174,7 @@ module _ (m : Building) (d low high : Arrow) (slab : IsSlab m d low high) where
       (int_eq (cross (abscissa_along d e.b) (abscissa_along d e.b)) (pos 0))
       (same_number (abscissa_along d e.b))
 
-  module _ (u : Arrow) (u_in : IsRational u) (after : IsBelow low u) (before : IsBelow u high) where
+  module _ (u : Arrow) (u_in : IsRational u) (after : IsAtMost low u) (before : IsBelow u high) where
     runs_if_ends : (a b : Point)
         → (IsBelow low (abscissa_along d a) → IsBelow (abscissa_along d a) high → ⊥)
         → (IsBelow low (abscissa_along d b) → IsBelow (abscissa_along d b) high → ⊥)
@@ -200,7 +200,7 @@ module _ (m : Building) (d low high : Arrow) (slab : IsSlab m d low high) where
 
         ahead : IsBelow low to
         ahead =
-            below_at_most_trans low u to slab.low_in u_in (abscissa_in d b) after
+            at_most_below_trans low u to slab.low_in u_in (abscissa_in d b) after
             (let more = less_from (pos 0) (cross u to) second in omega (arith, ints))
 
         from_first : IsBelow low at ⊎ IsAtMost at low → IsAtMost at low
@@ -211,7 +211,7 @@ module _ (m : Building) (d low high : Arrow) (slab : IsSlab m d low high) where
         from_last (inl inside) = absurd (out_b ahead inside)
         from_last (inr outside) = outside
 
-    -- an edge of the model that reaches past a number strictly inside a slab spans it
+    -- an edge of the model that reaches past a number of the slab, not the last, spans it
     pub reaching_spans : (e : PlanEdge) → Stands e (plan_edges m) → reaches_past d u e.edge ≡ true
         → is_spanning d low high e.edge ≡ true
     reaching_spans e e_in reaches =

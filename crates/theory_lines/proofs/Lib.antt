@@ -10,3 +10,4 @@ pub mod LinesMeetAtCrossings
 pub mod OneLiesBelow
 pub mod SlabOrderIsOne
 pub mod SortedByValues
+mod Examples
