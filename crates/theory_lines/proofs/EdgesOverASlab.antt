@@ -1,24 +1,22 @@
 -- An edge of a model spans a slab exactly where it reaches past a number of it, be it any but the last;
 -- and an edge that spans ends at no number strictly inside.
 
-use Rattle.std.proofs.Common.{◌≡◌, ◌⊎◌, inl, inr, refl, sym, ap, ◌∙◌, arith, pos, ◌≤ℤ◌, Bool, true}
-use Rattle.std.proofs.Common.{false, ◌&&◌, ◌||◌}
+use Rattle.std.proofs.Common.{◌≡◌, ◌⊎◌, inl, inr, refl, sym, ◌∙◌, arith, pos, Bool, true}
+use Rattle.std.proofs.Common.{false, ◌||◌}
 use Rattle.std.specs.Ordering.{int_eq}
 use Rattle.std.specs.List.{list_any}
 use Rattle.std.proofs.lemmas.Int.{ints}
-use Rattle.std.proofs.lemmas.Bool.{and_parts, and_from, or_cases, or_left, or_right, or_parts}
+use Rattle.std.proofs.lemmas.Bool.{and_parts, and_from, or_cases, or_left, or_right}
 use Rattle.std.proofs.lemmas.Bool.{false≢true}
 use Rattle.std.proofs.lemmas.Bool.Decides.{Decides-int_eq}
 use Rattle.theory_lists.specs.Members.{Stands}
 use Rattle.theory_lists.specs.Parity.{differ}
 use Rattle.theory_lists.proofs.Members.{any_stands}
-use Rattle.theory_numbers.specs.Tests.{is_positive}
 use Rattle.theory_numbers.specs.Arrows.{Arrow, cross}
-use Rattle.theory_numbers.specs.Rationals.{rational, IsRational, IsBelow, IsAtMost, is_at_most}
-use Rattle.theory_numbers.specs.Rationals.{is_below}
+use Rattle.theory_numbers.specs.Rationals.{IsRational, IsBelow, IsAtMost, is_at_most}
 use Rattle.theory_numbers.proofs.Arrows.{cross-self, cross-turn}
 use Rattle.theory_numbers.proofs.Rationals.{at_most_trans, below_at_most_trans, below_or_not}
-use Rattle.theory_numbers.proofs.Rationals.{at_most_below_trans, below_clash}
+use Rattle.theory_numbers.proofs.Rationals.{at_most_below_trans}
 use Rattle.theory_numbers.proofs.Signs.{less_from, not_less_from, test_less, test_not_less}
 use Rattle.theory_numbers.proofs.Signs.{test_at_most, at_most_from, test_not_equal}
 use Rattle.sb_fraction.specs.declared.point.Point.{Point}
@@ -26,7 +24,7 @@ use Rattle.sb_fraction.specs.Edges.{Edge}
 use Rattle.sb_fraction.specs.Crossings.{ends_over, cross_over}
 use Rattle.sb_fraction.specs.Lines.{flat, lies_after, reaches_past}
 use Rattle.sb_model.specs.Building.{Building}
-use Rattle.sb_model.specs.PlanEdges.{PlanEdge, plan_edges, is_abscissa}
+use Rattle.sb_model.specs.PlanEdges.{PlanEdge, plan_edges}
 use Rattle.theory_lines.specs.Slabs.{IsSlab, abscissa_along, runs_over, is_spanning}
 
 abscissa_in : (d : Arrow) (p : Point) → IsRational (abscissa_along d p)

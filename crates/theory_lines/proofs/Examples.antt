@@ -1,7 +1,7 @@
 -- Worked slabs and orders, and wrong ones that are refused.
 
 use Rattle.std.proofs.Common.{◌≡◌, ◌⊎◌, inl, inr, refl, sym, ap, subst, arith, ℕ, ℤ, pos, negsuc}
-use Rattle.std.proofs.Common.{true, false, List, [], ◌∷◌, map, Some, slice_get, IsPermutation}
+use Rattle.std.proofs.Common.{true, false, List, [], ◌∷◌, map, slice_get, IsPermutation}
 use Rattle.std.proofs.Common.{◌<◌, ◌+◌}
 use Rattle.std.proofs.lemmas.Int.{ints}
 use Rattle.std.proofs.lemmas.List.Sorted.{IsPermutation-refl, IsPermutation-sym}
@@ -13,8 +13,7 @@ use Rattle.theory_numbers.specs.Arrows.{Arrow, arrow, cross, dot}
 use Rattle.theory_numbers.specs.Rationals.{rational, IsRational, IsBelow}
 use Rattle.theory_numbers.proofs.Clear.{positive_between}
 use Rattle.theory_plane.specs.Sides.{clearance, clearance_at}
-use Rattle.sb_fraction.specs.declared.point.Point.{Point}
-use Rattle.sb_fraction.specs.Edges.{Edge, edge}
+use Rattle.sb_fraction.specs.Edges.{edge}
 use Rattle.sb_fraction.specs.Lines.{flat, line_over, span_along}
 use Rattle.sb_model.specs.Building.{Building}
 use Rattle.sb_model.specs.PlanEdges.{PlanEdge, plan_edges, is_abscissa}
@@ -150,8 +149,11 @@ flatter_first =
           subst (IsPermutation (1 ∷ 0 ∷ [])) (sym both_span)
           (IsPermutation-swap (1 ∷ 0 ∷ []) (0 ∷ 1 ∷ []) 0 1 (omega arith) (omega arith) refl);
       ordered = (
-        (before_by_edges two_edges along_x (at 0) (at 10) 1 0 flatter steeper refl refl
-            (inl flatter_is_under), tt),
+        (
+          before_by_edges two_edges along_x (at 0) (at 10) 1 0 flatter steeper refl refl
+              (inl flatter_is_under),
+          tt,
+        ),
         (tt, tt),
       );
     }
@@ -208,8 +210,11 @@ lesser_place_first =
           subst (IsPermutation (0 ∷ 1 ∷ [])) (sym both_span_one_line)
           (IsPermutation-refl (0 ∷ 1 ∷ []));
       ordered = (
-        (before_by_edges one_line along_x (at 0) (at 10) 0 1 (from_to 0 3 10 3)
-            (from_to 10 3 0 3) refl refl (inr (are_on_one_line, omega arith)), tt),
+        (
+          before_by_edges one_line along_x (at 0) (at 10) 0 1 (from_to 0 3 10 3)
+              (from_to 10 3 0 3) refl refl (inr (are_on_one_line, omega arith)),
+          tt,
+        ),
         (tt, tt),
       );
     }

@@ -9,5 +9,7 @@ pub mod LinesMeetAtCrossings
 -- the order of two
 pub mod OneLiesBelow
 pub mod SlabOrderIsOne
+pub mod SortedByLeads
 pub mod SortedByValues
+pub mod OddBelowAPoint
 mod Examples

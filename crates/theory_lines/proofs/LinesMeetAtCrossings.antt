@@ -21,16 +21,16 @@ use Rattle.theory_numbers.proofs.Shapes.{var, num, plus, minus, times, equal, do
 use Rattle.theory_numbers.proofs.Signs.{equal_or_not, test_less, test_not_less, test_not_equal}
 use Rattle.theory_numbers.proofs.Signs.{at_most_from}
 use Rattle.theory_numbers.proofs.ThreeTerms.{cycle_x, cycle_y, frame_cross}
-use Rattle.theory_plane.specs.Sides.{clearance, clearance_at, value_on}
+use Rattle.theory_plane.specs.Sides.{clearance, clearance_at}
 use Rattle.theory_plane.proofs.Clearance.{value_on-IsRational, meeting_is}
-use Rattle.sb_fraction.specs.Spots.{Spot, spot, IsSpot, times_w, reading}
+use Rattle.sb_fraction.specs.Spots.{Spot, spot, IsSpot, reading}
 use Rattle.sb_fraction.specs.Edges.{Edge, span_of, seen_from, turn_at, reach_at, is_on, is_within}
 use Rattle.sb_fraction.specs.Crossings.{are_parallel, cross_at, cross_over, ends_over, meeting_of}
 use Rattle.sb_fraction.specs.Crossings.{with_positive}
 use Rattle.sb_fraction.specs.Lines.{place, flat, span_along, line_over, reaches_past}
-use Rattle.theory_plans.specs.Alike.{scaled, AreAlike, SeesNoFactor}
+use Rattle.theory_plans.specs.Alike.{AreAlike, SeesNoFactor}
 use Rattle.theory_plans.proofs.PointsAlike.{same_of_alike, within_sees_no_factor}
-use Rattle.theory_parity.specs.Below.{IsWay, abscissa_in, spot_in, value_of, is_through}
+use Rattle.theory_parity.specs.Below.{IsWay, spot_in, value_of}
 use Rattle.theory_parity.proofs.BelowByValue.{spot_in_is, abscissa_of_spot}
 use Rattle.theory_parity.proofs.BelowFlips.{reaching_is_line}
 use Rattle.theory_parity.proofs.InsideByBelow.{turn_by_span}

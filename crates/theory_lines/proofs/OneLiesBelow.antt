@@ -2,13 +2,13 @@
 -- which one, the order of their lines just after the slab's beginning tells.
 
 use Rattle.std.proofs.Common.{◌≡◌, ◌⊎◌, inl, inr, refl, sym, ap, ap₂, ◌∙◌, arith, pos, ◌≤ℤ◌}
-use Rattle.std.proofs.Common.{◌<ℤ◌, ◌+ℤ◌, ◌*ℤ◌, Bool, true, false}
+use Rattle.std.proofs.Common.{◌+ℤ◌, ◌*ℤ◌, Bool, true, false}
 use Rattle.std.specs.List.{list_any}
 use Rattle.std.proofs.lemmas.Int.{ints}
 use Rattle.std.proofs.lemmas.Bool.{or_right, false≢true}
 use Rattle.theory_lists.specs.Members.{Stands}
 use Rattle.theory_lists.proofs.Members.{any_stands}
-use Rattle.theory_numbers.specs.Arrows.{Arrow, cross, dot}
+use Rattle.theory_numbers.specs.Arrows.{Arrow, cross}
 use Rattle.theory_numbers.specs.Rationals.{IsRational, IsBelow, IsAtMost, IsSame, IsForm, value_at}
 use Rattle.theory_numbers.specs.Rationals.{mediant, IsZeroForm}
 use Rattle.theory_numbers.specs.Intervals.{Keeps}
@@ -22,14 +22,14 @@ use Rattle.theory_numbers.proofs.Shapes.{var, num, plus, times, equal, cross_is,
 use Rattle.theory_numbers.proofs.Shapes.{dot_eq}
 use Rattle.theory_plane.specs.Sides.{IsLineSide, clearance, clearance_at}
 use Rattle.theory_plane.specs.Leads.{leads, is_up}
-use Rattle.theory_plane.proofs.Clearance.{clearance-turn, higher_is}
+use Rattle.theory_plane.proofs.Clearance.{clearance-turn, higher_is, meeting_is}
 use Rattle.theory_plane.proofs.LeadsUntilMeeting.{order_after, zero_if_none_leads}
 use Rattle.theory_plane.proofs.LeadsIsAnOrder.{slope-turn, offset-turn}
 use Rattle.sb_fraction.specs.Edges.{Edge}
 use Rattle.sb_fraction.specs.Crossings.{cross_over, ends_over}
 use Rattle.sb_fraction.specs.Lines.{flat, line_over}
 use Rattle.sb_model.specs.Building.{Building}
-use Rattle.sb_model.specs.PlanEdges.{PlanEdge, plan_edges, is_abscissa}
+use Rattle.sb_model.specs.PlanEdges.{PlanEdge, plan_edges}
 use Rattle.theory_parity.specs.Below.{IsWay, value_of}
 use Rattle.theory_parity.proofs.BelowFlips.{reaching_is_line}
 use Rattle.theory_lines.specs.Slabs.{IsSlab, is_spanning, IsUnder, AreOnOneLine}
@@ -126,6 +126,14 @@ module _ (m : Building) (d low high : Arrow) (d_is : IsWay d) (slab : IsSlab m d
       from : AreOnOneLine d e.edge f.edge ⊎ (cross_over (flat d) u e.edge f.edge ≡ true) → ⊥
       from (inl one) = other one
       from (inr crosses) = crosses_nowhere u u_in after before crosses
+
+  -- and have different values there
+  pub values_differ : IsForm (clearance (line_over d e.edge) (line_over d f.edge)) → (u : Arrow)
+      → IsRational u → IsBelow low u → IsBelow u high
+      → IsSame (value_of d u e.edge) (value_of d u f.edge) → ⊥
+  values_differ other u u_in after before same =
+      no_meeting other u u_in after before
+      ((meeting_is (line_over d e.edge) (line_over d f.edge) u u_in).0 same)
 
   -- of two spanning edges the one whose line leads just after low lies above strictly inside
   pub leads_is_under : leads low (line_over d e.edge) (line_over d f.edge) ≡ true

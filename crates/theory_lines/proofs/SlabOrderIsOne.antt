@@ -2,18 +2,14 @@
 -- places one comes before the other, and not the other way round.
 
 use Rattle.std.proofs.Common.{◌≡◌, ◌⊎◌, inl, inr, refl, sym, ap, ◌∙◌, subst, ℕ, zero, suc, ◌<◌, ◌+◌, ◌≤◌}
-use Rattle.std.proofs.Common.{arith, pos, Bool, true, false, List, [], ◌∷◌, Some, None, slice_get}
-use Rattle.std.proofs.Common.{if◌then◌else◌, ◌≤ℤ◌}
+use Rattle.std.proofs.Common.{arith, Bool, true, false, List, [], ◌∷◌, Some, slice_get}
+use Rattle.std.proofs.Common.{if◌then◌else◌}
 use Rattle.std.proofs.lemmas.Bool.{cases_lt, false≢true}
 use Rattle.std.proofs.lemmas.Option.{same_Some, none-some}
-use Rattle.std.proofs.lemmas.Int.{ints}
-use Rattle.theory_lists.specs.Members.{Stands, AllOfTwo}
-use Rattle.theory_lists.proofs.Members.{stands_at, two_follow}
-use Rattle.theory_lists.proofs.InAnyOrder.{stands_permuted}
+use Rattle.theory_lists.specs.Members.{Stands}
+use Rattle.theory_lists.proofs.Members.{stands_at}
 use Rattle.theory_numbers.specs.Arrows.{Arrow}
-use Rattle.theory_numbers.specs.Rationals.{IsRational, IsBelow, IsAtMost}
-use Rattle.theory_plane.specs.Leads.{leads}
-use Rattle.sb_fraction.specs.Lines.{line_over}
+use Rattle.theory_numbers.specs.Rationals.{IsRational, IsBelow}
 use Rattle.sb_model.specs.Building.{Building}
 use Rattle.sb_model.specs.PlanEdges.{PlanEdge, plan_edges}
 use Rattle.theory_parity.specs.Below.{IsWay}

@@ -2,7 +2,7 @@
 -- with a lesser value than another are the first of it.
 
 use Rattle.std.proofs.Common.{◌≡◌, ◌⊎◌, inl, inr, sym, ap, ◌∙◌, arith, ℕ, pos, ◌≤ℤ◌, ◌<◌, Bool, true}
-use Rattle.std.proofs.Common.{◌&&◌, List, Some, slice_get}
+use Rattle.std.proofs.Common.{List, slice_get}
 use Rattle.std.proofs.lemmas.Int.{ints}
 use Rattle.std.proofs.lemmas.Bool.{and_parts, and_from}
 use Rattle.theory_lists.specs.Members.{Stands, AllOfTwo}

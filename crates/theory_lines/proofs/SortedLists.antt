@@ -1,7 +1,7 @@
 -- A list that is sorted strictly is the only such list of its items; and where an item that passes a
 -- test follows only items that pass it, the first ones pass and the others do not.
 
-use Rattle.std.proofs.Common.{◌≡◌, ◌⊎◌, inl, inr, refl, sym, ap, ap₂, ◌∙◌, subst, ℕ, zero, suc, Bool}
+use Rattle.std.proofs.Common.{◌≡◌, inl, inr, refl, sym, ap₂, ◌∙◌, subst, ℕ, zero, suc, Bool}
 use Rattle.std.proofs.Common.{true, false, List, [], ◌∷◌, IsPermutation}
 use Rattle.std.specs.List.{AllByRecursion}
 use Rattle.std.proofs.lemmas.Bool.{false_from_ne_true}

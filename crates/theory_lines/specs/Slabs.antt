@@ -8,6 +8,7 @@ use Rattle.theory_lists.specs.Members.{AllOfTwo}
 use Rattle.theory_numbers.specs.Arrows.{Arrow}
 use Rattle.theory_numbers.specs.Rationals.{rational, IsRational, IsBelow, is_at_most, IsZeroForm}
 use Rattle.theory_plane.specs.Sides.{clearance, clearance_at}
+use Rattle.theory_plane.specs.Leads.{leads}
 use Rattle.sb_fraction.specs.declared.point.Point.{Point}
 use Rattle.sb_fraction.specs.Edges.{Edge}
 use Rattle.sb_fraction.specs.Crossings.{abscissa_at}
@@ -82,6 +83,14 @@ IsUnderOver edges d low high i j =
 pub record IsSlabOrder (edges : List PlanEdge) (d low high : Arrow) (order : List ℕ) : Type 0 where
   pub spanning : IsPermutation order (spanning_places edges d low high)
   pub ordered : AllOfTwo (IsUnderOver edges d low high) order
+
+-- just after u the line of the edge at place i is the lower one, or neither is and i is the lesser
+-- place
+abbrev pub LeadsAt : List PlanEdge → Arrow → Arrow → ℕ → ℕ → Type 0
+LeadsAt edges d u i j =
+    (e f : PlanEdge) → slice_get edges i ≡ Some e → slice_get edges j ≡ Some f
+    → (leads u (line_over d e.edge) (line_over d f.edge) ≡ true)
+    ⊎ ((leads u (line_over d f.edge) (line_over d e.edge) ≡ false) × (i < j))
 
 -- at u the edge at place i does not lie above that at place j
 abbrev pub IsNotAbove : List PlanEdge → Arrow → Arrow → ℕ → ℕ → Type 0
