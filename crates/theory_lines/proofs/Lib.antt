@@ -2,12 +2,14 @@
 
 -- lists
 pub mod SortedLists
--- which edges span a slab
+-- slabs, and which edges span one
+pub mod NeighboursInAList
 pub mod EdgesOverASlab
 -- where lines meet
 pub mod LinesMeetAtCrossings
 -- the order of two
 pub mod OneLiesBelow
+-- the order of a slab
 pub mod SlabOrderIsOne
 pub mod SortedByLeads
 pub mod SortedByValues

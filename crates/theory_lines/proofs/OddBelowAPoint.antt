@@ -3,7 +3,7 @@
 
 use Rattle.std.proofs.Common.{◌≡◌, refl, sym, ap, ap₂, ◌∙◌, arith, ℕ, zero, suc, ◌+◌, Bool}
 use Rattle.std.proofs.Common.{true, false, ◌&&◌, List, [], ◌∷◌, Option, Some, None, slice_get, take}
-use Rattle.std.proofs.Common.{if◌then◌else◌}
+use Rattle.std.proofs.Common.{if◌then◌else◌, ◌==◌, IsTrue}
 use Rattle.std.proofs.lemmas.Bool.{and_parts, false≢true}
 use Rattle.theory_lists.specs.Members.{Stands}
 use Rattle.theory_lists.specs.Parity.{differ, is_odd_number}
@@ -12,8 +12,10 @@ use Rattle.theory_lists.proofs.Parity.{is_odd_number-permuted, odd_where_same, i
 use Rattle.theory_numbers.specs.Arrows.{Arrow}
 use Rattle.theory_numbers.specs.Rationals.{IsRational, IsBelow, IsAtMost, is_below}
 use Rattle.sb_fraction.specs.Lines.{reaches_past}
-use Rattle.sb_model.specs.Building.{Building}
-use Rattle.sb_model.specs.PlanEdges.{PlanEdge, plan_edges}
+use Rattle.theory_plans.specs.LoopEdges.{edges_of}
+use Rattle.sb_model.specs.Building.{Building, is_building}
+use Rattle.sb_model.specs.PlanEdges.{PlanEdge, Product, plan_edges, products_of}
+use Rattle.theory_models.proofs.EdgesOfProducts.{own_edges}
 use Rattle.theory_parity.specs.Below.{value_of, is_lower_at}
 use Rattle.theory_lines.specs.Slabs.{IsSlab, is_spanning, places_from, spanning_places, IsSlabOrder}
 use Rattle.theory_lines.specs.Slabs.{has_passing, is_lower_place}
@@ -155,3 +157,28 @@ module _ (m : Building) (d low high : Arrow) (slab : IsSlab m d low high) (order
               (plan_edges m) (lower_spans own)),
         ),
       )
+
+-- of a product of the model an odd number of edges stands among the first n places of the order exactly
+-- where an odd number of the edges of its own loops lies below
+pub odd_of_product : (m : Building) → IsTrue (is_building m) → (d low high : Arrow)
+    → IsSlab m d low high → (order : List ℕ) → IsSlabOrder (plan_edges m) d low high order
+    → (u : Arrow) → IsRational u → IsAtMost low u → IsBelow u high → (v : Arrow) → IsRational v
+    → (p : Product) → Stands p (products_of m)
+    → (n : ℕ) × (IsPartedAt (is_lower_place (plan_edges m) d u v) n order
+    × (is_odd_number (λ k. has_passing (λ e. e.product == p.number) (slice_get (plan_edges m) k))
+    (take n order)
+    ≡ is_odd_number (is_lower_at d u v) (edges_of p.prism.loops)))
+odd_of_product m valid d low high slab order is u u_in after before v v_in p p_in =
+    from
+    (odd_below m d low high slab order is u u_in after before v v_in (λ e. e.product == p.number))
+  where
+    from : (n : ℕ) × (IsPartedAt (is_lower_place (plan_edges m) d u v) n order
+        × (is_odd_number (λ k. has_passing (λ e. e.product == p.number) (slice_get (plan_edges m) k))
+        (take n order)
+        ≡ is_odd_number (λ e. (e.product == p.number) && is_lower_at d u v e.edge) (plan_edges m)))
+        → (n : ℕ) × (IsPartedAt (is_lower_place (plan_edges m) d u v) n order
+        × (is_odd_number (λ k. has_passing (λ e. e.product == p.number) (slice_get (plan_edges m) k))
+        (take n order)
+        ≡ is_odd_number (is_lower_at d u v) (edges_of p.prism.loops)))
+    from (n, found) =
+        (n, (found.0, found.1 ∙ own_edges m valid p p_in (is_lower_at d u v)))

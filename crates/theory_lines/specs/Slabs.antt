@@ -4,9 +4,11 @@
 use Rattle.std.specs.Prelude.{◌≡◌, ◌⊎◌, ℕ, suc, ◌<◌, pos, ◌<ℤ◌, ◌≤ℤ◌, Bool, true, false}
 use Rattle.std.specs.Prelude.{◌&&◌, ◌||◌, List, [], ◌∷◌, Option, Some, None, slice_get}
 use Rattle.std.specs.Prelude.{if◌then◌else◌, IsPermutation}
-use Rattle.theory_lists.specs.Members.{AllOfTwo}
+use Rattle.std.specs.List.{AllByRecursion}
+use Rattle.theory_lists.specs.Members.{Stands, AllOfTwo}
 use Rattle.theory_numbers.specs.Arrows.{Arrow}
-use Rattle.theory_numbers.specs.Rationals.{rational, IsRational, IsBelow, is_at_most, IsZeroForm}
+use Rattle.theory_numbers.specs.Rationals.{rational, IsRational, IsBelow, IsSame, is_at_most}
+use Rattle.theory_numbers.specs.Rationals.{IsZeroForm}
 use Rattle.theory_plane.specs.Sides.{clearance, clearance_at}
 use Rattle.theory_plane.specs.Leads.{leads}
 use Rattle.sb_fraction.specs.declared.point.Point.{Point}
@@ -32,6 +34,15 @@ pub record AreNeighbours (m : Building) (d low high : Arrow) : Type 0 where
   pub slab : IsSlab m d low high
   pub first : is_abscissa m (flat d) low ≡ true
   pub last : is_abscissa m (flat d) high ≡ true
+
+-- the list has the abscissae of d, rising, so each once: each item is an abscissa, and each abscissa is
+-- the number of an item
+pub record AreAbscissae (m : Building) (d : Arrow) (list : List Arrow) : Type 0 where
+  pub rational : AllByRecursion IsRational list
+  pub rising : AllOfTwo IsBelow list
+  pub each : AllByRecursion (λ a. is_abscissa m (flat d) a ≡ true) list
+  pub all : (u : Arrow) → IsRational u → is_abscissa m (flat d) u ≡ true
+      → (a : Arrow) × (Stands a list × IsSame u a)
 
 -- ---- the edges of a slab
 
