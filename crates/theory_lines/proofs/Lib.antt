@@ -1,7 +1,5 @@
 -- The laws by topic.
 
--- lists
-pub mod SortedLists
 -- slabs, and which edges span one
 pub mod NeighboursInAList
 pub mod EdgesOverASlab

@@ -7,6 +7,7 @@ use Rattle.std.proofs.Common.{if◌then◌else◌, ◌==◌, IsTrue}
 use Rattle.std.proofs.lemmas.Bool.{and_parts, false≢true}
 use Rattle.theory_lists.specs.Members.{Stands}
 use Rattle.theory_lists.specs.Parity.{differ, is_odd_number}
+use Rattle.theory_lists.proofs.Parted.{odd_in_part}
 use Rattle.theory_lists.proofs.Members.{all_that_stand}
 use Rattle.theory_lists.proofs.Parity.{is_odd_number-permuted, odd_where_same, is_odd_number-same}
 use Rattle.theory_numbers.specs.Arrows.{Arrow}
@@ -19,7 +20,7 @@ use Rattle.theory_models.proofs.EdgesOfProducts.{own_edges}
 use Rattle.theory_parity.specs.Below.{value_of, is_lower_at}
 use Rattle.theory_lines.specs.Slabs.{IsSlab, is_spanning, places_from, spanning_places, IsSlabOrder}
 use Rattle.theory_lines.specs.Slabs.{has_passing, is_lower_place}
-use Rattle.theory_lines.specs.Sorted.{IsPartedAt}
+use Rattle.theory_lists.specs.Parted.{IsPartedAt}
 use Rattle.theory_lines.proofs.EdgesOverASlab.{reaching_spans}
 use Rattle.theory_lines.proofs.SortedByValues.{lower_are_first}
 
@@ -52,27 +53,6 @@ module _ {X : Type 0} where
           ≡ differ (b && test x) (is_odd_number (λ y. some y && test y) xs)
       from true rest = ap₂ differ here rest
       from false rest = rest
-
-  -- of a list that a test parts, an odd number passes it and another where an odd number of the first
-  -- part passes the other
-  odd_in_part : (own test : X → Bool) (n : ℕ) (xs : List X) → IsPartedAt test n xs
-      → is_odd_number (λ x. own x && test x) xs ≡ is_odd_number own (take n xs)
-  odd_in_part own test zero [] part = refl
-  odd_in_part own test (suc n) [] part = refl
-  odd_in_part own test zero (x ∷ xs) part =
-      ap₂ differ (ap (λ b. own x && b) part.rest.0 ∙ and_false (own x))
-      (odd_in_part own test zero xs (record { first = tt; rest = part.rest.1 }))
-    where
-      and_false : (b : Bool) → (b && false) ≡ false
-      and_false true = refl
-      and_false false = refl
-  odd_in_part own test (suc n) (x ∷ xs) part =
-      ap₂ differ (ap (λ b. own x && b) part.first.0 ∙ and_true (own x))
-      (odd_in_part own test n xs (record { first = part.first.1; rest = part.rest }))
-    where
-      and_true : (b : Bool) → (b && true) ≡ b
-      and_true true = refl
-      and_true false = refl
 
 both_passing : (own test : PlanEdge → Bool) (e : Option PlanEdge)
     → has_passing (λ x. own x && test x) e ≡ (has_passing own e && has_passing test e)

@@ -1,7 +1,7 @@
 -- Of two edges that span a slab one lies below the other strictly inside it, or both lie on one line:
 -- which one, the order of their lines just after the slab's beginning tells.
 
-use Rattle.std.proofs.Common.{◌≡◌, ◌⊎◌, inl, inr, refl, sym, ap, ap₂, ◌∙◌, arith, pos, ◌≤ℤ◌}
+use Rattle.std.proofs.Common.{◌≡◌, ◌⊎◌, inl, inr, refl, sym, ap, ◌∙◌, arith, pos, ◌≤ℤ◌}
 use Rattle.std.proofs.Common.{◌+ℤ◌, ◌*ℤ◌, Bool, true, false}
 use Rattle.std.specs.List.{list_any}
 use Rattle.std.proofs.lemmas.Int.{ints}
@@ -10,7 +10,7 @@ use Rattle.theory_lists.specs.Members.{Stands}
 use Rattle.theory_lists.proofs.Members.{any_stands}
 use Rattle.theory_numbers.specs.Arrows.{Arrow, cross}
 use Rattle.theory_numbers.specs.Rationals.{IsRational, IsBelow, IsAtMost, IsSame, IsForm, value_at}
-use Rattle.theory_numbers.specs.Rationals.{mediant, IsZeroForm}
+use Rattle.theory_numbers.specs.Rationals.{mediant}
 use Rattle.theory_numbers.specs.Intervals.{Keeps}
 use Rattle.theory_numbers.proofs.Clear.{positive_at_ends}
 use Rattle.theory_numbers.proofs.Products.{weak_product, weak_factor}
@@ -18,12 +18,12 @@ use Rattle.theory_numbers.proofs.Rationals.{at_most_below_trans, at_most_refl, a
 use Rattle.theory_numbers.proofs.Rationals.{mediant_between, mediant-IsRational, number_cases}
 use Rattle.theory_numbers.proofs.Rationals.{below_clash, same_sym}
 use Rattle.theory_numbers.proofs.Ring.{zero-mul}
-use Rattle.theory_numbers.proofs.Shapes.{var, num, plus, times, equal, cross_is, dot_is}
-use Rattle.theory_numbers.proofs.Shapes.{dot_eq}
+use Rattle.theory_numbers.proofs.Shapes.{var, plus, times, equal, cross_is, dot_is}
 use Rattle.theory_plane.specs.Sides.{IsLineSide, clearance, clearance_at}
-use Rattle.theory_plane.specs.Leads.{leads, is_up}
+use Rattle.theory_plane.specs.Leads.{leads}
 use Rattle.theory_plane.proofs.Clearance.{clearance-turn, higher_is, meeting_is}
 use Rattle.theory_plane.proofs.LeadsUntilMeeting.{order_after, zero_if_none_leads}
+use Rattle.theory_plane.proofs.LeadsUntilMeeting.{value-zero_form, form_if_leads}
 use Rattle.theory_plane.proofs.LeadsIsAnOrder.{slope-turn, offset-turn}
 use Rattle.sb_fraction.specs.Edges.{Edge}
 use Rattle.sb_fraction.specs.Crossings.{cross_over, ends_over}
@@ -67,22 +67,10 @@ one_line_turned d e f zero =
     let slope = slope-turn (line_over d e) (line_over d f) in
     (omega (arith, ints, zero.0), omega (arith, ints, zero.1))
 
--- the zero form has the value 0
-value_of_none : (form r : Arrow) → IsZeroForm form → value_at form r ≡ pos 0
-value_of_none form r zero =
-    dot_eq form r ∙ ap₂ (λ a b. (a *ℤ r.x) +ℤ (b *ℤ r.y)) zero.0 zero.1
-    ∙ equal (plus (times (num 0) (var r.x)) (times (num 0) (var r.y))) (num 0) (omega arith)
-
 -- two on one line have one value at each number
 pub one_line_meets : (d : Arrow) (e f : Edge) → AreOnOneLine d e f → (u : Arrow)
     → clearance_at (line_over d e) (line_over d f) u ≡ pos 0
-one_line_meets d e f one u = value_of_none (clearance (line_over d e) (line_over d f)) u one
-
--- the line of neither leads
-pub one_line_leads_not : (u d : Arrow) (e f : Edge) → AreOnOneLine d e f
-    → leads u (line_over d e) (line_over d f) ≡ false
-one_line_leads_not u d e f one =
-    ap₂ is_up (value_of_none (clearance (line_over d e) (line_over d f)) u one) one.1
+one_line_meets d e f one u = value-zero_form (clearance (line_over d e) (line_over d f)) u one
 
 -- a form that is at least 0 at a number is so at the same number
 weak_at_same : (form r u : Arrow) → IsRational r → IsRational u → IsSame r u
@@ -141,8 +129,7 @@ module _ (m : Building) (d low high : Arrow) (d_is : IsWay d) (slab : IsSlab m d
   leads_is_under answer u u_in after before =
       order_after low u (line_over d e.edge) (line_over d f.edge) slab.low_in u_in after answer
       (λ y y_in above within zero.
-      no_meeting
-      (λ one. false≢true (sym (one_line_leads_not low d e.edge f.edge one) ∙ answer)) y y_in above
+      no_meeting (form_if_leads low (line_over d e.edge) (line_over d f.edge) answer) y y_in above
       (at_most_below_trans y u high y_in u_in slab.high_in within before) zero)
 
 -- of two spanning edges of a model one lies below the other strictly inside the slab, or both lie on
@@ -208,7 +195,7 @@ module _ (d low high : Arrow) (low_in : IsRational low) (high_in : IsRational hi
       let inside = mediant_between low high wide in
       let m_in = mediant-IsRational low high low_in high_in in
       let up = under (mediant low high) m_in inside.0 inside.1 in
-      let none = value_of_none (clearance (line_over d e) (line_over d f)) (mediant low high) one in
+      let none = value-zero_form (clearance (line_over d e) (line_over d f)) (mediant low high) one in
       omega (arith, ints)
 
   -- the lower one lies nowhere above the other, the ends of the slab taken in

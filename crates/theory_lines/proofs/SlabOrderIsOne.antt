@@ -17,7 +17,7 @@ use Rattle.theory_lines.specs.Slabs.{IsSlab, is_spanning, places_from, spanning_
 use Rattle.theory_lines.specs.Slabs.{AreOnOneLine, IsUnderOver, IsSlabOrder}
 use Rattle.theory_lines.proofs.OneLiesBelow.{under_one_way, under_not_one_line, one_line_turned}
 use Rattle.theory_lines.proofs.OneLiesBelow.{one_lies_below}
-use Rattle.theory_lines.proofs.SortedLists.{one_sorted_order}
+use Rattle.theory_lists.proofs.SortedLists.{one_sorted_order}
 
 -- ---- places
 

@@ -21,11 +21,11 @@ use Rattle.theory_parity.specs.Below.{value_of, is_lower_at, is_up_to_at}
 use Rattle.theory_lines.specs.Slabs.{is_spanning, spanning_places, IsUnder, AreOnOneLine}
 use Rattle.theory_lines.specs.Slabs.{IsUnderOver, IsSlabOrder, IsNotAbove, has_passing}
 use Rattle.theory_lines.specs.Slabs.{is_lower_place, is_up_to_place}
-use Rattle.theory_lines.specs.Sorted.{IsPartedAt}
+use Rattle.theory_lists.specs.Parted.{IsPartedAt}
 use Rattle.theory_lines.proofs.EdgesOverASlab.{spanning_reaches}
 use Rattle.theory_lines.proofs.OneLiesBelow.{under_to_ends, one_line_meets, spanning_is_line}
 use Rattle.theory_lines.proofs.SlabOrderIsOne.{SpansAt, spans_at}
-use Rattle.theory_lines.proofs.SortedLists.{parted}
+use Rattle.theory_lists.proofs.Parted.{parted}
 
 module _ (edges : List PlanEdge) (d low high : Arrow) (low_in : IsRational low)
     (high_in : IsRational high) (wide : IsBelow low high) (order : List ℕ)

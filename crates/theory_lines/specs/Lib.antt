@@ -1,3 +1,2 @@
 -- What the laws speak of.
 pub mod Slabs
-pub mod Sorted

@@ -1,15 +1,12 @@
--- A list that is sorted strictly is the only such list of its items; and where an item that passes a
--- test follows only items that pass it, the first ones pass and the others do not.
+-- A list that is sorted strictly is the only such list of its items.
 
-use Rattle.std.proofs.Common.{◌≡◌, inl, inr, refl, sym, ap₂, ◌∙◌, subst, ℕ, zero, suc, Bool}
-use Rattle.std.proofs.Common.{true, false, List, [], ◌∷◌, IsPermutation}
+use Rattle.std.proofs.Common.{◌≡◌, inl, inr, refl, sym, ap₂, ◌∙◌, subst}
+use Rattle.std.proofs.Common.{List, [], ◌∷◌, IsPermutation}
 use Rattle.std.specs.List.{AllByRecursion}
-use Rattle.std.proofs.lemmas.Bool.{false_from_ne_true}
 use Rattle.std.proofs.lemmas.List.Sorted.{IsPermutation-sym}
 use Rattle.theory_lists.specs.Members.{Stands, AllOfTwo}
-use Rattle.theory_lists.proofs.Members.{all_stands, all_follow}
+use Rattle.theory_lists.proofs.Members.{all_stands}
 use Rattle.theory_lists.proofs.InAnyOrder.{stands_permuted}
-use Rattle.theory_lines.specs.Sorted.{IsPartedAt}
 
 module _ {X : Type 0} (R : X → X → Type 0) where
   -- no two items of the list stand in the relation both ways
@@ -58,27 +55,3 @@ module _ {X : Type 0} (R : X → X → Type 0) where
       (λ z at. stands_permuted z zs xs (IsPermutation-sym xs zs of_xs) (stands_permuted z ys zs of_ys at))
       (λ a b at_a at_b.
       one_way a b (stands_permuted a xs zs of_xs at_a) (stands_permuted b xs zs of_xs at_b))
-
--- where each item that passes follows only items that pass, a test parts the list
-module _ {X : Type 0} (test : X → Bool) where
-  all_fail : (x : X) (xs : List X) → test x ≡ false
-      → AllByRecursion (λ y. test y ≡ true → test x ≡ true) xs
-      → AllByRecursion (λ y. test y ≡ false) xs
-  all_fail x xs fails follow =
-      all_follow (λ y only. false_from_ne_true (test y) (λ passes. clash fails (only passes))) xs
-      follow
-    where
-      clash : {b : Bool} → b ≡ false → b ≡ true → ⊥
-      clash none some = cc
-
-  pub parted : (xs : List X) → AllOfTwo (λ x y. test y ≡ true → test x ≡ true) xs
-      → (n : ℕ) × IsPartedAt test n xs
-  parted [] falls = (0, record { first = tt; rest = tt })
-  parted (x ∷ xs) falls = from (test x) refl (parted xs falls.1)
-    where
-      from : (b : Bool) → test x ≡ b → (n : ℕ) × IsPartedAt test n xs
-          → (n : ℕ) × IsPartedAt test n (x ∷ xs)
-      from true passes (n, found) =
-          (suc n, record { first = (passes, found.first); rest = found.rest })
-      from false fails rest =
-          (zero, record { first = tt; rest = (fails, all_fail x xs fails falls.0) })

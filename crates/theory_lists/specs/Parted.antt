@@ -1,4 +1,4 @@
--- Lists that a test parts in two.
+-- Lists that a test parts in two: what passes comes first.
 
 use Rattle.std.specs.Prelude.{◌≡◌, ℕ, Bool, true, false, List, take, drop}
 use Rattle.std.specs.List.{AllByRecursion}
