@@ -1,6 +1,6 @@
 -- Worked slabs and orders, and wrong ones that are refused.
 
-use Rattle.std.proofs.Common.{◌≡◌, ◌⊎◌, inl, inr, refl, sym, ap, subst, arith, ℕ, ℤ, pos, negsuc}
+use Rattle.std.proofs.Common.{◌≡◌, ◌⊎◌, inl, inr, refl, sym, ap, ◌∙◌, subst, arith, ℕ, ℤ, pos, negsuc}
 use Rattle.std.proofs.Common.{true, false, List, [], ◌∷◌, map, slice_get, IsPermutation}
 use Rattle.std.proofs.Common.{◌<◌, ◌+◌}
 use Rattle.std.proofs.lemmas.Int.{ints}
@@ -8,9 +8,15 @@ use Rattle.std.proofs.lemmas.List.Sorted.{IsPermutation-refl, IsPermutation-sym}
 use Rattle.std.proofs.lemmas.List.Sorted.{IsPermutation-swap}
 use Rattle.std.proofs.lemmas.Option.{same_Some}
 use Rattle.theory_lists.specs.Members.{Stands}
+use Rattle.std.specs.Ordering.{int_eq}
+use Rattle.std.specs.List.{AllByRecursion}
+use Rattle.std.proofs.lemmas.Bool.{false≢true}
+use Rattle.std.proofs.lemmas.Bool.Decides.{Decides-int_eq}
+use Rattle.theory_lists.proofs.Members.{all_stands, one_of_any}
+use Rattle.theory_lines.proofs.NeighboursInAList.{neighbours_in_list}
 use Rattle.theory_lists.proofs.InAnyOrder.{stands_permuted}
 use Rattle.theory_numbers.specs.Arrows.{Arrow, arrow, cross, dot}
-use Rattle.theory_numbers.specs.Rationals.{rational, IsRational, IsBelow}
+use Rattle.theory_numbers.specs.Rationals.{rational, IsRational, IsBelow, IsSame}
 use Rattle.theory_numbers.proofs.Clear.{positive_between}
 use Rattle.theory_plane.specs.Sides.{clearance, clearance_at}
 use Rattle.sb_fraction.specs.Edges.{edge}
@@ -18,6 +24,9 @@ use Rattle.sb_fraction.specs.Lines.{flat, line_over, span_along}
 use Rattle.sb_model.specs.Building.{Building}
 use Rattle.sb_model.specs.PlanEdges.{PlanEdge, plan_edges, is_abscissa}
 use Rattle.theory_models.proofs.ExampleModels.{plan_point, model, box_room, crossing_slabs}
+use Rattle.theory_models.specs.Abscissae.{abscissae_of}
+use Rattle.theory_models.proofs.AbscissaeListed.{abscissa_is_among}
+use Rattle.theory_lines.specs.Slabs.{AreAbscissae, AreNeighbours}
 use Rattle.theory_lines.specs.Slabs.{spanning_places, IsSlabOrder, IsUnder, AreOnOneLine}
 use Rattle.theory_lines.proofs.OneLiesBelow.{one_line_meets}
 use Rattle.theory_lines.proofs.SlabOrderIsOne.{before_by_edges, slab_order_is_one}
@@ -32,6 +41,11 @@ slanted = arrow (pos 1) (pos 1)
 -- the whole number n
 abbrev at : ℕ → Arrow
 at n = rational (pos n) (pos 1)
+
+-- one whole number below another
+below_by : (m n : ℕ) → m < n → IsBelow (at m) (at n)
+unfolding cross
+below_by m n less = omega (arith, ints)
 
 -- the edge from one point to another, of product 20
 abbrev from_to : ℕ → ℕ → ℕ → ℕ → PlanEdge
@@ -66,6 +80,107 @@ between_rooms :
     ≡ true ∷ true ∷ false ∷ []
 unfolding cross dot
 between_rooms = refl
+
+-- all abscissae of the two rooms
+abbrev four_abscissae : List Arrow
+four_abscissae = at 0 ∷ at 10 ∷ at 20 ∷ at 30 ∷ []
+
+ends_are_four : AllByRecursion (λ a. Stands a four_abscissae)
+    (abscissae_of apart_rooms (flat along_x))
+unfolding cross dot
+ends_are_four = (
+  inl refl,
+  (
+    inr (inl refl),
+    (
+      inr (inl refl),
+      (
+        inr (inl refl),
+        (
+          inr (inl refl),
+          (
+            inl refl,
+            (
+              inl refl,
+              (
+                inl refl,
+                (
+                  inr (inr (inl refl)),
+                  (
+                    inr (inr (inr (inl refl))),
+                    (
+                      inr (inr (inr (inl refl))),
+                      (
+                        inr (inr (inr (inl refl))),
+                        (
+                          inr (inr (inr (inl refl))),
+                          (inr (inr (inl refl)), (inr (inr (inl refl)), (inr (inr (inl refl)), tt))),
+                        ),
+                      ),
+                    ),
+                  ),
+                ),
+              ),
+            ),
+          ),
+        ),
+      ),
+    ),
+  ),
+)
+
+each_is_one : AllByRecursion (λ a. is_abscissa apart_rooms (flat along_x) a ≡ true) four_abscissae
+unfolding cross dot
+each_is_one = (refl, (refl, (refl, (refl, tt))))
+
+four_are_all : AreAbscissae apart_rooms along_x four_abscissae
+four_are_all =
+    record {
+      rational =
+          (omega (arith, ints), (omega (arith, ints), (omega (arith, ints), (omega (arith, ints), tt))));
+      rising = (
+        (below_by 0 10 (omega arith), (below_by 0 20 (omega arith), (below_by 0 30 (omega arith), tt))),
+        (
+          (below_by 10 20 (omega arith), (below_by 10 30 (omega arith), tt)),
+          ((below_by 20 30 (omega arith), tt), (tt, tt)),
+        ),
+      );
+      each = each_is_one;
+      all = λ u u_in is.
+          from u
+          (one_of_any (λ a. int_eq (cross u a) (pos 0)) (abscissae_of apart_rooms (flat along_x))
+          (sym (abscissa_is_among apart_rooms (flat along_x) u) ∙ is));
+    }
+  where
+    from : (u : Arrow)
+        → (a : Arrow) × (Stands a (abscissae_of apart_rooms (flat along_x))
+        × (int_eq (cross u a) (pos 0) ≡ true))
+        → (a : Arrow) × (Stands a four_abscissae × IsSame u a)
+    from u (a, known) = (
+      a,
+      (
+        all_stands (λ b. Stands b four_abscissae) a (abscissae_of apart_rooms (flat along_x))
+            ends_are_four known.0,
+        (Decides-int_eq (cross u a) (pos 0)).0 known.1,
+      ),
+    )
+
+-- so 10 and 20 are neighbours
+ten_and_twenty : AreNeighbours apart_rooms along_x (at 10) (at 20)
+ten_and_twenty =
+    neighbours_in_list apart_rooms along_x (at 10) (at 20) (at 0 ∷ []) (at 30 ∷ []) four_are_all
+
+-- and 0 and 20 are none: 10 lies between
+ten_is_one : is_abscissa apart_rooms (flat along_x) (at 10) ≡ true
+unfolding cross dot
+ten_is_one = refl
+
+zero_and_twenty_are_refused : AreNeighbours apart_rooms along_x (at 0) (at 20) → ⊥
+zero_and_twenty_are_refused are =
+    false≢true
+    (sym (are.slab.none (at 10) (omega (arith, ints)) (below_by 0 10 (omega arith))
+    (below_by 10 20 (omega arith)))
+    ∙ ten_is_one)
 
 none_between_rooms : spanning_places (plan_edges apart_rooms) along_x (at 10) (at 20) ≡ []
 unfolding cross
@@ -105,11 +220,6 @@ not_before e f low high u n i j u_in after before above (inl under) =
     let less = under u u_in after before in omega (arith, ints)
 not_before e f low high u n i j u_in after before above (inr one) =
     let none = one_line_meets along_x e.edge f.edge one.0 u in omega (arith, ints)
-
--- one whole number below another
-below_by : (m n : ℕ) → m < n → IsBelow (at m) (at n)
-unfolding cross
-below_by m n less = omega (arith, ints)
 
 -- no other number stands in a list of one
 not_alone : (m n : ℕ) → (m ≡ n → ⊥) → Stands m (n ∷ []) → ⊥
