@@ -10,6 +10,9 @@ pub mod InAnyOrder
 pub mod Passing
 -- lists with the same members, in neither of which one stands twice
 pub mod SameMembers
+-- lists that are sorted strictly, and lists that a test parts
+pub mod SortedLists
+pub mod Parted
 -- exclusive or, and parities of lists
 pub mod Parity
 mod Examples

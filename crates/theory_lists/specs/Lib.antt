@@ -1,4 +1,5 @@
 -- What the laws speak of, in reading order.
 pub mod Members
 pub mod OneOf
+pub mod Parted
 pub mod Parity

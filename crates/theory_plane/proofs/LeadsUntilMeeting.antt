@@ -69,7 +69,7 @@ first_part form r value slope =
     omega (arith, ints)
 
 -- the zero form has the value 0
-value-zero_form : (form r : Arrow) → IsZeroForm form → value_at form r ≡ pos 0
+pub value-zero_form : (form r : Arrow) → IsZeroForm form → value_at form r ≡ pos 0
 unfolding dot
 value-zero_form form r zero =
     let first : form.x *ℤ r.x ≡ pos 0 = rw zero.0 (zero-mul r.x) in
@@ -108,7 +108,7 @@ zero_if_none_leads u l m low high u_in =
         zero_of_positive r.x form.x r_in (first_part form r value slope)
 
 -- a line that leads has a clearance that is not the zero form
-form_if_leads : (u : Arrow) (l m : LineSide) → leads u l m ≡ true → IsForm (clearance l m)
+pub form_if_leads : (u : Arrow) (l m : LineSide) → leads u l m ≡ true → IsForm (clearance l m)
 form_if_leads u l m answer zero =
     not_zero (clearance l m) u (up_from (clearance_at l m u) (clearance l m).y answer) zero
 
