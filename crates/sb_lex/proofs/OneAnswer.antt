@@ -1,7 +1,7 @@
 -- To a call for the next token there is one answer.
-use Rattle.std.proofs.Common.{◌≡◌, ◌≢◌, ℕ, ◌+◌, ◌-◌, ◌<◌, ◌≤◌, ◌↔◌, Bool, true, false, not, cond, ◌&&◌, ◌||◌, eqb, leb, List, ◌∷◌, ◌++◌, Option, Some, None, Result, Ok, Err, length, take, drop, sym, refl, ap, ◌∙◌, subst, ⊎_elim, inl, inr, arith, length-append, length-drop, drop-drop, le_refl}
+use Rattle.std.proofs.Common.{◌≡◌, ◌≢◌, ℕ, ◌+◌, ◌-◌, ◌<◌, ◌≤◌, ◌↔◌, Bool, true, false, cond, eqb, List, ◌∷◌, ◌++◌, Option, Some, None, Result, Ok, Err, length, take, drop, sym, refl, ap, ◌∙◌, subst, ⊎_elim, inl, inr, arith, length-append, length-drop, drop-drop, le_refl}
 use Rattle.std.specs.Prelude.{codes, slice_range}
-use Rattle.std.proofs.lemmas.Bool.{cond_both, cond-true, cond-false, eqb-true, eq-eqb, ne_eqb, and_parts, or_cases, leb-true, cases_lt, eqb-false}
+use Rattle.std.proofs.lemmas.Bool.{cond_both, cond-true, cond-false, eqb-true, eq-eqb, ne_eqb, or_cases, cases_lt, eqb-false}
 use Rattle.std.proofs.Math.Arith.{le-zero}
 use Rattle.std.proofs.lemmas.Option.{none-some}
 use Rattle.std.proofs.lemmas.List.{drop_all}
@@ -19,7 +19,7 @@ use Rattle.sb_lex.specs.Kinds.{IsOf, not_after, Unclosed, BlankPiece}
 use Rattle.sb_lex.specs.Tokens.{IsCandidate, IsToken, IsGap, Reading, IsTokenAnswer}
 use Rattle.sb_lex.specs.Scanning.{Scanned, head_of, scan_at, scan, comment_len, piece_len}
 use Rattle.theory_bytes.proofs.PrefixesJoin.{text_is}
-use Rattle.theory_bytes.proofs.BytesByBytes.{passes_below}
+use Rattle.theory_bytes.proofs.BytesByBytes.{passes_in_range}
 use Rattle.theory_bytes.proofs.JoinedHasParts.{around, around_append}
 use Rattle.sb_lex.proofs.GapsAgree.{piece_found, piece_len-piece, blanks_agree}
 use Rattle.sb_lex.proofs.FoundIsLongest.{Front, IsFront, Covers, scan_front, scan_covers}
@@ -131,20 +131,12 @@ other_is : (h : Head) → is_other h ≡ true → h ≡ head.Other
 other_is head.Other other = refl
 other_is _ other = cc
 
-white_is_low : (b : ℕ) → is_white b ≡ true → b < 33
-white_is_low b white =
-    ⊎_elim (λ (control : (leb byte.tab b && leb b byte.carriage_return) ≡ true). omega (
-      arith,
-      leb-true b byte.carriage_return (and_parts (leb byte.tab b)
-          (leb b byte.carriage_return) control).1,
-    ))
-    (λ space. omega (arith, eqb-true b byte.space space)) (or_cases _ (eqb b byte.space) white)
-
 white_is_other : (b : ℕ) → is_white b ≡ true → head_of b ≡ head.Other
 white_is_other b white =
-    other_is (head_of b) (ap (λ w. not w || is_other (head_of b)) (sym white)
-    ∙ passes_below (λ b. not (is_white b) || is_other (head_of b)) 33 refl b
-    (white_is_low b white))
+    ⊎_elim
+    (λ control. other_is (head_of b)
+    (passes_in_range byte.tab byte.carriage_return (λ c. is_other (head_of c)) refl b control))
+    (λ space. ap head_of (eqb-true b byte.space space)) (or_cases _ (eqb b byte.space) white)
 
 blank_is_no_token : (text rest : List ℕ) → BlankPiece text → scan (text ++ rest) ≡ None
 blank_is_no_token text rest (inl white) =
@@ -154,25 +146,11 @@ blank_is_no_token text rest (inr comment) =
     let t = around (codes "/*") (codes "*/") Unclosed text comment in
     ap scan (around_append (codes "/*") (codes "*/") Unclosed text rest t)
 
--- where a token is found no piece begins
-stops_at_token : (bytes : List ℕ) (x : Kind × ℕ) → scan bytes ≡ Some x → piece_len bytes ≡ 0
-stops_at_token bytes x found =
-    ⊎_elim
-    (λ some.
-    let e = piece_found bytes some in
-    let none : scan bytes ≡ None = ap scan e.prefix.joined ∙ blank_is_no_token e.prefix.text e.rest
-    e.prefix.is in
-    absurd (none-some x (sym none ∙ found)))
-    (λ none. le-zero none)
-    (cases_lt 0 (piece_len bytes))
-
+-- where no piece begins no length is found
 stops_at_bad : (bytes : List ℕ) → (Begins BlankPiece bytes → ⊥) → piece_len bytes ≡ 0
 stops_at_bad bytes no_blank =
     ⊎_elim
-    (λ some.
-    let e = piece_found bytes some in
-    absurd (no_blank
-    (record {
+    (λ some. let e = piece_found bytes some in absurd (no_blank (record {
       front = e.prefix.text;
       rest = e.rest;
       joined = e.prefix.joined;
@@ -180,6 +158,11 @@ stops_at_bad bytes no_blank =
     })))
     (λ none. le-zero none)
     (cases_lt 0 (piece_len bytes))
+
+-- where a token is found no piece begins
+stops_at_token : (bytes : List ℕ) (x : Kind × ℕ) → scan bytes ≡ Some x → piece_len bytes ≡ 0
+stops_at_token bytes x found = stops_at_bad bytes (λ b. none-some x
+    (sym (ap scan b.joined ∙ blank_is_no_token b.front b.rest b.is) ∙ found))
 
 -- where no length is found no piece begins
 pub no_blank_found : (bytes : List ℕ) → piece_len bytes ≡ 0 → Begins BlankPiece bytes → ⊥
