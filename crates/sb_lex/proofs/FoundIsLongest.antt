@@ -47,9 +47,9 @@ abbrev pub Covers : Scanned → Kind → ℕ → Type 0
 Covers None k n = ⊥
 Covers (Some x) k n = (n ≤ x.1) × (x.1 ≡ n → x.0 ≡ k)
 
-covers_longer : (m : ℕ) (o : Scanned) (k : Kind) (n : ℕ) → Covers o k n → Covers (longer m o) k (m + n)
-covers_longer m None k n c = c
-covers_longer m (Some x) k n c = (omega (arith, c.0), λ equal. c.1 (omega arith))
+covers_longer : (o : Scanned) (k : Kind) (n : ℕ) → Covers o k n → Covers (longer 1 o) k (1 + n)
+covers_longer None k n c = c
+covers_longer (Some x) k n c = (omega (arith, c.0), λ equal. c.1 (omega arith))
 
 -- an answer of one kind, where it is the longest string of its set
 abbrev IsLongestOf : (List ℕ → Type 0) → Kind → List ℕ → Scanned → Type 0
@@ -500,7 +500,7 @@ signed_covers k bytes n h =
     subst (λ l. Covers (scan l) k n) (sym whole)
     (subst (λ h. Covers (scan_at h (b ∷ bs)) k n) (sym (sign_head b t.first.passes))
     (subst (Covers (longer 1 (scan_unsigned bs)) k) size
-    (covers_longer 1 (scan_unsigned bs) k (length t.back)
+    (covers_longer (scan_unsigned bs) k (length t.back)
     ((number_found bs).covers k (length t.back) inner))))
 
 number_covers : (k : Kind) (bytes : List ℕ) (n : ℕ) → HasPrefix (Signed (Unsigned k)) bytes n

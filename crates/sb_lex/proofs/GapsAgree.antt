@@ -59,23 +59,19 @@ blank_more rest at n size some blank =
     subst Blank (sym (take-add at n rest))
     (repeated_push BlankPiece (take at rest) (take n (drop at rest)) blank piece)
 
-concat_append : (p : List ℕ) (ps : List (List ℕ)) (a : List ℕ) → concat (p ∷ ps) ++ a ≡ p ++
-    (concat ps ++ a)
-concat_append p ps a = append_assoc p (concat ps) a
-
 pieces_agree : (ps qs : List (List ℕ)) (a b : List ℕ) → AllByRecursion BlankPiece ps
     → AllByRecursion BlankPiece qs → concat ps ++ a ≡ concat qs ++ b → piece_len a ≡ 0
     → piece_len b ≡ 0 → length (concat ps) ≡ length (concat qs)
 pieces_agree [] [] a b each_p each_q same a_stops b_stops = refl
 pieces_agree [] (q ∷ qs) a b each_p each_q same a_stops b_stops =
     let piece = piece_len-piece q (concat qs ++ b) each_q.0 in
-    absurd (omega (arith, ap piece_len (same ∙ concat_append q qs b), piece.0, piece.1))
+    absurd (omega (arith, ap piece_len (same ∙ append_assoc q (concat qs) b), piece.0, piece.1))
 pieces_agree (p ∷ ps) [] a b each_p each_q same a_stops b_stops =
     let piece = piece_len-piece p (concat ps ++ a) each_p.0 in
-    absurd (omega (arith, ap piece_len (sym same ∙ concat_append p ps a), piece.0, piece.1))
+    absurd (omega (arith, ap piece_len (sym same ∙ append_assoc p (concat ps) a), piece.0, piece.1))
 pieces_agree (p ∷ ps) (q ∷ qs) a b each_p each_q same a_stops b_stops =
     let whole : p ++ (concat ps ++ a) ≡ q ++ (concat qs ++ b) =
-    sym (concat_append p ps a) ∙ same ∙ concat_append q qs b in
+    sym (append_assoc p (concat ps) a) ∙ same ∙ append_assoc q (concat qs) b in
     let one = (piece_len-piece p (concat ps ++ a) each_p.0).0 in
     let other = (piece_len-piece q (concat qs ++ b) each_q.0).0 in
     let as_long : length p ≡ length q = sym one ∙ ap piece_len whole ∙ other in

@@ -1,5 +1,5 @@
 -- No token is empty, and one with an inside has a first byte and a last.
-use Rattle.std.proofs.Common.{◌≡◌, ℕ, ◌≤◌, List, [], ◌∷◌, Ok, Err, Some, None, length, refl, arith}
+use Rattle.std.proofs.Common.{◌≡◌, ℕ, ◌≤◌, List, [], ◌∷◌, length, refl, arith}
 use Rattle.std.specs.Prelude.{codes, slice_range}
 use Rattle.theory_bytes.proofs.InsidesAreBetween.{slice_length}
 use Rattle.sb_lex.specs.declared.kinds.Kind.{Kind}
@@ -7,10 +7,9 @@ use Rattle.sb_lex.specs.declared.kinds.Kind.TheVariants as kind
 use Rattle.sb_lex.specs.declared.kinds.Token.{Token}
 use Rattle.theory_bytes.specs.Sets.{Text, ◌⋅◌, Repeated}
 use Rattle.sb_lex.specs.Kinds.{Letters, HexDigits, StringPiece, IsOf}
-use Rattle.sb_lex.specs.Tokens.{IsNext, Reading, IsTokenAnswer, least_length, LiesBehind, Lies}
+use Rattle.sb_lex.specs.Tokens.{IsNext, Reading, least_length, LiesBehind}
 use Rattle.theory_bytes.proofs.JoinedHasParts.{around, around_length}
 use Rattle.sb_lex.proofs.FoundIsLongest.{scan_covers}
-use Rattle.sb_lex.proofs.OneAnswer.{Answer}
 
 two_around : (a b : List ℕ) (P : List ℕ → Type 0) (text : List ℕ) → (Text a ⋅ P ⋅ Text b) text
     → length a ≡ 1 → length b ≡ 1 → 2 ≤ length text
@@ -56,9 +55,3 @@ next_lies at t next =
       long = omega (arith, long, slice_length at.input t.start t.end c.ordered c.within, c.ordered);
       within = c.within;
     }
-
--- where an answer lies
-pub answer_lies : (at : Reading) (answer : Answer) → IsTokenAnswer at answer → Lies at answer
-answer_lies at (Ok (Some t)) next = next_lies at t next
-answer_lies at (Ok None) at_end = tt
-answer_lies at (Err bad) is = (is.gap.ordered, is.within)
