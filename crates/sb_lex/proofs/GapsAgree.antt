@@ -7,9 +7,10 @@ use Rattle.std.proofs.lemmas.Bool.{cond_both}
 use Rattle.std.proofs.lemmas.List.{append_cancel_left}
 use Rattle.sb_lex.specs.Bytes.{is_white}
 use Rattle.theory_bytes.specs.Sets.{Byte}
-use Rattle.sb_lex.specs.Kinds.{Unclosed, IsComment, BlankPiece, Blank}
+use Rattle.sb_lex.specs.Kinds.{Unclosed, BlankPiece, Blank}
 use Rattle.sb_lex.specs.Scanning.{comment_len, piece_len}
-use Rattle.theory_bytes.proofs.PrefixesJoin.{HasPrefix, prefix_as, prefix_byte, text_is}
+use Rattle.theory_bytes.proofs.PrefixesJoin.{HasPrefix, prefix_byte, text_is}
+use Rattle.theory_bytes.proofs.LongestPrefixes.{as_set}
 use Rattle.theory_bytes.proofs.JoinedHasParts.{around, around_length}
 use Rattle.theory_bytes.proofs.RepeatsGrow.{repeated_push}
 use Rattle.sb_lex.proofs.CommentsClose.{comment_len-comment, comment_found}
@@ -22,16 +23,13 @@ piece_found [] some = absurd (omega arith)
 piece_found (b ∷ bs) some =
     let P : ℕ → Type 0 = λ n. 0 < n → HasPrefix BlankPiece (b ∷ bs) n in
     cond_both (is_white b) 1 (comment_len (b ∷ bs)) P
-    (λ white more. record {
-      rest = bs;
-      prefix = prefix_as (Byte is_white) BlankPiece (b ∷ bs)
-          bs 1 (λ xs is. inl is) (prefix_byte is_white b bs white);
-    })
-    (λ other more. let c = comment_found (b ∷ bs) more in record {
-      rest = c.rest;
-      prefix = prefix_as IsComment BlankPiece (b ∷ bs) c.rest
-          (comment_len (b ∷ bs)) (λ xs is. inr is) c.prefix;
-    }) some
+    (λ white more.
+    let byte : HasPrefix (Byte is_white) (b ∷ bs) 1 =
+    record { rest = bs; prefix = prefix_byte is_white b bs white } in
+    as_set BlankPiece byte (inl byte.prefix.is))
+    (λ other more.
+    let comment = comment_found (b ∷ bs) more in as_set BlankPiece comment (inr comment.prefix.is))
+    some
 
 -- the length of a piece at the front, whatever follows it
 pub piece_len-piece : (xs rest : List ℕ) → BlankPiece xs → (piece_len (xs ++ rest) ≡ length xs)
