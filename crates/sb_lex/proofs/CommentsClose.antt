@@ -1,12 +1,13 @@
 -- A comment ends at the next `*/`: there is one way to read it.
-use Rattle.std.proofs.Common.{◌≡◌, ℕ, suc, ◌+◌, ◌<◌, Bool, true, false, ◌&&◌, eqb, List, [], ◌∷◌, ◌++◌, Option, Some, None, length, get_or, sym, refl, ap, ◌∙◌, subst, arith, one-add}
+use Rattle.std.proofs.Common.{◌≡◌, ℕ, suc, ◌+◌, ◌<◌, Bool, true, false, ◌&&◌, eqb, List, [], ◌∷◌, ◌++◌, Option, Some, None, length, get_or, drop, drop-drop, sym, refl, ap, ◌∙◌, subst, arith, one-add}
 use Rattle.std.specs.Prelude.{codes}
-use Rattle.std.proofs.lemmas.Bool.{cond_both, cond-false, and_parts, eqb-true, both_ways, and_right, and_from, eq-eqb, false_from_ne_true}
-use Rattle.theory_bytes.specs.Sets.{Text, ◌⋅◌, Holds}
+use Rattle.std.proofs.lemmas.Bool.{cond_both, and_parts, eqb-true, both_ways, and_right, and_from, eq-eqb, false_from_ne_true}
+use Rattle.theory_bytes.specs.Sets.{Holds}
 use Rattle.sb_lex.specs.Bytes as byte
 use Rattle.sb_lex.specs.Kinds.{Unclosed, IsComment}
 use Rattle.sb_lex.specs.Scanning.{after, close_at, closed_len, comment_len}
-use Rattle.theory_bytes.proofs.PrefixesJoin.{IsPrefix, HasPrefix, prefix_so_long, prefix_joined, prefix_text}
+use Rattle.theory_bytes.proofs.PrefixesJoin.{HasPrefix, prefix_so_long}
+use Rattle.theory_bytes.proofs.LongestPrefixes.{prefix_around, stands_at, text_stands}
 use Rattle.theory_bytes.proofs.JoinedHasParts.{around, around_append, around_length}
 
 -- the text before the next `*/`
@@ -124,43 +125,33 @@ comment_len-comment xs rest is =
     ∙ omega (arith, around_length (codes "/*") (codes "*/") Unclosed xs t)
 
 comment_at_front : (bs : List ℕ) (o : Option ℕ) → IsClosing o bs → 0 < closed_len o
-    → HasPrefix IsComment
-    (byte.slash ∷ byte.asterisk ∷ bs) (closed_len o)
+    → HasPrefix IsComment (byte.slash ∷ byte.asterisk ∷ bs) (closed_len o)
 comment_at_front bs None c some = absurd (omega arith)
 comment_at_front bs (Some n) c some =
-    let inside : IsPrefix Unclosed bs (byte.asterisk ∷ byte.slash ∷ c.rest) n = record
-    { text = c.text; joined = c.joined; long = c.long; is = c.unclosed } in
-    record {
+    let size : 2 + (length c.text + 2) ≡ n + 4 = omega (arith, c.long) in
+    subst (λ l. HasPrefix IsComment (byte.slash ∷ byte.asterisk ∷ l) (n + 4)) (sym c.joined)
+    (record {
       rest = c.rest;
-      prefix =
-          prefix_so_long IsComment (byte.slash ∷ byte.asterisk ∷ bs) c.rest (2 + (n + 2)) (n + 4)
-          (omega arith)
-          (prefix_joined (Text (codes "/*")) (Unclosed ⋅ Text (codes "*/"))
-          (byte.slash ∷ byte.asterisk ∷ bs) bs
-          c.rest 2 (n + 2) (prefix_text (codes "/*") bs 2 refl)
-          (prefix_joined Unclosed (Text (codes "*/")) bs
-          (byte.asterisk ∷ byte.slash ∷ c.rest) c.rest n 2 inside
-          (prefix_text (codes "*/") c.rest 2 refl)));
-    }
+      prefix = prefix_so_long IsComment _ c.rest _ (n + 4) size
+          (prefix_around (codes "/*") (codes "*/") Unclosed c.text c.rest c.unclosed);
+    })
 
 -- where a length is found, a comment so long stands there
 pub comment_found : (bytes : List ℕ) → 0 < comment_len bytes → HasPrefix IsComment bytes
     (comment_len bytes)
 unfolding comment_len
-comment_found [] some = absurd (omega arith)
-comment_found (x ∷ []) some = absurd
-    (omega (
-      arith,
-      cond-false (eqb x byte.slash && eqb 0 byte.asterisk) (closed_len (close_at [])) 0
-          (and_right (eqb x byte.slash) (eqb 0 byte.asterisk) refl),
-    ))
-comment_found (x ∷ y ∷ bs) some =
-    let opened = eqb x byte.slash && eqb y byte.asterisk in
-    let P : ℕ → Type 0 = λ n. 0 < n → HasPrefix IsComment (x ∷ y ∷ bs) n in
-    cond_both opened (closed_len (close_at bs)) 0 P
-    (λ both more. let parts = and_parts (eqb x byte.slash)
-    (eqb y byte.asterisk) both in let Q : List ℕ
-    → Type 0 = λ l. HasPrefix IsComment l (closed_len (close_at bs)) in subst Q
-    (λ i. sym (eqb-true x byte.slash parts.0) i ∷ (sym (eqb-true y byte.asterisk parts.1) i ∷ bs))
+comment_found bytes some =
+    let first = eqb (get_or bytes 0 0) byte.slash in
+    let second = eqb (get_or bytes 1 0) byte.asterisk in
+    let bs = drop 2 bytes in
+    cond_both (first && second) (closed_len (close_at bs)) 0
+    (λ n. 0 < n → HasPrefix IsComment bytes n)
+    (λ both more.
+    let each = and_parts first second both in
+    let whole : bytes ≡ byte.slash ∷ byte.asterisk ∷ bs =
+    text_stands (stands_at byte.slash bytes 0 (omega arith) each.0).0
+    ∙ ap (λ l. byte.slash ∷ l) (text_stands (stands_at byte.asterisk bytes 1 (omega arith) each.1).0
+    ∙ ap (λ l. byte.asterisk ∷ l) (drop-drop 1 1 bytes)) in
+    subst (λ l. HasPrefix IsComment l (closed_len (close_at bs))) (sym whole)
     (comment_at_front bs (close_at bs) (closing_found bs) more))
     (λ other none. absurd (omega arith)) some

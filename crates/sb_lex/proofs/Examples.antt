@@ -13,16 +13,8 @@ use Rattle.theory_bytes.specs.Sets.{Begins}
 use Rattle.sb_lex.specs.Kinds.{BlankPiece}
 use Rattle.sb_lex.specs.Tokens.{IsCandidate, IsToken}
 use Rattle.sb_lex.specs.Scanning.{Scanned, scan, scan_letters, scan_exclamation, scan_name, scan_unsigned, scan_enclosed, exponent_len, comment_len, piece_len}
+use Rattle.sb_lex.proofs.FoundIsLongest.{all_from_maps}
 use Rattle.sb_lex.proofs.OneAnswer.{token_of, found_token, no_token_found, no_blank_found}
-
--- two functions with the same values on a list have them item by item
-all_from_maps : {X Y : Type 0} (f g : X → Y) (xs : List X) → map f xs ≡ map g xs
-    → AllByRecursion (λ x. f x ≡ g x) xs
-all_from_maps f g [] same = tt
-all_from_maps f g (x ∷ xs) same =
-    let first : f x ≡ g x = cc in
-    let later : map f xs ≡ map g xs = cc in
-    (first, all_from_maps f g xs later)
 
 -- a text with the kind and the length of the token at its front
 abbrev Row : Type 0

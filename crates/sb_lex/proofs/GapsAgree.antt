@@ -7,9 +7,10 @@ use Rattle.std.proofs.lemmas.Bool.{cond_both}
 use Rattle.std.proofs.lemmas.List.{append_cancel_left}
 use Rattle.sb_lex.specs.Bytes.{is_white}
 use Rattle.theory_bytes.specs.Sets.{Byte}
-use Rattle.sb_lex.specs.Kinds.{Unclosed, IsComment, BlankPiece, Blank}
+use Rattle.sb_lex.specs.Kinds.{Unclosed, BlankPiece, Blank}
 use Rattle.sb_lex.specs.Scanning.{comment_len, piece_len}
-use Rattle.theory_bytes.proofs.PrefixesJoin.{HasPrefix, prefix_as, prefix_byte, text_is}
+use Rattle.theory_bytes.proofs.PrefixesJoin.{HasPrefix, prefix_byte, text_is}
+use Rattle.theory_bytes.proofs.LongestPrefixes.{as_set}
 use Rattle.theory_bytes.proofs.JoinedHasParts.{around, around_length}
 use Rattle.theory_bytes.proofs.RepeatsGrow.{repeated_push}
 use Rattle.sb_lex.proofs.CommentsClose.{comment_len-comment, comment_found}
@@ -22,16 +23,13 @@ piece_found [] some = absurd (omega arith)
 piece_found (b ∷ bs) some =
     let P : ℕ → Type 0 = λ n. 0 < n → HasPrefix BlankPiece (b ∷ bs) n in
     cond_both (is_white b) 1 (comment_len (b ∷ bs)) P
-    (λ white more. record {
-      rest = bs;
-      prefix = prefix_as (Byte is_white) BlankPiece (b ∷ bs)
-          bs 1 (λ xs is. inl is) (prefix_byte is_white b bs white);
-    })
-    (λ other more. let c = comment_found (b ∷ bs) more in record {
-      rest = c.rest;
-      prefix = prefix_as IsComment BlankPiece (b ∷ bs) c.rest
-          (comment_len (b ∷ bs)) (λ xs is. inr is) c.prefix;
-    }) some
+    (λ white more.
+    let byte : HasPrefix (Byte is_white) (b ∷ bs) 1 =
+    record { rest = bs; prefix = prefix_byte is_white b bs white } in
+    as_set BlankPiece byte (inl byte.prefix.is))
+    (λ other more.
+    let comment = comment_found (b ∷ bs) more in as_set BlankPiece comment (inr comment.prefix.is))
+    some
 
 -- the length of a piece at the front, whatever follows it
 pub piece_len-piece : (xs rest : List ℕ) → BlankPiece xs → (piece_len (xs ++ rest) ≡ length xs)
@@ -59,23 +57,19 @@ blank_more rest at n size some blank =
     subst Blank (sym (take-add at n rest))
     (repeated_push BlankPiece (take at rest) (take n (drop at rest)) blank piece)
 
-concat_append : (p : List ℕ) (ps : List (List ℕ)) (a : List ℕ) → concat (p ∷ ps) ++ a ≡ p ++
-    (concat ps ++ a)
-concat_append p ps a = append_assoc p (concat ps) a
-
 pieces_agree : (ps qs : List (List ℕ)) (a b : List ℕ) → AllByRecursion BlankPiece ps
     → AllByRecursion BlankPiece qs → concat ps ++ a ≡ concat qs ++ b → piece_len a ≡ 0
     → piece_len b ≡ 0 → length (concat ps) ≡ length (concat qs)
 pieces_agree [] [] a b each_p each_q same a_stops b_stops = refl
 pieces_agree [] (q ∷ qs) a b each_p each_q same a_stops b_stops =
     let piece = piece_len-piece q (concat qs ++ b) each_q.0 in
-    absurd (omega (arith, ap piece_len (same ∙ concat_append q qs b), piece.0, piece.1))
+    absurd (omega (arith, ap piece_len (same ∙ append_assoc q (concat qs) b), piece.0, piece.1))
 pieces_agree (p ∷ ps) [] a b each_p each_q same a_stops b_stops =
     let piece = piece_len-piece p (concat ps ++ a) each_p.0 in
-    absurd (omega (arith, ap piece_len (sym same ∙ concat_append p ps a), piece.0, piece.1))
+    absurd (omega (arith, ap piece_len (sym same ∙ append_assoc p (concat ps) a), piece.0, piece.1))
 pieces_agree (p ∷ ps) (q ∷ qs) a b each_p each_q same a_stops b_stops =
     let whole : p ++ (concat ps ++ a) ≡ q ++ (concat qs ++ b) =
-    sym (concat_append p ps a) ∙ same ∙ concat_append q qs b in
+    sym (append_assoc p (concat ps) a) ∙ same ∙ append_assoc q (concat qs) b in
     let one = (piece_len-piece p (concat ps ++ a) each_p.0).0 in
     let other = (piece_len-piece q (concat qs ++ b) each_q.0).0 in
     let as_long : length p ≡ length q = sym one ∙ ap piece_len whole ∙ other in

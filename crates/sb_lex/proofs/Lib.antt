@@ -2,8 +2,7 @@ pub mod StringsByRuns
 pub mod CommentsClose
 pub mod StringsEnd
 pub mod GapsAgree
-pub mod ScannedIsToken
-pub mod TokenIsScanned
+pub mod FoundIsLongest
 pub mod OneAnswer
 pub mod TokensHaveBytes
 pub mod OneListOfTokens

@@ -1,7 +1,7 @@
 -- To a call for the next token there is one answer.
-use Rattle.std.proofs.Common.{◌≡◌, ◌≢◌, ℕ, ◌+◌, ◌-◌, ◌<◌, ◌≤◌, ◌↔◌, true, cond, ◌&&◌, eqb, leb, List, ◌∷◌, ◌++◌, Option, Some, None, Result, Ok, Err, length, take, drop, sym, refl, ap, ◌∙◌, subst, ⊎_elim, inl, inr, arith, drop_at, length-append, length-drop, drop-drop, le_refl}
+use Rattle.std.proofs.Common.{◌≡◌, ◌≢◌, ℕ, ◌+◌, ◌-◌, ◌<◌, ◌≤◌, ◌↔◌, Bool, true, false, cond, eqb, List, ◌∷◌, ◌++◌, Option, Some, None, Result, Ok, Err, length, take, drop, sym, refl, ap, ◌∙◌, subst, ⊎_elim, inl, inr, arith, length-append, length-drop, drop-drop, le_refl}
 use Rattle.std.specs.Prelude.{codes, slice_range}
-use Rattle.std.proofs.lemmas.Bool.{cond_both, cond-true, cond-false, eqb-true, eq-eqb, ne_eqb, and_parts, or_cases, leb-true, cases_lt, eqb-false}
+use Rattle.std.proofs.lemmas.Bool.{cond_both, cond-true, cond-false, eqb-true, eq-eqb, ne_eqb, or_cases, cases_lt, eqb-false}
 use Rattle.std.proofs.Math.Arith.{le-zero}
 use Rattle.std.proofs.lemmas.Option.{none-some}
 use Rattle.std.proofs.lemmas.List.{drop_all}
@@ -11,7 +11,6 @@ use Rattle.sb_lex.specs.Bytes as byte
 use Rattle.sb_lex.specs.declared.kinds.Kind.{Kind}
 use Rattle.sb_lex.specs.declared.kinds.Token.{Token}
 use Rattle.sb_lex.specs.declared.kinds.BadToken.{BadToken}
-use Rattle.sb_lex.specs.declared.kinds.Mark.TheVariants as mark
 use Rattle.sb_lex.specs.declared.first_byte.Head.{Head}
 use Rattle.sb_lex.specs.declared.first_byte.Head.TheVariants as head
 use Rattle.sb_lex.specs.Bytes.{is_white}
@@ -20,10 +19,10 @@ use Rattle.sb_lex.specs.Kinds.{IsOf, not_after, Unclosed, BlankPiece}
 use Rattle.sb_lex.specs.Tokens.{IsCandidate, IsToken, IsGap, Reading, IsTokenAnswer}
 use Rattle.sb_lex.specs.Scanning.{Scanned, head_of, scan_at, scan, comment_len, piece_len}
 use Rattle.theory_bytes.proofs.PrefixesJoin.{text_is}
+use Rattle.theory_bytes.proofs.BytesByBytes.{passes_in_range}
 use Rattle.theory_bytes.proofs.JoinedHasParts.{around, around_append}
 use Rattle.sb_lex.proofs.GapsAgree.{piece_found, piece_len-piece, blanks_agree}
-use Rattle.sb_lex.proofs.ScannedIsToken.{Front, IsFront, HeadFits, head_fits, scan_front}
-use Rattle.sb_lex.proofs.TokenIsScanned.{Covers, scan_covers}
+use Rattle.sb_lex.proofs.FoundIsLongest.{Front, IsFront, Covers, scan_front, scan_covers}
 
 -- a token at a place, by its length
 abbrev pub token_of : Kind → ℕ → ℕ → Token
@@ -31,54 +30,49 @@ token_of k from n = record { kind = k; start = from; end = from + n }
 
 -- what stands at a place, and what follows it
 
+-- a candidate is what stands at the front of the bytes that are left
 front_from_candidate : (input : List ℕ) (t : Token) → IsCandidate input t
     → Front (drop t.start input) t.kind (t.end - t.start)
 front_from_candidate input t c = record {
-  rest = drop t.end input;
   prefix = record {
-    text = slice_range input t.start t.end;
-    joined = drop_split input t.start t.end c.ordered;
-    long = slice_length input t.start t.end c.ordered c.within;
-    is = c.of_kind;
+    rest = drop t.end input;
+    prefix = record {
+      text = slice_range input t.start t.end;
+      joined = drop_split input t.start t.end c.ordered;
+      long = slice_length input t.start t.end c.ordered c.within;
+      is = c.of_kind;
+    };
   };
-  free = c.free;
+  free =
+      ap (begins_with (not_after t.kind)) (drop-drop (t.end - t.start) t.start input
+      ∙ ap (λ k. drop k input) (omega (arith, c.ordered))) ∙ c.free;
 }
 
 candidate_from_front : (input : List ℕ) (from : ℕ) (k : Kind) (n : ℕ) → from ≤ length input
     → Front (drop from input) k n → IsCandidate input (token_of k from n)
 candidate_from_front input from k n within f =
-    let bytes = drop from input in
+    let at = f.prefix.prefix in
     let size : from + n - from ≡ n = omega arith in
-    let text : f.prefix.text ≡ slice_range input from (from + n) =
-    text_is (IsOf k) bytes f.rest n f.prefix ∙ ap (λ m. take m bytes) (sym size) in
-    let rest : f.rest ≡ drop (from + n) input =
-    sym (drop_at f.prefix.text f.rest n f.prefix.long) ∙ ap (drop n) (sym f.prefix.joined)
-    ∙ drop-drop n from input in
     record {
       ordered = omega arith;
       within =
           omega (
             arith,
             length-drop from input,
-            ap length f.prefix.joined,
-            length-append
-                f.prefix.text f.rest,
-            f.prefix.long,
+            ap length at.joined,
+            length-append at.text f.prefix.rest,
+            at.long,
           );
-      of_kind = subst (IsOf k) text f.prefix.is;
-      free = ap (begins_with (not_after k)) (sym rest) ∙ f.free;
+      of_kind =
+          subst (IsOf k) (text_is (IsOf k) (drop from input) f.prefix.rest n at
+          ∙ ap (λ m. take m (drop from input)) (sym size)) at.is;
+      free = ap (begins_with (not_after k)) (sym (drop-drop n from input)) ∙ f.free;
     }
-
-front_covered : (bytes : List ℕ) (k : Kind) (n : ℕ) → Front bytes k n → Covers (scan bytes) k n
-front_covered bytes k n f =
-    subst (λ l. Covers (scan l) k n) (sym f.prefix.joined)
-    (subst (Covers (scan (f.prefix.text ++ f.rest)) k) f.prefix.long
-    (scan_covers k f.prefix.text f.rest f.prefix.is f.free))
 
 candidate_covered : (input : List ℕ) (t : Token) → IsCandidate input t
     → Covers (scan (drop t.start input)) t.kind (t.end - t.start)
-candidate_covered input t c = front_covered (drop t.start input) t.kind (t.end - t.start)
-    (front_from_candidate input t c)
+candidate_covered input t c =
+    scan_covers t.kind (drop t.start input) (t.end - t.start) (front_from_candidate input t c)
 
 found_candidate : (input : List ℕ) (from : ℕ) (x : Kind × ℕ) → from ≤ length input
     → scan (drop from input) ≡ Some x → IsCandidate input (token_of x.0 from x.1)
@@ -129,73 +123,34 @@ none_found input place (Some x) within no_token found =
 
 -- white space and comments begin no token
 
-low_head : (h : Head) (b : ℕ) → b ≤ byte.space → HeadFits h b → h ≡ head.Other
-low_head head.Letter b low fits =
-    ⊎_elim (λ (capital : (leb byte.capital_a b && leb b byte.capital_z) ≡ true). absurd
-    (omega (
-      arith,
-      leb-true byte.capital_a b (and_parts (leb byte.capital_a b)
-          (leb b byte.capital_z) capital).0,
-    )))
-    (λ underscore. absurd (omega (arith, eqb-true b byte.underscore underscore)))
-    (or_cases _ (eqb b byte.underscore) fits)
-low_head head.Digit b low fits = absurd
-    (omega (arith, leb-true byte.zero b (and_parts (leb byte.zero b) (leb b byte.nine) fits).0))
-low_head head.Sign b low fits =
-    ⊎_elim (λ plus. absurd (omega (arith, eqb-true b byte.plus plus)))
-    (λ minus. absurd (omega (arith, eqb-true b byte.minus minus))) (or_cases (eqb b byte.plus)
-    (eqb b byte.minus) fits)
-low_head head.Exclamation b low fits = absurd (omega arith)
-low_head head.Hash b low fits = absurd (omega arith)
-low_head head.Apostrophe b low fits = absurd (omega (arith, eqb-true b byte.apostrophe fits))
-low_head head.Point b low fits = absurd (omega arith)
-low_head head.Quote b low fits = absurd (omega arith)
-low_head (head.Mark mark.Dollar) b low fits = absurd (omega arith)
-low_head (head.Mark mark.Asterisk) b low fits = absurd (omega arith)
-low_head (head.Mark mark.Open) b low fits = absurd (omega arith)
-low_head (head.Mark mark.Close) b low fits = absurd (omega arith)
-low_head (head.Mark mark.Comma) b low fits = absurd (omega arith)
-low_head (head.Mark mark.Semicolon) b low fits = absurd (omega arith)
-low_head (head.Mark mark.Equals) b low fits = absurd (omega arith)
-low_head head.Other b low fits = refl
+abbrev is_other : Head → Bool
+is_other head.Other = true
+is_other _ = false
 
-white_is_low : (b : ℕ) → is_white b ≡ true → b ≤ byte.space
-white_is_low b white =
-    ⊎_elim (λ (control : (leb byte.tab b && leb b byte.carriage_return) ≡ true). omega (
-      arith,
-      leb-true b byte.carriage_return (and_parts (leb byte.tab b)
-          (leb b byte.carriage_return) control).1,
-    ))
-    (λ space. omega (arith, eqb-true b byte.space space)) (or_cases _ (eqb b byte.space) white)
+other_is : (h : Head) → is_other h ≡ true → h ≡ head.Other
+other_is head.Other other = refl
+other_is _ other = cc
+
+white_is_other : (b : ℕ) → is_white b ≡ true → head_of b ≡ head.Other
+white_is_other b white =
+    ⊎_elim
+    (λ control. other_is (head_of b)
+    (passes_in_range byte.tab byte.carriage_return (λ c. is_other (head_of c)) refl b control))
+    (λ space. ap head_of (eqb-true b byte.space space)) (or_cases _ (eqb b byte.space) white)
 
 blank_is_no_token : (text rest : List ℕ) → BlankPiece text → scan (text ++ rest) ≡ None
 blank_is_no_token text rest (inl white) =
-    let other = low_head (head_of white.byte) white.byte (white_is_low white.byte white.passes)
-    (head_fits white.byte) in
-    ap (λ l. scan (l ++ rest)) white.alone ∙ ap (λ h. scan_at h (white.byte ∷ rest)) other
+    ap (λ l. scan (l ++ rest)) white.alone
+    ∙ ap (λ h. scan_at h (white.byte ∷ rest)) (white_is_other white.byte white.passes)
 blank_is_no_token text rest (inr comment) =
     let t = around (codes "/*") (codes "*/") Unclosed text comment in
     ap scan (around_append (codes "/*") (codes "*/") Unclosed text rest t)
 
--- where a token is found no piece begins
-stops_at_token : (bytes : List ℕ) (x : Kind × ℕ) → scan bytes ≡ Some x → piece_len bytes ≡ 0
-stops_at_token bytes x found =
-    ⊎_elim
-    (λ some.
-    let e = piece_found bytes some in
-    let none : scan bytes ≡ None = ap scan e.prefix.joined ∙ blank_is_no_token e.prefix.text e.rest
-    e.prefix.is in
-    absurd (none-some x (sym none ∙ found)))
-    (λ none. le-zero none)
-    (cases_lt 0 (piece_len bytes))
-
+-- where no piece begins no length is found
 stops_at_bad : (bytes : List ℕ) → (Begins BlankPiece bytes → ⊥) → piece_len bytes ≡ 0
 stops_at_bad bytes no_blank =
     ⊎_elim
-    (λ some.
-    let e = piece_found bytes some in
-    absurd (no_blank
-    (record {
+    (λ some. let e = piece_found bytes some in absurd (no_blank (record {
       front = e.prefix.text;
       rest = e.rest;
       joined = e.prefix.joined;
@@ -203,6 +158,11 @@ stops_at_bad bytes no_blank =
     })))
     (λ none. le-zero none)
     (cases_lt 0 (piece_len bytes))
+
+-- where a token is found no piece begins
+stops_at_token : (bytes : List ℕ) (x : Kind × ℕ) → scan bytes ≡ Some x → piece_len bytes ≡ 0
+stops_at_token bytes x found = stops_at_bad bytes (λ b. none-some x
+    (sym (ap scan b.joined ∙ blank_is_no_token b.front b.rest b.is) ∙ found))
 
 -- where no length is found no piece begins
 pub no_blank_found : (bytes : List ℕ) → piece_len bytes ≡ 0 → Begins BlankPiece bytes → ⊥

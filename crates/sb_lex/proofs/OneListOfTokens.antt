@@ -1,5 +1,5 @@
 -- Each input has one list of tokens with one end, and the calls give it.
-use Rattle.std.proofs.Common.{◌≡◌, ℕ, suc, zero, ◌+◌, ◌-◌, ◌<◌, ◌≤◌, List, [], ◌∷◌, ◌++◌, Ok, Err, Option, Some, None, length, take, drop, sym, refl, ap, ap₂, ◌∙◌, subst, ⊎_elim, arith, length-append, length-drop, drop-drop, take-add, take_at, drop_at}
+use Rattle.std.proofs.Common.{◌≡◌, ℕ, suc, zero, ◌+◌, ◌-◌, ◌<◌, ◌≤◌, ◌↔◌, List, [], ◌∷◌, ◌++◌, Ok, Err, Option, Some, None, length, take, drop, sym, refl, ap, ap₂, ◌∙◌, subst, ⊎_elim, arith, length-append, length-drop, drop-drop, take-add, take_at, drop_at}
 use Rattle.std.proofs.Math.Arith.{le-zero}
 use Rattle.std.proofs.lemmas.Bool.{cases_lt}
 use Rattle.std.proofs.lemmas.Option.{some_pair_parts}
@@ -44,29 +44,23 @@ gap_more text rest piece g = record {
       (drop_at text rest (length text) refl)) ∙ g.stops;
 }
 
-gap_exists : (fuel : ℕ) (bytes : List ℕ) → length bytes ≤ fuel → Gap bytes
-gap_exists zero bytes fits =
+-- a gap, if there is one for all shorter bytes
+gap_step : (bytes : List ℕ) → ((rest : List ℕ) → length rest < length bytes → Gap rest)
+    → Gap bytes
+gap_step bytes shorter =
     ⊎_elim
     (λ some.
     let e = piece_found bytes some in
-    absurd (omega (
-      arith,
-      ap length e.prefix.joined,
-      length-append e.prefix.text e.rest,
-      e.prefix.long,
-    )))
-    (λ none. gap_stops bytes (le-zero none))
-    (cases_lt 0 (piece_len bytes))
-gap_exists (suc fuel) bytes fits =
-    ⊎_elim
-    (λ some.
-    let e = piece_found bytes some in
-    let shorter : length e.rest ≤ fuel =
-    omega (arith, ap length e.prefix.joined, length-append e.prefix.text e.rest, e.prefix.long) in
     subst Gap (sym e.prefix.joined)
-    (gap_more e.prefix.text e.rest e.prefix.is (gap_exists fuel e.rest shorter)))
+    (gap_more e.prefix.text e.rest e.prefix.is (shorter e.rest
+    (omega (arith, ap length e.prefix.joined, length-append e.prefix.text e.rest, e.prefix.long)))))
     (λ none. gap_stops bytes (le-zero none))
     (cases_lt 0 (piece_len bytes))
+
+gap_exists : (fuel : ℕ) (bytes : List ℕ) → length bytes ≤ fuel → Gap bytes
+gap_exists zero bytes fits = gap_step bytes (λ rest shorter. absurd (omega arith))
+gap_exists (suc fuel) bytes fits =
+    gap_step bytes (λ rest shorter. gap_exists fuel rest (omega arith))
 
 -- a gap of the bytes that are left is one of the input
 pub stop_from_gap : (input : List ℕ) (from : ℕ) → from ≤ length input → (g : Gap (drop from input))
@@ -134,35 +128,48 @@ pub tokens_follow : TokensFollowEachPlace
 tokens_follow input from within =
     let h = has_tokens input from within in (h.tokens, h.fault, h.are)
 
+-- the answer with which tokens begin
+abbrev first_answer : List Token → Option BadToken → Answer
+first_answer [] None = Ok None
+first_answer [] (Some bad) = Err bad
+first_answer (t ∷ ts) fault = Ok (Some t)
+
+first_holds : (input : List ℕ) (from : ℕ) (ts : List Token) (fault : Option BadToken)
+    → AreTokensFrom input from ts fault
+    → IsTokenAnswer (record { input = input; place = from }) (first_answer ts fault)
+first_holds input from [] None are = are
+first_holds input from [] (Some bad) are = are
+first_holds input from (t ∷ ts) fault are = are.0
+
+-- one answer, so that lists of tokens begin with the same
+same_first : (input : List ℕ) (from : ℕ) (ts us : List Token) (fault other : Option BadToken)
+    → AreTokensFrom input from ts fault → AreTokensFrom input from us other
+    → first_answer ts fault ≡ first_answer us other
+same_first input from ts us fault other a b =
+    answers_agree (record { input = input; place = from }) (first_answer ts fault)
+    (first_answer us other) (first_holds input from ts fault a) (first_holds input from us other b)
+
 -- and no others
 pub tokens_agree : TokensBehindAPlaceAreUnique
 tokens_agree input from [] [] None None a b = (refl, refl)
-tokens_agree input from [] [] None (Some bad) a b =
-    let same = answers_agree (record { input = input; place = from }) (Ok None) (Err bad) a b in cc
-tokens_agree input from [] [] (Some bad) None a b =
-    let same = answers_agree (record { input = input; place = from }) (Err bad) (Ok None) a b in cc
 tokens_agree input from [] [] (Some bad) (Some worse) a b =
-    let same = answers_agree (record { input = input; place = from }) (Err bad) (Err worse) a b in
-    (refl, cc)
-tokens_agree input from [] (u ∷ us) None other a b =
-    let same = answers_agree (record { input = input; place = from }) (Ok None) (Ok (Some u)) a
-    b.0 in cc
-tokens_agree input from [] (u ∷ us) (Some bad) other a b =
-    let same = answers_agree (record { input = input; place = from }) (Err bad) (Ok (Some u)) a
-    b.0 in cc
-tokens_agree input from (t ∷ ts) [] fault None a b =
-    let same = answers_agree (record { input = input; place = from }) (Ok (Some t)) (Ok None) a.0
-    b in cc
-tokens_agree input from (t ∷ ts) [] fault (Some bad) a b =
-    let same = answers_agree (record { input = input; place = from }) (Ok (Some t)) (Err bad) a.0
-    b in cc
+    let same = same_first input from [] [] (Some bad) (Some worse) a b in (refl, cc)
 tokens_agree input from (t ∷ ts) (u ∷ us) fault other a b =
-    let same = answers_agree (record { input = input; place = from }) (Ok (Some t)) (Ok (Some u))
-    a.0 b.0 in
+    let same = same_first input from (t ∷ ts) (u ∷ us) fault other a b in
     let first : t ≡ u = cc in
     let later = tokens_agree input t.end ts us fault other a.1
     (subst (λ x. AreTokensFrom input x.end us other) (sym first) b.1) in
     (ap₂ (λ x xs. x ∷ xs) first later.0, later.1)
+tokens_agree input from [] (u ∷ us) None other a b =
+    let same = same_first input from [] (u ∷ us) None other a b in cc
+tokens_agree input from [] (u ∷ us) (Some bad) other a b =
+    let same = same_first input from [] (u ∷ us) (Some bad) other a b in cc
+tokens_agree input from (t ∷ ts) [] fault None a b =
+    let same = same_first input from (t ∷ ts) [] fault None a b in cc
+tokens_agree input from (t ∷ ts) [] fault (Some bad) a b =
+    let same = same_first input from (t ∷ ts) [] fault (Some bad) a b in cc
+tokens_agree input from [] [] fault other a b =
+    let same = same_first input from [] [] fault other a b in cc
 
 -- Laws
 
@@ -175,32 +182,17 @@ each_input_has_tokens input =
 pub tokens_are_unique : TokensAreUnique
 tokens_are_unique input ts us fault other a b = tokens_agree input 0 ts us fault other a b
 
-tokens_from_calls : (at : Reading) (ts : List Token) (fault : Option BadToken) → Calls at ts fault
-    → AreTokensFrom at.input at.place ts fault
-tokens_from_calls at [] None calls = calls
-tokens_from_calls at [] (Some bad) calls = calls
-tokens_from_calls at (t ∷ ts) fault calls = (
-  calls.0,
-  tokens_from_calls (moved at (Ok (Some t))) ts
-      fault calls.1,
-)
-
-calls_from_tokens : (at : Reading) (ts : List Token) (fault : Option BadToken) → AreTokensFrom
-    at.input at.place ts fault → Calls at ts fault
-calls_from_tokens at [] None are = are
-calls_from_tokens at [] (Some bad) are = are
-calls_from_tokens at (t ∷ ts) fault are = (
-  are.0,
-  calls_from_tokens (moved at (Ok (Some t))) ts
-      fault are.1,
-)
+calls_are_tokens : (at : Reading) (ts : List Token) (fault : Option BadToken)
+    → Calls at ts fault ↔ AreTokensFrom at.input at.place ts fault
+calls_are_tokens at [] None = (λ calls. calls, λ are. are)
+calls_are_tokens at [] (Some bad) = (λ calls. calls, λ are. are)
+calls_are_tokens at (t ∷ ts) fault =
+    let later = calls_are_tokens (moved at (Ok (Some t))) ts fault in
+    (λ calls. (calls.0, later.0 calls.1), λ are. (are.0, later.1 are.1))
 
 -- calling to the end gives them
 pub calls_give_tokens : CallsGiveTokens
-calls_give_tokens input ts fault = (
-  tokens_from_calls (record { input = input; place = 0 }) ts fault,
-  calls_from_tokens (record { input = input; place = 0 }) ts fault,
-)
+calls_give_tokens input ts fault = calls_are_tokens (record { input = input; place = 0 }) ts fault
 
 -- at a place there is at most one token
 pub one_token_at_a_place : OneTokenAtAPlace

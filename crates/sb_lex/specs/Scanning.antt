@@ -98,7 +98,7 @@ unfoldable pub exponent_len : List ℕ → ℕ
 exponent_len rest =
     let signed = 1 + sign_len (drop 1 rest) in
     let n = prefix_len is_ascii_digit (drop signed rest) in
-    if slice_index rest 0 == capital_e && nat_lt 0 n then signed + n else 0
+    if slice_index rest 0 == capital_e then (if n == 0 then 0 else signed + n) else 0
 
 -- what stands behind the point of a real
 abbrev pub fraction_len : List ℕ → ℕ

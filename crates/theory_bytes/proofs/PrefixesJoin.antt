@@ -1,5 +1,5 @@
 -- Strings that stand in a row make up a string of the joined set.
-use Rattle.std.proofs.Common.{◌≡◌, ℕ, suc, ◌+◌, ◌<◌, Bool, true, List, [], ◌∷◌, ◌++◌, length, take, drop, sym, refl, ap, ◌∙◌, subst, ⊎_elim, inl, inr, arith, append_assoc, length-append, take_at, drop_at, get_or, one-add}
+use Rattle.std.proofs.Common.{◌≡◌, ℕ, suc, ◌+◌, ◌<◌, Bool, true, List, [], ◌∷◌, ◌++◌, length, take, drop, sym, refl, ap, ◌∙◌, subst, ⊎_elim, inl, arith, append_assoc, length-append, take_at, drop_at, get_or, one-add}
 use Rattle.std.specs.List.{prefix_len, list_all}
 use Rattle.std.proofs.lemmas.Bool.{and_parts, cases_lt}
 use Rattle.std.proofs.lemmas.List.{drop_more, get_or_past}
@@ -23,12 +23,6 @@ pub prefix_so_long : (P : List ℕ → Type 0) (bytes rest : List ℕ) (m n : �
     → IsPrefix P bytes
     rest m → IsPrefix P bytes rest n
 prefix_so_long P bytes rest m n same s = subst (IsPrefix P bytes rest) same s
-
--- a string of the one set is one of the other
-pub prefix_as : (P Q : List ℕ → Type 0) (bytes rest : List ℕ) (n : ℕ)
-    → ((xs : List ℕ) → P xs → Q xs) → IsPrefix P bytes rest n → IsPrefix Q bytes rest n
-prefix_as P Q bytes rest n of s =
-    record { text = s.text; joined = s.joined; long = s.long; is = of s.text s.is }
 
 -- one behind the other
 pub prefix_joined : (P Q : List ℕ → Type 0) (bytes mid rest : List ℕ) (m n : ℕ) → IsPrefix P bytes
@@ -136,8 +130,3 @@ text_is P bytes rest n s = sym (ap (take n) s.joined ∙ take_at s.text rest n s
 -- nothing at the front
 pub prefix_nothing : (P : List ℕ → Type 0) (bytes : List ℕ) → IsPrefix (Optional P) bytes bytes 0
 prefix_nothing P bytes = record { text = []; joined = refl; long = refl; is = inl refl }
-
--- something at the front
-pub prefix_optional : (P : List ℕ → Type 0) (bytes rest : List ℕ) (n : ℕ) → IsPrefix P bytes rest n
-    → IsPrefix (Optional P) bytes rest n
-prefix_optional P bytes rest n s = prefix_as P (Optional P) bytes rest n (λ xs is. inr is) s
