@@ -1,6 +1,7 @@
 -- A parameter list says one list of parameters, and this is what is read.
 pub mod DoubledApostrophes
 pub mod InsidesOfTokens
+pub mod ParametersBegin
 pub mod SaidIsParameter
 pub mod ParametersAreRead
 pub mod ListsAreRead

@@ -12,8 +12,8 @@ use Rattle.sb_step.specs.IndexAnswers.{IsAnswer}
 use Rattle.sb_step.specs.Index.Turns.{State, next_turn, start, end_of, file_of, Ran, run}
 use Rattle.sb_step.specs.Index.Collects.{AreCollected}
 use Rattle.sb_step.specs.Index.Progress.{TokensTo, Progress, Accepted, Accepts, IsRead}
-use Rattle.sb_step.proofs.Texts.TextsEnd.{ends_text, runs_begin}
-use Rattle.sb_step.proofs.Texts.OneFileOrOneFault.{goes_on, stops, no_end, lexemes-more}
+use Rattle.sb_step.proofs.Texts.TextsEnd.{goes_on, ends_text, no_end, runs_begin, stops}
+use Rattle.sb_step.proofs.Texts.OneFileOrOneFault.{lexemes-more}
 
 -- the tokens up to a place, and those from there on, are the tokens
 to_all : (input : List ℕ) (from to : ℕ) (before after : List Token) (bad : Option BadToken)
@@ -53,8 +53,8 @@ one_more input place t s u c d p next a = record {
   events = p.events ++ a.event ∷ [];
   tokens = to_more input 0 place p.before t p.tokens next;
   reads = ap (λ l. run l start) (lexemes-more input p.before t)
-      ∙ goes_on (lexemes input p.before) (record { state = s; events = p.events })
-      (lexeme_at input t) (record { state = u; event = a.event }) p.reads a.turns;
+      ∙ goes_on (lexeme_at input t) (record { state = u; event = a.event })
+      (lexemes input p.before) start (record { state = s; events = p.events }) p.reads a.turns;
   collected = a.collects p.events p.collected;
 }
 
@@ -73,7 +73,7 @@ fault_at_token follow input place t s c p next none =
       are = to_all input 0 place p.before (t ∷ l.0) l.1 p.tokens (next, l.2);
       at = refl;
       begins = runs_begin (lexemes input p.before) ran p.reads;
-      refused = stops (lexemes input p.before) ran (lexeme_at input t) p.reads none;
+      refused = stops (lexemes input p.before) ran p.reads (lexeme_at input t) none;
     }
 
 -- no token begins

@@ -9,7 +9,8 @@ use Rattle.sb_step.specs.Rules.{Joined}
 use Rattle.sb_step.specs.Grammar.{Parameter, MoreParameters}
 use Rattle.sb_step.specs.Params.Parameters.{IsParameter}
 use Rattle.sb_step.specs.Params.Readers.{HasNext, ReadsToken, AreAhead, Awaits, CarriesOver, Behind, InList, AreInList, NextItem, ReadsItem}
-use Rattle.sb_step.proofs.Texts.ListsByLexeme.{parameter_on, parameter_closes_none}
+use Rattle.sb_step.proofs.Texts.ListsAreFollowed.{not_closed as none_closed}
+use Rattle.sb_step.proofs.ParameterLists.ParametersBegin.{parameter_on}
 use Rattle.sb_step.proofs.ParameterLists.ParametersAreRead.{awaits_token, passes, input_stays, goes_further, stays_within}
 
 -- where the reader stands behind a token that ends the list or begins its next parameter, and what
@@ -167,7 +168,7 @@ module _ (bytes : List ℕ) (entry now : Reading) (items : List Param) (t : Toke
         subst (AreAhead now) (sym c.1) ahead,
       )
       by_first ys ahead says (inr j) =
-          let none = parameter_closes_none j.middle (lexeme_at bytes t) ys (parameter_on j.first) in
+          let none = none_closed j.first in
           absurd (false≢true (sym none ∙ closed))
 
   -- where the token closes the list, all of it was read

@@ -12,7 +12,8 @@ use Rattle.sb_step.specs.Grammar.{Parameter, MoreParameters}
 use Rattle.sb_step.specs.Params.Parameters.{AreFurther}
 use Rattle.sb_step.specs.Params.Parameters.AreFurther.{last, more}
 use Rattle.sb_step.specs.Params.Readers.{behind, HasNext, ReadsToken, AreAhead, Awaits, AreInList, NextItem, ReadsItem}
-use Rattle.sb_step.proofs.Texts.ListsByLexeme.{MoreOn, parameter_on, more_on, parameter_closes_none}
+use Rattle.sb_step.proofs.Texts.ListsAreFollowed.{not_closed}
+use Rattle.sb_step.proofs.ParameterLists.ParametersBegin.{MoreOn, parameter_on, more_on}
 use Rattle.sb_step.proofs.ParameterLists.SaidIsParameter.{said_parameter}
 
 -- one token
@@ -120,8 +121,7 @@ module _ (a b : Reading) (t : Token) (read : ReadsToken a b t) where
       closes_further x xs rest c e [] y cy in_list =
           subst (λ r. AreFurther [] (x ∷ xs) r) (sym e) (last c)
       closes_further x xs rest c e (p ∷ ps) y cy in_list =
-          let none = parameter_closes_none in_list.middle y xs
-          (parameter_on (said_parameter in_list.first)) in
+          let none = not_closed (said_parameter in_list.first) in
           absurd (false≢true (sym none ∙ ap is_close cy))
 
   -- where there is no comma the list ends
@@ -139,7 +139,7 @@ further_from : (x y : Lexeme) (ys middle rest : List Lexeme) → IsMark mark.Com
     → Parameter (y ∷ ys) middle → (ps : List Param) → AreInList ps (y ∷ ys) rest
     → AreFurther ps (x ∷ y ∷ ys) rest
 further_from x y ys middle rest comma p [] in_list =
-    let none = parameter_closes_none middle y ys (parameter_on p) in
+    let none = not_closed p in
     absurd (false≢true (sym none ∙ ap is_close in_list.0))
 further_from x y ys middle rest comma p (q ∷ ps) in_list =
     more comma in_list.first in_list.second

@@ -18,7 +18,7 @@ use Rattle.sb_step.specs.Params.Readers.{AreInList}
 use Rattle.sb_step.proofs.ParameterLists.DoubledApostrophes.{doubled_once}
 use Rattle.theory_bytes.specs.Insides.{inside_of}
 use Rattle.theory_bytes.proofs.InsidesAreBetween.{inside-between}
-use Rattle.sb_step.proofs.Texts.ListsByLexeme.{parameter_on, parameter_closes_none}
+use Rattle.sb_step.proofs.Texts.ListsAreFollowed.{not_closed}
 use Rattle.sb_step.proofs.ParameterLists.SaidIsParameter.{says_value, said_parameter}
 
 -- one token
@@ -125,7 +125,7 @@ never_closed : (p : Param) (xs ys rest : List Lexeme) → IsParameter p xs ys
     → One (IsMark mark.Close) xs rest → ⊥
 never_closed p [] ys rest is one = one
 never_closed p (x ∷ xs) ys rest is one =
-    let none = parameter_closes_none ys x xs (parameter_on (said_parameter is)) in
+    let none = not_closed (said_parameter is) in
     false≢true (sym none ∙ ap is_close one.0)
 
 value_is_no_mark : (x : Lexeme) (p : Param) → Says x.token.kind x.text p → IsMark mark.Open x → ⊥

@@ -13,7 +13,7 @@ use Rattle.sb_step.specs.Params.Parameters.{Says, IsParameter, AreParameters}
 use Rattle.sb_step.specs.Params.Parameters.IsParameter.{value, list, typed}
 use Rattle.sb_step.specs.Params.Parameters.AreParameters.{empty, some}
 use Rattle.sb_step.specs.Params.Readers.{HasNext, ReadsToken, AreAhead, Awaits, CarriesOver, Behind, InList, AreInList}
-use Rattle.sb_step.proofs.Texts.ListsByLexeme.{ParameterOn, TypedOn, parameter_on}
+use Rattle.sb_step.proofs.ParameterLists.ParametersBegin.{ParameterOn, TypedOn, parameter_on}
 use Rattle.sb_step.proofs.ParameterLists.ParametersAreRead.{awaits_token, passes, input_stays, goes_further, stays_within, parameter_has_next, first_has_next}
 
 -- a list

@@ -18,7 +18,7 @@ use Rattle.sb_step.specs.Indexed.{Indexed}
 use Rattle.sb_step.specs.Params.Parameters.{AreParameters, SaysSimple, HoldsParameters, HoldsByForm, HasParameters, ParametersAreUnique}
 use Rattle.sb_step.specs.Params.Readers.{HasNext, ReadsToken, AreAhead, Awaits, CarriesOver, InList, AreInList, behind}
 use Rattle.sb_step.specs.Params.ParamsAnswers.{IsParamsAnswer, HasMemory, reader_at, AwaitsByForm, SaysByForm, Gives}
-use Rattle.sb_step.proofs.Texts.ListsByLexeme.{ListOn, list_on}
+use Rattle.sb_step.proofs.ParameterLists.ParametersBegin.{ListOn, list_on}
 use Rattle.sb_step.proofs.ParameterLists.ParametersAreRead.{awaits_token, passes}
 use Rattle.sb_step.proofs.ParameterLists.ParametersByToken.{said_behind}
 use Rattle.sb_step.proofs.ParameterLists.ParametersAreUnique.{parameters_are_unique}

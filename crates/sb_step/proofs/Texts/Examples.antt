@@ -17,8 +17,7 @@ use Rattle.sb_step.specs.Records.Schema.{OneString}
 use Rattle.sb_step.specs.Index.Turns.{next_turn, start, Ran, run}
 use Rattle.sb_step.proofs.Records.PlacesOfItems.{count_by-cons}
 use Rattle.sb_step.proofs.Texts.SomeTextGoesOn.{lexeme_of, mark_of, keyword_of}
-use Rattle.sb_step.proofs.Texts.TextsEnd.{ends_text, runs_begin}
-use Rattle.sb_step.proofs.Texts.OneFileOrOneFault.{stops}
+use Rattle.sb_step.proofs.Texts.TextsEnd.{ends_text, runs_begin, stops}
 
 -- a text begins with the lexemes, and none with one more
 record StopsAt (xs : List Lexeme) (x : Lexeme) : Type 0 where
@@ -29,7 +28,7 @@ stops_at : (xs : List Lexeme) (x : Lexeme) (ran : Ran) → run xs start ≡ Some
     → next_turn ran.state x ≡ None → StopsAt xs x
 stops_at xs x ran is none = record {
   begins = runs_begin xs ran is;
-  refused = stops xs ran x is none;
+  refused = stops xs ran is x none;
 }
 
 -- lexemes

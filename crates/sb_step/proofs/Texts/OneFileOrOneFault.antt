@@ -1,7 +1,5 @@
 -- Each input is one file or has one fault.
 use Rattle.std.proofs.Common.{◌≡◌, ℕ, ◌⊎◌, List, [], ◌∷◌, ◌++◌, Option, Some, None, refl, sym, ap, ap₂, ◌∙◌, subst, inl, inr, append_assoc, append-nil}
-use Rattle.std.specs.Prelude.{option_and_then}
-use Rattle.std.proofs.lemmas.Option.{same_Some, none-some}
 use Rattle.std.proofs.lemmas.List.{map-append}
 use Rattle.sb_lex.specs.declared.kinds.Token.{Token}
 use Rattle.sb_lex.specs.declared.kinds.BadToken.{BadToken}
@@ -9,71 +7,8 @@ use Rattle.sb_lex.specs.Tokens.{AreTokens, EachInputHasTokens, TokensAreUnique}
 use Rattle.sb_step.specs.Lexemes.{Lexeme, lexeme_at, lexemes}
 use Rattle.sb_step.specs.Grammar.{File, IsText}
 use Rattle.sb_step.specs.Faults.{IsFile, BeginsText, place_of, GoesOn, IsFaultAt, EachIsFileOrFault, FilesAreUnique, FaultsAreUnique, NoFileHasAFault}
-use Rattle.sb_step.specs.Index.Turns.{State, Turn, next_turn, start, end_of, file_of, Ran, and_ran, run}
-use Rattle.sb_step.proofs.Texts.TextsEnd.{text_ends, ends_text, begun_runs, runs_begin}
-
--- runs, one lexeme further
-
--- a run, and one lexeme more
-abbrev pub ran_then : Ran → Option Turn → Option Ran
-ran_then r None = None
-ran_then r (Some t) = Some (record { state = t.state; events = r.events ++ t.event ∷ [] })
-
--- and after a run that there may be
-abbrev pub then_turn : Option Ran → Lexeme → Option Ran
-then_turn None x = None
-then_turn (Some r) x = ran_then r (next_turn r.state x)
-
-one_turn : (s : State) (x : Lexeme) (found : Option Turn)
-    → option_and_then (λ t. and_ran t.event (Some (record { state = t.state; events = [] }))) found
-    ≡ ran_then (record { state = s; events = [] }) found
-one_turn s x None = refl
-one_turn s x (Some t) = refl
-
-and_then_turn : (t : Turn) (found : Option Ran) (x : Lexeme)
-    → and_ran t.event (then_turn found x) ≡ then_turn (and_ran t.event found) x
-and_then_turn t None x = refl
-and_then_turn t (Some r) x = and_ran_then (next_turn r.state x)
-  where
-    and_ran_then : (found : Option Turn) → and_ran t.event (ran_then r found)
-        ≡ ran_then (record { state = r.state; events = t.event ∷ r.events }) found
-    and_ran_then None = refl
-    and_ran_then (Some u) = refl
-
--- a run over one lexeme more
-pub run-more : (ts : List Lexeme) (s : State) (x : Lexeme) → run (ts ++ x ∷ []) s
-    ≡ then_turn (run ts s) x
-run-more [] s x = one_turn s x (next_turn s x)
-run-more (t ∷ ts) s x = by (λ u. run-more ts u x) (next_turn s t)
-  where
-    by : ((u : State) → run (ts ++ x ∷ []) u ≡ then_turn (run ts u) x) → (found : Option Turn)
-        → option_and_then (λ u. and_ran u.event (run (ts ++ x ∷ []) u.state)) found
-        ≡ then_turn (option_and_then (λ u. and_ran u.event (run ts u.state)) found) x
-    by later None = refl
-    by later (Some u) = ap (and_ran u.event) (later u.state) ∙ and_then_turn u (run ts u.state) x
-
--- where the machine stops, no text goes on
-pub stops : (ts : List Lexeme) (ran : Ran) (x : Lexeme) → run ts start ≡ Some ran
-    → next_turn ran.state x ≡ None → BeginsText (ts ++ x ∷ []) → ⊥
-stops ts ran x is none begins =
-    let r = begun_runs (ts ++ x ∷ []) begins in
-    none-some r.0 (sym (run-more ts start x ∙ ap (λ o. then_turn o x) is
-    ∙ ap (ran_then ran) none) ∙ r.1)
-
--- where it goes on, some text does
-pub goes_on : (ts : List Lexeme) (ran : Ran) (x : Lexeme) (turn : Turn) → run ts start ≡ Some ran
-    → next_turn ran.state x ≡ Some turn → run (ts ++ x ∷ []) start
-    ≡ Some (record { state = turn.state; events = ran.events ++ turn.event ∷ [] })
-goes_on ts ran x turn is on =
-    run-more ts start x ∙ ap (λ o. then_turn o x) is ∙ ap (ran_then ran) on
-
--- where it has not come to its end, no text has ended
-pub no_end : (ts : List Lexeme) (ran : Ran) → run ts start ≡ Some ran → end_of ran.state ≡ None
-    → (file : File) × IsText ts file → ⊥
-no_end ts ran is none text =
-    let e = text_ends ts text.0 text.1 in
-    none-some e.place (sym none ∙ ap (λ r. end_of r.state) (same_Some ran e.ran (sym is ∙ e.is))
-    ∙ e.ends)
+use Rattle.sb_step.specs.Index.Turns.{Turn, next_turn, start, end_of, file_of, Ran, run}
+use Rattle.sb_step.proofs.Texts.TextsEnd.{goes_on, ends_text, no_end, runs_begin, stops, one_file}
 
 -- the lexemes of one token more
 pub lexemes-more : (input : List ℕ) (before : List Token) (t : Token)
@@ -143,13 +78,13 @@ decide input before (t ∷ after) bad ran are is =
         are = are;
         at = refl;
         begins = runs_begin (lexemes input before) ran is;
-        refused = stops (lexemes input before) ran (lexeme_at input t) is none;
+        refused = stops (lexemes input before) ran is (lexeme_at input t) none;
       },
     )
     at_token further (Some turn) on =
         further (record { state = turn.state; events = ran.events ++ turn.event ∷ [] })
         (ap (λ l. run l start) (lexemes-more input before t)
-        ∙ goes_on (lexemes input before) ran (lexeme_at input t) turn is on)
+        ∙ goes_on (lexeme_at input t) turn (lexemes input before) start ran is on)
 
 -- each input is a file or has a fault
 pub each_is_file_or_fault : EachInputHasTokens → EachIsFileOrFault
@@ -163,13 +98,8 @@ each_is_file_or_fault has_tokens input =
 pub files_are_unique : TokensAreUnique → FilesAreUnique
 files_are_unique one_list input file other is also =
     let same = one_list input is.tokens also.tokens None None is.are also.are in
-    let e = text_ends (lexemes input is.tokens) file is.text in
-    let o = text_ends (lexemes input is.tokens) other
-    (subst (λ ts. IsText (lexemes input ts) other) (sym same.0) also.text) in
-    let ran : e.ran ≡ o.ran = same_Some e.ran o.ran (sym e.is ∙ o.is) in
-    let place : e.place ≡ o.place =
-    same_Some e.place o.place (sym e.ends ∙ ap (λ r. end_of r.state) ran ∙ o.ends) in
-    e.whole ∙ ap₂ (λ r k. file_of r.events k) ran place ∙ sym o.whole
+    one_file (lexemes input is.tokens) file other is.text
+    (subst (λ ts. IsText (lexemes input ts) other) (sym same.0) also.text)
 
 -- one list ends where another goes on
 pub record GoesFurther (front back longer : List Token) : Type 0 where
