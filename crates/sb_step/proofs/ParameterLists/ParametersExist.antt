@@ -1,5 +1,5 @@
 -- Each parameter list of an input says some parameters.
-use Rattle.std.proofs.Common.{◌≡◌, ℕ, true, List, [], ◌∷◌, ◌++◌, Some, refl, sym, ap, subst}
+use Rattle.std.proofs.Common.{◌≡◌, ℕ, true, List, [], ◌∷◌, ◌++◌, Some, None, refl, sym, ap, subst}
 use Rattle.std.specs.Prelude.{codes, nat_eq}
 use Rattle.std.specs.Map.{lookup}
 use Rattle.std.proofs.lemmas.Bool.{false≢true}
@@ -8,19 +8,19 @@ use Rattle.sb_lex.specs.declared.kinds.Kind.{Kind}
 use Rattle.sb_lex.specs.declared.kinds.Kind.TheVariants as kind
 use Rattle.sb_lex.specs.declared.kinds.Mark.TheVariants as mark
 use Rattle.sb_lex.specs.declared.kinds.Token.{Token}
-use Rattle.sb_lex.specs.Tokens.{IsToken, Reading}
+use Rattle.sb_lex.specs.Tokens.{IsToken, AreTokensFrom, Reading}
 use Rattle.sb_step.specs.declared.step_file.records.Form.{Form}
 use Rattle.sb_step.specs.declared.step_file.records.Form.TheVariants as form
 use Rattle.sb_step.specs.declared.step_file.records.Record.{Record}
 use Rattle.sb_step.specs.declared.parameters.param.Param.{Param}
 use Rattle.sb_step.specs.declared.parameters.param.Param.TheVariants as param
-use Rattle.sb_step.specs.Lexemes.{Lexeme, is_value}
+use Rattle.sb_step.specs.Lexemes.{Lexeme, lexemes, is_value}
 use Rattle.sb_step.specs.Grammar.{File, Parameter, ParameterList, MoreParameters}
 use Rattle.sb_step.specs.Grammar.Parameter.{value as one, list as nested, typed as named}
 use Rattle.sb_step.specs.Grammar.ParameterList.{empty as none, some as few}
 use Rattle.sb_step.specs.Grammar.MoreParameters.{last as ends_here, more as further}
 use Rattle.sb_step.specs.Faults.{IsFile}
-use Rattle.sb_step.specs.Params.Parameters.{Encloses, Says, IsParameter, AreParameters, AreFurther, HoldsByForm, EachInstanceHasParameters}
+use Rattle.sb_step.specs.Params.Parameters.{Encloses, Says, IsParameter, AreParameters, AreFurther, HoldsParameters, HoldsByForm, EachInstanceHasParameters}
 use Rattle.sb_step.specs.Params.Parameters.IsParameter.{value, list, typed}
 use Rattle.sb_step.specs.Params.Parameters.AreParameters.{empty, some}
 use Rattle.sb_step.specs.Params.Parameters.AreFurther.{last, more}
@@ -28,8 +28,7 @@ use Rattle.sb_step.specs.Params.Readers.{behind, AreAhead}
 use Rattle.sb_step.specs.Params.ParamsAnswers.{reader_at}
 use Rattle.sb_step.proofs.ParameterLists.DoubledApostrophes.{inside_is_written}
 use Rattle.sb_step.proofs.ParameterLists.InsidesOfTokens.{text_of, string_is, enumeration_is, binary_is}
-use Rattle.sb_step.proofs.Records.RecordsStand.{instance_stands, reads_on}
-use Rattle.sb_step.proofs.ParameterLists.ParametersOfAnInstance.{tokens_ahead, holds_said}
+use Rattle.sb_step.proofs.Records.RecordsStand.{SimpleStands, instance_stands, reads_on}
 
 -- one token
 
@@ -126,6 +125,33 @@ mutual
       record { ps = s.p ∷ l.ps; are = more c s.is l.are; at = l.at; ahead = l.ahead }
 
 -- an instance
+
+-- the lexemes of the tokens from a place on are those that a reader stands before there
+pub tokens_ahead : (input : List ℕ) (from : ℕ) (tokens : List Token)
+    → AreTokensFrom input from tokens None → AreAhead (reader_at input from) (lexemes input tokens)
+tokens_ahead input from [] are = are
+tokens_ahead input from (t ∷ tokens) are =
+    (are.0, refl, tokens_ahead input t.end tokens are.1)
+
+-- a record holds what its list says
+pub holds_said : (input : List ℕ) (r : Record) (s : SimpleStands input r) (ps : List Param)
+    → AreParameters ps (lexemes input (s.inside ++ s.semicolon ∷ s.after))
+    (lexemes input (s.semicolon ∷ s.after)) → HoldsParameters input r ps
+holds_said input r s ps says = record {
+  before = s.before;
+  from = s.keyword ∷ (s.inside ++ s.semicolon ∷ s.after);
+  are = s.are;
+  rest = lexemes input s.after;
+  says = record {
+    middle = lexemes input (s.inside ++ s.semicolon ∷ s.after);
+    first = (s.begins, refl);
+    second = record {
+      middle = lexemes input (s.semicolon ∷ s.after);
+      first = says;
+      second = ((s.closes, s.ends), refl);
+    };
+  };
+}
 
 parameters_by : (input : List ℕ) (f : File) (is : IsFile input f) (n : ℕ) (r : Record)
     (found : lookup (nat_eq n) f.instances ≡ Some r) (its : Form) → r.form ≡ its

@@ -75,8 +75,8 @@ parameter-returns-in_ok-list t c =
 pub parameter-returns-else-is_open : goal.parameter-returns-else-is_open
 parameter-returns-else-is_open t c =
     IfOk-weaker c.value.result _ _
-    (λ p says. reads_value c.args.lexer.now (lexeme_at c.args.bytes.now c.args.first) p
-    (sym c.if-is_keyword.ensures) (sym c.if-is_open.ensures) says)
+    (λ p says. reads_value c.args.lexer.now (lexeme_at c.args.bytes.now c.args.first)
+    (sym c.if-is_keyword.ensures) (sym c.if-is_open.ensures) p says)
     c.value.ensures
 
 pub typed-next-opens-requires : goal.typed-next-opens-requires

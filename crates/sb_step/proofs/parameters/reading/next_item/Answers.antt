@@ -12,8 +12,8 @@ next-requires c =
 
 pub returns-then-is_comma : goal.returns-then-is_comma
 returns-then-is_comma c =
-    reads_further c.args.lexer.now c.next-mark.new.lexer c.next.new.lexer c.next-mark.result
-    c.next.result c.next-mark.ensures c.next.ensures (sym c.if-is_comma.ensures)
+    reads_further c.args.lexer.now c.next-mark.new.lexer c.next-mark.result c.next-mark.ensures
+    c.next.new.lexer c.next.result c.next.ensures (sym c.if-is_comma.ensures)
 
 pub returns-else-is_comma : goal.returns-else-is_comma
 returns-else-is_comma c =
