@@ -1,6 +1,5 @@
 -- A record stands among the tokens where the file has it.
 pub mod BehindRules
-pub mod RecordsLie
 pub mod OnlyOnePasses
 pub mod PlacesOfItems
 pub mod RowsAreSearched

@@ -22,9 +22,8 @@ use Rattle.sb_step.proofs.ParameterLists.WhatListsSay.{ListSaysOn, list_says_on}
 use Rattle.sb_step.proofs.ParameterLists.ParametersAreRead.{awaits_token, passes}
 use Rattle.sb_step.proofs.ParameterLists.ParametersAreUnique.{parameters_are_unique}
 use Rattle.sb_step.proofs.ParameterLists.ParametersExist.{tokens_ahead, each_instance_has_parameters}
-use Rattle.sb_step.proofs.Records.RecordsLie.{records_lie, found_lies}
 use Rattle.sb_step.proofs.Records.PlacesTell.{placed, form_kept}
-use Rattle.sb_step.proofs.Records.RecordsStand.{tokens_behind}
+use Rattle.sb_step.proofs.Records.RecordsStand.{found_lies, tokens_behind}
 
 -- a list is read from its parenthesis on
 
@@ -169,8 +168,7 @@ place_has indexed is n p there =
     let size = length indexed.input in
     let o = placed indexed.file.instances n p there in
     let h = each_instance_has_parameters indexed n o.body is o.found in
-    let lies = found_lies size (nat_eq n) indexed.file.instances o.body
-    (records_lie indexed.input indexed.file is.file) o.found in
+    let lies = found_lies indexed.input indexed.file is.file (nat_eq n) o.body o.found in
     let same = same_Some o.body h.1.record_of (sym o.found ∙ h.1.found) in
     record {
       params = h.0;

@@ -184,8 +184,8 @@ pub entity_reads_on : (input : List ℕ) (file : File) → IsFile input file →
     → filter (is_schema input) file.header ≡ r ∷ [] → r.form ≡ form.Simple end
     → end ≤ length input
 entity_reads_on input file is r end only simple =
-    let a = passes_among (is_schema input) file.header r only in
-    (reads_on input r end simple (entity_stands input file is a.front a.back r a.joined)).within
+    let stands = passes_among (is_schema input) file.header r only in
+    (reads_on input r end simple (entity_stands input file is r stands)).within
 
 -- what is found behind the keyword is the schema of the file, if the entity is its only one
 module _ (indexed : Indexed) (is : IsFile indexed.input indexed.file) (r : Record) (end : ℕ)
@@ -196,8 +196,8 @@ module _ (indexed : Indexed) (is : IsFile indexed.input indexed.file) (r : Recor
   found_is_schema : found ≡ Some text → IsSchema indexed text
   found_is_schema read =
       let input = indexed.input in
-      let a = passes_among (is_schema input) indexed.file.header r only in
-      let s = entity_stands input indexed.file is a.front a.back r a.joined in
+      let s = entity_stands input indexed.file is r
+      (passes_among (is_schema input) indexed.file.header r only) in
       let o = reads_on input r end simple s in
       let behind = s.inside ++ s.semicolon ∷ s.after in
       let l = list_from_text input text behind (end, o.are) (sym (reads behind o.are) ∙ read) in
