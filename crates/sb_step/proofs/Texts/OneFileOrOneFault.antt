@@ -1,5 +1,5 @@
 -- Each input is one file or has one fault.
-use Rattle.std.proofs.Common.{◌≡◌, ℕ, ◌⊎◌, List, [], ◌∷◌, ◌++◌, Option, Some, None, refl, sym, ap, ap₂, ◌∙◌, subst, inl, inr, append_assoc, append-nil}
+use Rattle.std.proofs.Common.{◌≡◌, ℕ, ◌⊎◌, List, [], ◌∷◌, ◌++◌, Option, Some, None, refl, sym, ap, ap₂, ◌∙◌, subst, inl, inr, ⊎_elim, append_assoc, append-nil}
 use Rattle.std.proofs.lemmas.List.{map-append}
 use Rattle.sb_lex.specs.declared.kinds.Token.{Token}
 use Rattle.sb_lex.specs.declared.kinds.BadToken.{BadToken}
@@ -21,45 +21,42 @@ lexemes-more input before t = map-append (lexeme_at input) before (t ∷ [])
 abbrev pub FileOrFault : List ℕ → Type 0
 FileOrFault input = ((file : File) × IsFile input file) ⊎ ((place : ℕ) × IsFaultAt input place)
 
+-- the fault behind tokens that were read
+pub fault_behind : (input : List ℕ) (before after : List Token) (bad : Option BadToken) (ran : Ran)
+    → AreTokens input (before ++ after) bad → run (lexemes input before) start ≡ Some ran
+    → (GoesOn input before after bad → ⊥) → IsFaultAt input (place_of input after bad)
+fault_behind input before after bad ran are is refused = record {
+  before = before;
+  after = after;
+  bad = bad;
+  are = are;
+  at = refl;
+  begins = runs_begin (lexemes input before) ran is;
+  refused = refused;
+}
+
+-- and the file that they are
+pub file_behind : (input : List ℕ) (tokens : List Token) (ran : Ran) (k : ℕ)
+    → AreTokens input (tokens ++ []) None → run (lexemes input tokens) start ≡ Some ran
+    → end_of ran.state ≡ Some k → IsFile input (file_of ran.events k)
+file_behind input tokens ran k are is ends = record {
+  tokens = tokens;
+  are = subst (λ ts. AreTokens input ts None) (append-nil tokens) are;
+  text = ends_text (lexemes input tokens) ran k is ends;
+}
+
 decide : (input : List ℕ) (before after : List Token) (bad : Option BadToken) (ran : Ran)
     → AreTokens input (before ++ after) bad → run (lexemes input before) start ≡ Some ran
     → FileOrFault input
 decide input before [] (Some bad) ran are is =
-    inr (
-      bad.0,
-      record {
-        before = before;
-        after = [];
-        bad = Some bad;
-        are = are;
-        at = refl;
-        begins = runs_begin (lexemes input before) ran is;
-        refused = λ goes. goes;
-      },
-    )
+    inr (bad.0, fault_behind input before [] (Some bad) ran are is (λ goes. goes))
 decide input before [] None ran are is = at_end (end_of ran.state) refl
   where
     at_end : (ends : Option ℕ) → end_of ran.state ≡ ends → FileOrFault input
-    at_end None none = inr (
-      _,
-      record {
-        before = before;
-        after = [];
-        bad = None;
-        are = are;
-        at = refl;
-        begins = runs_begin (lexemes input before) ran is;
-        refused = no_end (lexemes input before) ran is none;
-      },
-    )
-    at_end (Some k) ends = inl (
-      file_of ran.events k,
-      record {
-        tokens = before;
-        are = subst (λ ts. AreTokens input ts None) (append-nil before) are;
-        text = ends_text (lexemes input before) ran k is ends;
-      },
-    )
+    at_end None none =
+        inr (_, fault_behind input before [] None ran are is
+        (no_end (lexemes input before) ran is none))
+    at_end (Some k) ends = inl (file_of ran.events k, file_behind input before ran k are is ends)
 decide input before (t ∷ after) bad ran are is =
     at_token (λ r reads. decide input (before ++ t ∷ []) after bad r
     (subst (λ ts. AreTokens input ts bad) (sym (append_assoc before (t ∷ []) after)) are) reads)
@@ -69,18 +66,9 @@ decide input before (t ∷ after) bad ran are is =
         → FileOrFault input) → (found : Option Turn)
         → next_turn ran.state (lexeme_at input t) ≡ found
         → FileOrFault input
-    at_token further None none = inr (
-      t.start,
-      record {
-        before = before;
-        after = t ∷ after;
-        bad = bad;
-        are = are;
-        at = refl;
-        begins = runs_begin (lexemes input before) ran is;
-        refused = stops (lexemes input before) ran is (lexeme_at input t) none;
-      },
-    )
+    at_token further None none =
+        inr (t.start, fault_behind input before (t ∷ after) bad ran are is
+        (stops (lexemes input before) ran is (lexeme_at input t) none))
     at_token further (Some turn) on =
         further (record { state = turn.state; events = ran.events ++ turn.event ∷ [] })
         (ap (λ l. run l start) (lexemes-more input before t)
@@ -109,38 +97,31 @@ pub record GoesFurther (front back longer : List Token) : Type 0 where
   pub joined : longer ≡ front ++ next ∷ middle
   pub behind : back ≡ next ∷ rest
 
--- two ways to cut one list
-pub data TwoCuts (b a c d : List Token) : Type 0 where
-  same : b ≡ c → a ≡ d → TwoCuts b a c d
-  earlier : GoesFurther b a c → TwoCuts b a c d
-  later : GoesFurther c d b → TwoCuts b a c d
-
-further : (t : Token) (b a c : List Token) → GoesFurther b a c → GoesFurther (t ∷ b) a (t ∷ c)
-further t b a c g = record {
+further : (t u : Token) (b a c : List Token) → t ≡ u → GoesFurther b a c
+    → GoesFurther (t ∷ b) a (u ∷ c)
+further t u b a c heads g = record {
   next = g.next;
   middle = g.middle;
   rest = g.rest;
-  joined = ap (λ l. t ∷ l) g.joined;
+  joined = λ i. sym heads i ∷ g.joined i;
   behind = g.behind;
 }
 
-cuts : (b a c d : List Token) → b ++ a ≡ c ++ d → TwoCuts b a c d
-cuts [] a [] d e = same refl e
-cuts [] a (t ∷ c) d e = earlier (record
-    { next = t; middle = c; rest = c ++ d; joined = refl; behind = e })
-cuts (t ∷ b) a [] d e = later (record
-    { next = t; middle = b; rest = b ++ a; joined = refl; behind = sym e })
+-- two ways to cut one list: at one place, or one of them further on
+cuts : (b a c d : List Token) → b ++ a ≡ c ++ d
+    → ((b ≡ c) × (a ≡ d)) ⊎ (GoesFurther b a c ⊎ GoesFurther c d b)
+cuts [] a [] d e = inl (refl, e)
+cuts [] a (t ∷ c) d e =
+    inr (inl (record { next = t; middle = c; rest = c ++ d; joined = refl; behind = e }))
+cuts (t ∷ b) a [] d e =
+    inr (inr (record { next = t; middle = b; rest = b ++ a; joined = refl; behind = sym e }))
 cuts (t ∷ b) a (u ∷ c) d e =
     let heads : t ≡ u = cc in
     let tails : b ++ a ≡ c ++ d = cc in
-    more heads (cuts b a c d tails)
-  where
-    more : t ≡ u → TwoCuts b a c d → TwoCuts (t ∷ b) a (u ∷ c) d
-    more heads (same front back) = same (ap₂ (λ v l. v ∷ l) heads front) back
-    more heads (earlier g) =
-        subst (λ v. TwoCuts (t ∷ b) a (v ∷ c) d) heads (earlier (further t b a c g))
-    more heads (later g) =
-        subst (λ v. TwoCuts (t ∷ b) a (v ∷ c) d) heads (later (further t c d b g))
+    ⊎_elim (λ same. inl ((λ i. heads i ∷ same.0 i), same.1))
+    (λ others. inr (⊎_elim (λ g. inl (further t u b a c heads g))
+    (λ g. inr (further u t c d b (sym heads) g)) others))
+    (cuts b a c d tails)
 
 -- what a text begins with begins with less
 begins_less : (xs : List Lexeme) (x : Lexeme) (ys : List Lexeme) → BeginsText (xs ++ x ∷ ys)
@@ -174,15 +155,11 @@ pub faults_are_unique : TokensAreUnique → FaultsAreUnique
 faults_are_unique one_list input place other one two =
     let tokens = one_list input (one.before ++ one.after) (two.before ++ two.after)
     one.bad two.bad one.are two.are in
-    by (cuts one.before one.after two.before two.after tokens.0) tokens.1
-  where
-    by : TwoCuts one.before one.after two.before two.after → one.bad ≡ two.bad → place ≡ other
-    by (same front back) bad =
-        sym one.at ∙ ap₂ (place_of input) back bad ∙ two.at
-    by (earlier g) bad =
-        absurd (no_earlier input one.before one.after two.before one.bad one.refused two.begins g)
-    by (later g) bad =
-        absurd (no_earlier input two.before two.after one.before two.bad two.refused one.begins g)
+    ⊎_elim (λ same. sym one.at ∙ ap₂ (place_of input) same.1 tokens.1 ∙ two.at)
+    (λ apart. absurd (⊎_elim
+    (no_earlier input one.before one.after two.before one.bad one.refused two.begins)
+    (no_earlier input two.before two.after one.before two.bad two.refused one.begins) apart))
+    (cuts one.before one.after two.before two.after tokens.0)
 
 -- a text goes on to its end
 goes_to_end : (input : List ℕ) (before after : List Token) (bad : Option BadToken)
