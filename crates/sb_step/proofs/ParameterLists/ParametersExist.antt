@@ -15,6 +15,7 @@ use Rattle.sb_step.specs.declared.step_file.records.Record.{Record}
 use Rattle.sb_step.specs.declared.parameters.param.Param.{Param}
 use Rattle.sb_step.specs.declared.parameters.param.Param.TheVariants as param
 use Rattle.sb_step.specs.Lexemes.{Lexeme, lexemes, is_value}
+use Rattle.sb_step.specs.Rules.{Rule}
 use Rattle.sb_step.specs.Grammar.{File, Parameter, ParameterList, MoreParameters}
 use Rattle.sb_step.specs.Grammar.Parameter.{value as one, list as nested, typed as named}
 use Rattle.sb_step.specs.Grammar.ParameterList.{empty as none, some as few}
@@ -53,76 +54,50 @@ value_says input t token (kind.Mark mark.Dollar) is v = (param.Null, refl)
 value_says input t token (kind.Mark mark.Asterisk) is v = (param.Derived, refl)
 value_says input t token _ is v = absurd (false≢true v)
 
--- a parameter, and a reader that stands behind it
-record SomeParameter (xs rest : List Lexeme) : Type 0 where
-  p : Param
-  is : IsParameter p xs rest
-  at : Reading
-  ahead : AreAhead at rest
-
--- parameters of a list, and a reader behind it
-pub record SomeParameters (xs rest : List Lexeme) : Type 0 where
-  pub ps : List Param
-  pub are : AreParameters ps xs rest
-  pub at : Reading
-  pub ahead : AreAhead at rest
-
-record SomeFurther (xs rest : List Lexeme) : Type 0 where
-  ps : List Param
-  are : AreFurther ps xs rest
+-- the rule describes the list for some value, and a reader stands behind it
+record Said {A : Type 0} (P : A → Rule) (xs rest : List Lexeme) : Type 0 where
+  says : A
+  is : P says xs rest
   at : Reading
   ahead : AreAhead at rest
 
 mutual
   parameter_says : {xs rest : List Lexeme} → Parameter xs rest → (at : Reading) → AreAhead at xs
-      → SomeParameter xs rest
+      → Said IsParameter xs rest
   parameter_says (one {x = x} v) at ahead =
       let s = value_says at.input x.token ahead.0.token x.token.kind refl v in
-      record {
-        p = s.0;
-        is = value
-            (subst (λ text. Says x.token.kind text s.0) (sym (ap (λ y. y.text) ahead.1)) s.1);
-        at = behind at.input x.token;
-        ahead = ahead.2;
-      }
+      let is = subst (λ text. Says x.token.kind text s.0) (sym (ap (λ y. y.text) ahead.1)) s.1 in
+      record { says = s.0; is = value is; at = behind at.input x.token; ahead = ahead.2 }
   parameter_says (nested l) at ahead =
       let s = list_says l at ahead in
-      record { p = param.List s.ps; is = list s.are; at = s.at; ahead = s.ahead }
+      record { says = param.List s.says; is = list s.is; at = s.at; ahead = s.ahead }
   parameter_says (named {keyword = x} {open_mark = y} {close_mark = z} k o q c) at ahead =
       let s = parameter_says q (behind at.input y.token) ahead.2.2 in
       record {
-        p = param.Typed x.text s.p;
+        says = param.Typed x.text s.says;
         is = typed k o s.is c;
         at = behind s.at.input z.token;
         ahead = s.ahead.2;
       }
 
   -- each list says some
-  pub list_says : {xs rest : List Lexeme} → ParameterList xs rest → (at : Reading)
-      → AreAhead at xs → SomeParameters xs rest
-  list_says (none {close_mark = z} o c) at ahead = record {
-    ps = [];
-    are = empty o c;
-    at = behind at.input z.token;
-    ahead = ahead.2.2;
-  }
+  list_says : {xs rest : List Lexeme} → ParameterList xs rest → (at : Reading)
+      → AreAhead at xs → Said AreParameters xs rest
+  list_says (none {close_mark = z} o c) at ahead =
+      record { says = []; is = empty o c; at = behind at.input z.token; ahead = ahead.2.2 }
   list_says (few {open_mark = y} o q m) at ahead =
       let s = parameter_says q (behind at.input y.token) ahead.2 in
       let l = further_says m s.at s.ahead in
-      record { ps = s.p ∷ l.ps; are = some o s.is l.are; at = l.at; ahead = l.ahead }
+      record { says = s.says ∷ l.says; is = some o s.is l.is; at = l.at; ahead = l.ahead }
 
   further_says : {xs rest : List Lexeme} → MoreParameters xs rest → (at : Reading)
-      → AreAhead at xs → SomeFurther xs rest
-  further_says (ends_here {close_mark = z} c) at ahead = record {
-    ps = [];
-    are = last c;
-    at = behind at.input z.token;
-    ahead = ahead.2;
-  }
+      → AreAhead at xs → Said AreFurther xs rest
+  further_says (ends_here {close_mark = z} c) at ahead =
+      record { says = []; is = last c; at = behind at.input z.token; ahead = ahead.2 }
   further_says (further {comma = y} c q m) at ahead =
       let s = parameter_says q (behind at.input y.token) ahead.2 in
       let l = further_says m s.at s.ahead in
-      record { ps = s.p ∷ l.ps; are = more c s.is l.are; at = l.at; ahead = l.ahead }
+      record { says = s.says ∷ l.says; is = more c s.is l.is; at = l.at; ahead = l.ahead }
 
 -- an instance
 
@@ -161,7 +136,7 @@ parameters_by input f is n r found (form.Simple end) simple =
     let o = reads_on input r end simple s in
     let said = list_says s.list (reader_at input end)
     (tokens_ahead input end (s.inside ++ s.semicolon ∷ s.after) o.are) in
-    (said.ps, holds_said input r s said.ps said.are)
+    (said.says, holds_said input r s said.says said.is)
 parameters_by input f is n r found form.Complex complex = ([], refl)
 
 -- each instance of a file has parameters

@@ -17,6 +17,7 @@ use Rattle.sb_step.specs.Records.Schema.{OneString}
 use Rattle.sb_step.specs.Index.Turns.{next_turn, start, Ran, run}
 use Rattle.sb_step.proofs.Records.PlacesOfItems.{count_by-cons}
 use Rattle.sb_step.proofs.Texts.SomeTextGoesOn.{lexeme_of, mark_of, keyword_of}
+use Rattle.sb_step.proofs.Texts.WhatIsReadIsText.{before}
 use Rattle.sb_step.proofs.Texts.TextsEnd.{ends_text, runs_begin, stops}
 
 -- a text begins with the lexemes, and none with one more
@@ -184,23 +185,10 @@ begins_here = record { start = 0; end = 0; form = form.Simple 0 }
 -- `A(('IFC4'))`
 in_a_list : OneString begins_here (codes "IFC4")
     (keyword ∷ opening ∷ opening ∷ ifc4 ∷ closing ∷ closing ∷ []) []
-in_a_list = record {
-  middle = _;
-  first = (record { keyword = refl; start = refl; form = refl }, refl);
-  second = record {
-    middle = _;
-    first = (refl, refl);
-    second = record {
-      middle = _;
-      first = (refl, refl);
-      second = record {
-        middle = _;
-        first = (record { string = refl; spelled = refl }, refl);
-        second = record { middle = _; first = (refl, refl); second = (refl, refl) };
-      };
-    };
-  };
-}
+in_a_list =
+    before (record { keyword = refl; start = refl; form = refl })
+    (before refl (before refl (before (record { string = refl; spelled = refl })
+    (before refl (refl, refl)))))
 
 behind : {P : Lexeme → Type 0} (Q : Rule) {x : Lexeme} {xs rest : List Lexeme}
     → (One P ⋅ Q) (x ∷ xs) rest → Q xs rest

@@ -213,7 +213,7 @@ abbrev Goes : State → File → Rest
 Goes s f = Wanted s.nest.brackets s.nest.want (Follows s.section f)
 
 -- one lexeme before what a rule describes
-before : {P : Lexeme → Type 0} {Q : Rule} {x : Lexeme} {xs rest : List Lexeme} → P x → Q xs rest
+pub before : {P : Lexeme → Type 0} {Q : Rule} {x : Lexeme} {xs rest : List Lexeme} → P x → Q xs rest
     → (One P ⋅ Q) (x ∷ xs) rest
 before {xs = xs} p q = record { middle = xs; first = (p, refl); second = q }
 
@@ -413,14 +413,10 @@ low : (complex : Bool) (fs : List Bracket) (w : Want)
     → cond complex 1 0 + depth_within fs w ≤ greatest_depth
 low true [] w fit = omega arith
 low false [] w fit = omega arith
-low true (f ∷ fs) want.First fit = omega arith
-low true (f ∷ fs) want.Parameter fit = omega arith
-low true (f ∷ fs) want.Next fit = omega arith
 low true (f ∷ fs) want.Open fit = omega arith
-low false (f ∷ fs) want.First fit = omega arith
-low false (f ∷ fs) want.Parameter fit = omega arith
-low false (f ∷ fs) want.Next fit = omega arith
+low true (f ∷ fs) _ fit = omega arith
 low false (f ∷ fs) want.Open fit = omega arith
+low false (f ∷ fs) _ fit = omega arith
 
 shallow_before : (d e : ℕ) (x : Lexeme) (xs : List Lexeme) → d ≤ greatest_depth
     → Counts d x.token.kind e → Shallow e xs → Shallow d (x ∷ xs)
