@@ -1,10 +1,6 @@
 -- One instance more is kept: its number, and where its keyword stands.
-use Rattle.std.proofs.Common.{◌≡◌, ℕ, List, [], ◌∷◌, ◌++◌, sym, ap, ◌∙◌}
-use Rattle.std.proofs.lemmas.List.{map-append}
-use Rattle.sb_step.specs.declared.step_file.records.Record.{Record}
-use Rattle.sb_step.specs.declared.indexing.instances.Instances.{Instances}
+use Rattle.sb_step.proofs.Names.{◌≡◌, ℕ, List, [], ◌∷◌, ◌++◌, sym, ap, ◌∙◌, map-append, Record, Instances, AreStored}
 use Rattle.sb_step.specs.Records.Table.{place_of}
-use Rattle.sb_step.specs.Index.StoredInstances.{AreStored}
 
 -- both stand behind the others
 pub stored_more : (instances : List (ℕ × Record)) (n : ℕ) (r : Record) (old new : Instances)

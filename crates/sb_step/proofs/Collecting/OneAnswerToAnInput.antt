@@ -1,12 +1,6 @@
 -- To an input there is one answer, but for want of memory.
-use Rattle.std.proofs.Common.{◌≡◌, ◌↔◌, ℕ, List, Result, Ok, Err, refl, sym, ap, ◌∙◌, subst, arith}
-use Rattle.sb_step.specs.declared.error.StepError.{StepError}
+use Rattle.sb_step.proofs.Names.{◌≡◌, ◌↔◌, ℕ, List, Result, Ok, Err, refl, sym, ap, ◌∙◌, subst, arith, StepError, Record, FilesAreUnique, FaultsAreUnique, NoFileHasAFault, AreApart, IsLeastTwice, Indexed, IsAnswer, IsInTime}
 use Rattle.sb_step.specs.declared.error.StepError.TheVariants as step_error
-use Rattle.sb_step.specs.declared.step_file.records.Record.{Record}
-use Rattle.sb_step.specs.Faults.{FilesAreUnique, FaultsAreUnique, NoFileHasAFault}
-use Rattle.sb_step.specs.Numbers.{AreApart, IsLeastTwice}
-use Rattle.sb_step.specs.Indexed.{Indexed}
-use Rattle.sb_step.specs.IndexAnswers.{IsAnswer, IsInTime}
 
 -- no number is the least of those used twice where none is used twice
 apart_or_doubled : (n : ℕ) (instances : List (ℕ × Record)) → AreApart instances

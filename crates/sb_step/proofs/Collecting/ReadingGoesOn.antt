@@ -1,17 +1,6 @@
 -- What a reading of the tokens so far says of the input.
-use Rattle.std.proofs.Common.{◌≡◌, ℕ, List, [], ◌∷◌, ◌++◌, Option, Some, None, Err, refl, sym, ap, ◌∙◌, subst, append-nil}
-use Rattle.sb_lex.specs.declared.kinds.Token.{Token}
-use Rattle.sb_lex.specs.declared.kinds.BadToken.{BadToken}
-use Rattle.sb_lex.specs.Tokens.{IsNext, IsEnd, IsBadFrom, AreTokensFrom, AreTokens, TokensFollowEachPlace}
-use Rattle.sb_step.specs.declared.error.StepError.{StepError}
+use Rattle.sb_step.proofs.Names.{◌≡◌, ℕ, List, [], ◌∷◌, ◌++◌, Option, Some, None, Err, refl, sym, ap, ◌∙◌, subst, append-nil, Token, BadToken, IsNext, IsEnd, IsBadFrom, AreTokensFrom, AreTokens, TokensFollowEachPlace, StepError, Collected, lexeme_at, lexemes, IsFaultAt, IsAnswer, State, next_turn, start, end_of, file_of, Ran, run, AreCollected, TokensTo, Progress, Accepted, Accepts, IsRead}
 use Rattle.sb_step.specs.declared.error.StepError.TheVariants as step_error
-use Rattle.sb_step.specs.declared.indexing.collected.Collected.{Collected}
-use Rattle.sb_step.specs.Lexemes.{lexeme_at, lexemes}
-use Rattle.sb_step.specs.Faults.{IsFaultAt}
-use Rattle.sb_step.specs.IndexAnswers.{IsAnswer}
-use Rattle.sb_step.specs.Index.Turns.{State, next_turn, start, end_of, file_of, Ran, run}
-use Rattle.sb_step.specs.Index.Collects.{AreCollected}
-use Rattle.sb_step.specs.Index.Progress.{TokensTo, Progress, Accepted, Accepts, IsRead}
 use Rattle.sb_step.proofs.Texts.TextsEnd.{goes_on, no_end, stops}
 use Rattle.sb_step.proofs.Texts.OneFileOrOneFault.{fault_behind, file_behind, lexemes-more}
 

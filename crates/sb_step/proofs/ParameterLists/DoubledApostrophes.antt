@@ -1,12 +1,5 @@
 -- A string is written with doubled apostrophes in one way, and read back from it.
-use Rattle.std.proofs.Common.{◌≡◌, ℕ, suc, ◌+◌, ◌<◌, Bool, true, false, cond, List, [], ◌∷◌, ◌++◌, length, drop, drop-drop, drop-cons, get_or, if◌then◌else◌, refl, sym, ap, ◌∙◌, subst, inl, inr, append_assoc, append-nil}
-use Rattle.std.proofs.Math.Seq.{drop-append_seam}
-use Rattle.std.specs.List.{AllByRecursion, concat}
-use Rattle.std.specs.Prelude.{◌==◌, not, IsTrue}
-use Rattle.sb_lex.specs.Bytes.{apostrophe}
-use Rattle.theory_bytes.specs.Sets.{Repeated}
-use Rattle.sb_lex.specs.Kinds.{StringPiece}
-use Rattle.sb_step.specs.Params.Parameters.{written, doubled}
+use Rattle.sb_step.proofs.Names.{◌≡◌, ℕ, suc, ◌+◌, ◌<◌, Bool, true, false, cond, List, [], ◌∷◌, ◌++◌, length, drop, drop-drop, drop-cons, get_or, if◌then◌else◌, refl, sym, ap, ◌∙◌, subst, inl, inr, append_assoc, append-nil, drop-append_seam, AllByRecursion, concat, ◌==◌, not, IsTrue, apostrophe, Repeated, StringPiece, written, doubled}
 
 -- joined texts are doubled one by one
 pub doubled-append : (s t : List ℕ) → doubled (s ++ t) ≡ doubled s ++ doubled t

@@ -1,19 +1,11 @@
 -- What the inside of a string, an enumeration or a binary says is what its token says.
-use Rattle.std.proofs.Common.{◌≡◌, ℕ, ◌≤◌, List, [], ◌∷◌, ◌++◌, length, refl, sym, ap, ◌∙◌, subst, length-append, arith}
-use Rattle.std.specs.Prelude.{slice_range}
+use Rattle.sb_step.proofs.Names.{◌≡◌, ℕ, ◌≤◌, List, [], ◌∷◌, ◌++◌, length, refl, sym, ap, ◌∙◌, subst, length-append, arith, slice_range, Token, Kind, Text, Repeated, StringPiece, Letters, HexDigits, IsOf, IsToken, inside-between, around, Param, doubled, Encloses}
 use Rattle.sb_lex.specs.Bytes as byte
-use Rattle.sb_lex.specs.declared.kinds.Token.{Token}
-use Rattle.sb_lex.specs.declared.kinds.Kind.{Kind}
 use Rattle.sb_lex.specs.declared.kinds.Kind.TheVariants as kind
-use Rattle.theory_bytes.specs.Sets.{Text, ◌⋅◌, Repeated}
-use Rattle.sb_lex.specs.Kinds.{StringPiece, Letters, HexDigits, IsOf}
-use Rattle.sb_lex.specs.Tokens.{IsToken}
+use Rattle.theory_bytes.specs.Sets.{◌⋅◌}
 use Rattle.theory_bytes.specs.Insides.{inside_of}
-use Rattle.theory_bytes.proofs.InsidesAreBetween.{inside-between}
-use Rattle.theory_bytes.proofs.JoinedHasParts.{around}
-use Rattle.sb_step.specs.declared.parameters.param.Param.{Param}
 use Rattle.sb_step.specs.declared.parameters.param.Param.TheVariants as param
-use Rattle.sb_step.specs.Params.Parameters.{doubled, Encloses, Says}
+use Rattle.sb_step.specs.Params.Parameters.{Says}
 use Rattle.sb_step.proofs.ParameterLists.DoubledApostrophes.{IsWritten, inside_is_written}
 
 -- the bytes of a token

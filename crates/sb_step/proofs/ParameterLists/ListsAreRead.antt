@@ -1,12 +1,5 @@
 -- A list is read to its end, parameter by parameter.
-use Rattle.std.proofs.Common.{◌≡◌, ℕ, ◌+◌, ◌-◌, ◌*◌, ◌<◌, ◌≤◌, true, false, List, [], ◌∷◌, ◌++◌, length, refl, sym, ap, ◌∙◌, subst, append_assoc, append-nil, arith}
-use Rattle.std.proofs.lemmas.Bool.{false≢true}
-use Rattle.sb_lex.specs.declared.kinds.Token.{Token}
-use Rattle.sb_lex.specs.Tokens.{IsToken, Reading}
-use Rattle.sb_step.specs.declared.parameters.param.Param.{Param}
-use Rattle.sb_step.specs.Lexemes.{Lexeme, lexeme_at, is_close}
-use Rattle.sb_step.specs.Params.Parameters.{IsParameter, AreFurther}
-use Rattle.sb_step.specs.Params.Readers.{HasNext, ReadsToken, AreAhead, Awaits, Reads, Behind, AreInList, NextItem, ReadsItem}
+use Rattle.sb_step.proofs.Names.{◌≡◌, ℕ, ◌+◌, ◌-◌, ◌*◌, ◌<◌, ◌≤◌, true, false, List, [], ◌∷◌, ◌++◌, length, refl, sym, ap, ◌∙◌, subst, append_assoc, append-nil, arith, false≢true, Token, IsToken, Reading, Param, Lexeme, lexeme_at, is_close, IsParameter, AreFurther, HasNext, ReadsToken, AreAhead, Awaits, Reads, Behind, AreInList, NextItem, ReadsItem}
 use Rattle.sb_step.proofs.Texts.ListsAreFollowed.{not_closed}
 use Rattle.sb_step.proofs.ParameterLists.SaidIsParameter.{said_parameter}
 use Rattle.sb_step.proofs.ParameterLists.ParametersAreRead.{awaits_token, nothing_in_list, passes, input_stays, goes_further, stays_within}

@@ -1,14 +1,5 @@
 -- A reader behind a parameter of a list reads the token with which the list ends or goes on.
-use Rattle.std.proofs.Common.{◌≡◌, ◌<◌, ◌≤◌, true, false, List, [], ◌∷◌, length, sym, ap, ◌∙◌, subst, inl, inr, arith}
-use Rattle.std.proofs.lemmas.Bool.{false≢true}
-use Rattle.sb_lex.specs.declared.kinds.Token.{Token}
-use Rattle.sb_lex.specs.Tokens.{IsToken, Reading}
-use Rattle.sb_step.specs.declared.parameters.param.Param.{Param}
-use Rattle.sb_step.specs.Lexemes.{Lexeme, lexeme_at}
-use Rattle.sb_step.specs.KindTests.{is_comma}
-use Rattle.sb_step.specs.Rules.{Rule}
-use Rattle.sb_step.specs.Params.Parameters.{AreFurther}
-use Rattle.sb_step.specs.Params.Readers.{behind, HasNext, ReadsToken, AreAhead, Awaits, AreInList, NextItem, ReadsItem}
+use Rattle.sb_step.proofs.Names.{◌≡◌, ◌<◌, ◌≤◌, true, false, List, [], ◌∷◌, length, sym, ap, ◌∙◌, subst, inl, inr, arith, false≢true, Token, IsToken, Reading, Param, Lexeme, lexeme_at, is_comma, Rule, AreFurther, behind, HasNext, ReadsToken, AreAhead, Awaits, AreInList, NextItem, ReadsItem}
 use Rattle.sb_step.proofs.ParameterLists.WhatListsSay.{FurtherOn, says_on, further_on}
 
 -- one token

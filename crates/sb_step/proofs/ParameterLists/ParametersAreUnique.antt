@@ -1,19 +1,14 @@
 -- A parameter list says one list of parameters, and ends at one place.
-use Rattle.std.proofs.Common.{◌≡◌, ℕ, List, [], ◌∷◌, refl, sym, ap, ◌∙◌, subst, inl, inr}
-use Rattle.std.proofs.lemmas.Bool.{false≢true}
+use Rattle.sb_step.proofs.Names.{◌≡◌, ℕ, List, [], ◌∷◌, refl, sym, ap, ◌∙◌, subst, inl, inr, false≢true, Kind, Param, Lexeme, is_close, doubled, Encloses, IsParameter, AreParameters, AreFurther, inside-between}
 use Rattle.sb_lex.specs.Bytes as byte
-use Rattle.sb_lex.specs.declared.kinds.Kind.{Kind}
 use Rattle.sb_lex.specs.declared.kinds.Kind.TheVariants as kind
 use Rattle.sb_lex.specs.declared.kinds.Mark.TheVariants as mark
-use Rattle.sb_step.specs.declared.parameters.param.Param.{Param}
 use Rattle.sb_step.specs.declared.parameters.param.Param.TheVariants as param
-use Rattle.sb_step.specs.Lexemes.{Lexeme, is_close}
-use Rattle.sb_step.specs.Params.Parameters.{doubled, Encloses, Says, IsParameter, AreParameters, AreFurther}
+use Rattle.sb_step.specs.Params.Parameters.{Says}
 use Rattle.sb_step.specs.Params.Parameters.IsParameter.{value, list, typed}
 use Rattle.sb_step.specs.Params.Parameters.AreParameters.{empty, some}
 use Rattle.sb_step.specs.Params.Parameters.AreFurther.{last, more}
 use Rattle.theory_bytes.specs.Insides.{inside_of}
-use Rattle.theory_bytes.proofs.InsidesAreBetween.{inside-between}
 use Rattle.sb_step.proofs.ParameterLists.DoubledApostrophes.{doubled_once}
 use Rattle.sb_step.proofs.ParameterLists.WhatListsSay.{SaysOn, ListSaysOn, FurtherOn, list_says_on, says_on, further_on, never_closed, value_is_no_mark, value_is_no_keyword, list_on_mark, typed_on_keyword}
 

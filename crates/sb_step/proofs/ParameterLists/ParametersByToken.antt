@@ -1,14 +1,8 @@
 -- A parameter is read by its first token: a value, a list, or a keyword with its parameter.
-use Rattle.std.proofs.Common.{◌≡◌, ℕ, ◌-◌, ◌+◌, ◌*◌, ◌<◌, ◌≤◌, true, false, List, [], ◌∷◌, length, refl, sym, ap, ◌∙◌, subst, arith}
+use Rattle.sb_step.proofs.Names.{◌≡◌, ℕ, ◌-◌, ◌+◌, ◌*◌, ◌<◌, ◌≤◌, true, false, List, [], ◌∷◌, length, refl, sym, ap, ◌∙◌, subst, arith, Token, IsToken, Reading, Param, Lexeme, lexeme_at, is_value, is_open, IsMark, IsKeyword, is_keyword, IsParameter, HasNext, ReadsToken, AreAhead, Awaits, Reads, Behind, AreInList}
 use Rattle.sb_lex.specs.declared.kinds.Mark.TheVariants as mark
-use Rattle.sb_lex.specs.declared.kinds.Token.{Token}
-use Rattle.sb_lex.specs.Tokens.{IsToken, Reading}
-use Rattle.sb_step.specs.declared.parameters.param.Param.{Param}
 use Rattle.sb_step.specs.declared.parameters.param.Param.TheVariants as param
-use Rattle.sb_step.specs.Lexemes.{Lexeme, lexeme_at, is_value, is_open, IsMark, IsKeyword}
-use Rattle.sb_step.specs.KindTests.{is_keyword}
-use Rattle.sb_step.specs.Params.Parameters.{Says, IsParameter}
-use Rattle.sb_step.specs.Params.Readers.{HasNext, ReadsToken, AreAhead, Awaits, Reads, Behind, AreInList}
+use Rattle.sb_step.specs.Params.Parameters.{Says}
 use Rattle.sb_step.proofs.ParameterLists.SaidIsParameter.{says_value}
 use Rattle.sb_step.proofs.ParameterLists.WhatListsSay.{TypedSays, says_on, list_on_mark, typed_on_keyword, value_on_other}
 use Rattle.sb_step.proofs.ParameterLists.ParametersAreUnique.{says_once}

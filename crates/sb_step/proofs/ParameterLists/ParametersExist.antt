@@ -1,32 +1,17 @@
 -- Each parameter list of an input says some parameters.
-use Rattle.std.proofs.Common.{◌≡◌, ℕ, true, List, [], ◌∷◌, ◌++◌, Some, None, refl, sym, ap, subst}
-use Rattle.std.specs.Prelude.{codes, nat_eq}
-use Rattle.std.specs.Map.{lookup}
-use Rattle.std.proofs.lemmas.Bool.{false≢true}
+use Rattle.sb_step.proofs.Names.{◌≡◌, ℕ, true, List, [], ◌∷◌, ◌++◌, Some, None, refl, sym, ap, subst, codes, nat_eq, lookup, false≢true, Kind, Token, IsToken, AreTokensFrom, Reading, Form, Record, Param, Lexeme, lexemes, is_value, Rule, File, Parameter, ParameterList, MoreParameters, IsFile, Encloses, IsParameter, AreParameters, AreFurther, HoldsParameters, HoldsByForm, EachInstanceHasParameters, behind, AreAhead, reader_at}
 use Rattle.theory_bytes.specs.Insides.{inside_of}
-use Rattle.sb_lex.specs.declared.kinds.Kind.{Kind}
 use Rattle.sb_lex.specs.declared.kinds.Kind.TheVariants as kind
 use Rattle.sb_lex.specs.declared.kinds.Mark.TheVariants as mark
-use Rattle.sb_lex.specs.declared.kinds.Token.{Token}
-use Rattle.sb_lex.specs.Tokens.{IsToken, AreTokensFrom, Reading}
-use Rattle.sb_step.specs.declared.step_file.records.Form.{Form}
 use Rattle.sb_step.specs.declared.step_file.records.Form.TheVariants as form
-use Rattle.sb_step.specs.declared.step_file.records.Record.{Record}
-use Rattle.sb_step.specs.declared.parameters.param.Param.{Param}
 use Rattle.sb_step.specs.declared.parameters.param.Param.TheVariants as param
-use Rattle.sb_step.specs.Lexemes.{Lexeme, lexemes, is_value}
-use Rattle.sb_step.specs.Rules.{Rule}
-use Rattle.sb_step.specs.Grammar.{File, Parameter, ParameterList, MoreParameters}
 use Rattle.sb_step.specs.Grammar.Parameter.{value as one, list as nested, typed as named}
 use Rattle.sb_step.specs.Grammar.ParameterList.{empty as none, some as few}
 use Rattle.sb_step.specs.Grammar.MoreParameters.{last as ends_here, more as further}
-use Rattle.sb_step.specs.Faults.{IsFile}
-use Rattle.sb_step.specs.Params.Parameters.{Encloses, Says, IsParameter, AreParameters, AreFurther, HoldsParameters, HoldsByForm, EachInstanceHasParameters}
+use Rattle.sb_step.specs.Params.Parameters.{Says}
 use Rattle.sb_step.specs.Params.Parameters.IsParameter.{value, list, typed}
 use Rattle.sb_step.specs.Params.Parameters.AreParameters.{empty, some}
 use Rattle.sb_step.specs.Params.Parameters.AreFurther.{last, more}
-use Rattle.sb_step.specs.Params.Readers.{behind, AreAhead}
-use Rattle.sb_step.specs.Params.ParamsAnswers.{reader_at}
 use Rattle.sb_step.proofs.ParameterLists.DoubledApostrophes.{inside_is_written}
 use Rattle.sb_step.proofs.ParameterLists.InsidesOfTokens.{text_of, string_is, enumeration_is, binary_is}
 use Rattle.sb_step.proofs.Records.RecordsStand.{SimpleStands, instance_stands, reads_on}

@@ -1,23 +1,7 @@
 -- What stands behind the keyword of an instance is read, and is what the instance holds.
-use Rattle.std.proofs.Common.{◌≡◌, ℕ, ◌≤◌, ◌↔◌, List, [], ◌∷◌, ◌++◌, length, Some, None, Result, Ok, Err, map, refl, sym, ap, ◌∙◌, subst}
-use Rattle.std.specs.Prelude.{nat_eq}
-use Rattle.std.proofs.lemmas.Option.{same_Some, none-some}
-use Rattle.sb_lex.specs.declared.kinds.Token.{Token}
-use Rattle.sb_lex.specs.Tokens.{AreTokensFrom, Reading, TokensBehindAPlaceAreUnique}
-use Rattle.sb_step.specs.declared.error.ParamsError.{ParamsError}
+use Rattle.sb_step.proofs.Names.{◌≡◌, ℕ, ◌≤◌, ◌↔◌, List, [], ◌∷◌, ◌++◌, length, Some, None, Result, Ok, Err, map, refl, sym, ap, ◌∙◌, subst, nat_eq, same_Some, none-some, Token, AreTokensFrom, Reading, TokensBehindAPlaceAreUnique, ParamsError, Form, Record, Param, Lexeme, lexemes, Indexed, IsIndexed, place_at, form_of, Place, AreParameters, SaysSimple, HoldsParameters, HoldsByForm, HasParameters, ParametersAreUnique, HasNext, ReadsToken, AreAhead, Awaits, Reads, AreInList, behind, IsParamsAnswer, HasMemory, reader_at, AwaitsByForm, SaysByForm, ListSays, Gives}
 use Rattle.sb_step.specs.declared.error.ParamsError.TheVariants as params_error
-use Rattle.sb_step.specs.declared.step_file.records.Form.{Form}
 use Rattle.sb_step.specs.declared.step_file.records.Form.TheVariants as form
-use Rattle.sb_step.specs.declared.step_file.records.Record.{Record}
-use Rattle.sb_step.specs.declared.parameters.param.Param.{Param}
-use Rattle.sb_step.specs.Lexemes.{Lexeme, lexemes}
-use Rattle.sb_step.specs.Indexed.{Indexed}
-use Rattle.sb_step.specs.IndexAnswers.{IsIndexed}
-use Rattle.sb_step.specs.Records.Table.{place_at, form_of}
-use Rattle.sb_step.specs.declared.step_file.table.Place.{Place}
-use Rattle.sb_step.specs.Params.Parameters.{AreParameters, SaysSimple, HoldsParameters, HoldsByForm, HasParameters, ParametersAreUnique}
-use Rattle.sb_step.specs.Params.Readers.{HasNext, ReadsToken, AreAhead, Awaits, Reads, AreInList, behind}
-use Rattle.sb_step.specs.Params.ParamsAnswers.{IsParamsAnswer, HasMemory, reader_at, AwaitsByForm, SaysByForm, ListSays, Gives}
 use Rattle.sb_step.proofs.ParameterLists.WhatListsSay.{ListSaysOn, list_says_on}
 use Rattle.sb_step.proofs.ParameterLists.ParametersAreRead.{awaits_token, passes}
 use Rattle.sb_step.proofs.ParameterLists.ParametersAreUnique.{parameters_are_unique}

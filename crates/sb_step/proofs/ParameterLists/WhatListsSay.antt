@@ -1,17 +1,11 @@
 -- How a list of lexemes begins that says a parameter, and what it says there.
-use Rattle.std.proofs.Common.{◌≡◌, ◌⊎◌, false, List, [], ◌∷◌, refl, sym, ap, ◌∙◌, inl, inr}
-use Rattle.std.proofs.lemmas.Bool.{false≢true}
+use Rattle.sb_step.proofs.Names.{◌≡◌, ◌⊎◌, false, List, [], ◌∷◌, refl, sym, ap, ◌∙◌, inl, inr, false≢true, Param, Lexeme, is_value, is_close, is_open, IsMark, IsKeyword, One, is_keyword, IsParameter, AreParameters, AreFurther, AreInList}
 use Rattle.sb_lex.specs.declared.kinds.Mark.TheVariants as mark
-use Rattle.sb_step.specs.declared.parameters.param.Param.{Param}
 use Rattle.sb_step.specs.declared.parameters.param.Param.TheVariants as param
-use Rattle.sb_step.specs.Lexemes.{Lexeme, is_value, is_close, is_open, IsMark, IsKeyword}
-use Rattle.sb_step.specs.Rules.{One}
-use Rattle.sb_step.specs.KindTests.{is_keyword}
-use Rattle.sb_step.specs.Params.Parameters.{Says, IsParameter, AreParameters, AreFurther}
+use Rattle.sb_step.specs.Params.Parameters.{Says}
 use Rattle.sb_step.specs.Params.Parameters.IsParameter.{value, list, typed}
 use Rattle.sb_step.specs.Params.Parameters.AreParameters.{empty, some}
 use Rattle.sb_step.specs.Params.Parameters.AreFurther.{last, more}
-use Rattle.sb_step.specs.Params.Readers.{AreInList}
 use Rattle.sb_step.proofs.Texts.ListsAreFollowed.{not_closed}
 use Rattle.sb_step.proofs.ParameterLists.SaidIsParameter.{says_value, said_parameter}
 

@@ -1,11 +1,7 @@
 -- What holds of a list of lexemes and with it of each tail holds behind a rule too.
-use Rattle.std.proofs.Common.{ℕ, List, [], ◌∷◌, ◌++◌, sym, subst, inl, inr}
-use Rattle.theory_lists.specs.Members.{Stands}
-use Rattle.sb_step.specs.declared.step_file.records.Record.{Record}
-use Rattle.sb_step.specs.Lexemes.{Lexeme}
-use Rattle.sb_step.specs.Rules.{Rule, One, ◌⋅◌, Many, Each, SomeOf}
-use Rattle.sb_step.specs.Rules.Many.{none, more}
-use Rattle.sb_step.specs.Grammar.{File, Parameter, ParameterList, MoreParameters, IsSimple, InnerRecord, IsComplex, IsRecord, IsInstance, Sections}
+use Rattle.sb_step.proofs.Names.{ℕ, List, [], ◌∷◌, ◌++◌, sym, subst, inl, inr, Stands, Record, Lexeme, Rule, One, Many, Each, SomeOf, none, File, Parameter, ParameterList, MoreParameters, IsSimple, InnerRecord, IsComplex, IsRecord, IsInstance, Sections}
+use Rattle.sb_step.specs.Rules.{◌⋅◌}
+use Rattle.sb_step.specs.Rules.Many.{more}
 use Rattle.sb_step.specs.Grammar.Parameter.{value, list, typed}
 use Rattle.sb_step.specs.Grammar.ParameterList.{empty, some}
 use Rattle.sb_step.specs.Grammar.MoreParameters.{last, more as further}

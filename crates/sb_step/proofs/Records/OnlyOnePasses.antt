@@ -1,10 +1,5 @@
 -- What is found in a list stands there: the only item that passes a test, and what is looked up.
-use Rattle.std.proofs.Common.{◌≡◌, ℕ, Bool, true, false, List, [], ◌∷◌, Some, sym, ap, ◌∙◌, inl, inr, ⊎_elim, cond}
-use Rattle.std.specs.List.{filter}
-use Rattle.std.specs.Map.{lookup}
-use Rattle.std.proofs.lemmas.Bool.{cases_Bool}
-use Rattle.std.proofs.lemmas.Option.{same_Some, none-some}
-use Rattle.theory_lists.specs.Members.{Stands}
+use Rattle.sb_step.proofs.Names.{◌≡◌, ℕ, Bool, true, false, List, [], ◌∷◌, Some, sym, ap, ◌∙◌, inl, inr, ⊎_elim, cond, filter, lookup, cases_Bool, same_Some, none-some, Stands}
 use Rattle.sb_step.proofs.KindsSay.{choice}
 
 -- the only item that passes stands in the list

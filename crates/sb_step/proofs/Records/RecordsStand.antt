@@ -1,21 +1,9 @@
 -- Where a simple record of a file stands among the tokens of its input.
-use Rattle.std.proofs.Common.{◌≡◌, ℕ, ◌≤◌, Bool, List, [], ◌∷◌, ◌++◌, length, Option, Some, None, refl, sym, ap, ◌∙◌, subst, inl, inr, append_assoc, arith}
-use Rattle.std.specs.Map.{lookup}
-use Rattle.std.proofs.lemmas.Option.{same_Some, none-some}
+use Rattle.sb_step.proofs.Names.{◌≡◌, ℕ, ◌≤◌, Bool, List, [], ◌∷◌, ◌++◌, length, Option, Some, None, refl, sym, ap, ◌∙◌, subst, inl, inr, append_assoc, arith, lookup, same_Some, none-some, Token, BadToken, IsNext, AreTokensFrom, AreTokens, Record, Lexeme, lexeme_at, lexemes, IsMark, Each, File, ParameterList, IsSimple, IsRecord, IsInstance, BeginsSimple, SemicolonAt, IsFile, RecordLies, Stands}
 use Rattle.sb_lex.specs.declared.kinds.Mark.TheVariants as mark
-use Rattle.sb_lex.specs.declared.kinds.Token.{Token}
-use Rattle.sb_lex.specs.declared.kinds.BadToken.{BadToken}
-use Rattle.sb_lex.specs.Tokens.{IsNext, AreTokensFrom, AreTokens}
 use Rattle.sb_step.specs.declared.step_file.records.Form.TheVariants as form
-use Rattle.sb_step.specs.declared.step_file.records.Record.{Record}
-use Rattle.sb_step.specs.Lexemes.{Lexeme, lexeme_at, lexemes, IsMark}
-use Rattle.sb_step.specs.Rules.{Each}
-use Rattle.sb_step.specs.Grammar.{File, ParameterList, IsSimple, IsRecord, IsInstance, BeginsSimple, SemicolonAt}
-use Rattle.sb_step.specs.Faults.{IsFile}
-use Rattle.sb_step.specs.Records.Spans.{RecordLies}
 use Rattle.sb_step.proofs.Records.OnlyOnePasses.{found_among}
 use Rattle.sb_step.proofs.Records.BehindRules.{HoldsOfTails, one_leaves, list_leaves, entity_place, instance_place}
-use Rattle.theory_lists.specs.Members.{Stands}
 
 -- the lexemes are those of the tokens from some token on
 pub record IsTail (input : List ℕ) (tokens : List Token) (xs : List Lexeme) : Type 0 where

@@ -1,26 +1,11 @@
 -- The text that is read behind the keyword of the one FILE_SCHEMA is the schema of the file.
-use Rattle.std.proofs.Common.{◌≡◌, ℕ, ◌+◌, ◌-◌, ◌≤◌, ◌↔◌, true, List, [], ◌∷◌, ◌++◌, Option, Some, None, length, refl, sym, ap, ◌∙◌, subst, ⊎_elim, cond}
-use Rattle.std.specs.Prelude.{◌&&◌, codes, slice_range}
-use Rattle.std.specs.List.{filter}
-use Rattle.std.proofs.lemmas.Bool.{false≢true, and_parts, and_from}
-use Rattle.theory_bytes.proofs.InsidesAreBetween.{slice_inside}
-use Rattle.std.proofs.lemmas.Option.{same_Some, none-some}
+use Rattle.sb_step.proofs.Names.{◌≡◌, ℕ, ◌+◌, ◌-◌, ◌≤◌, ◌↔◌, true, List, [], ◌∷◌, ◌++◌, Option, Some, None, length, refl, sym, ap, ◌∙◌, subst, ⊎_elim, cond, ◌&&◌, codes, slice_range, filter, false≢true, and_parts, and_from, slice_inside, same_Some, none-some, Kind, Token, IsOf, IsCandidate, AreTokensFrom, AreTokens, Record, Lexeme, lexeme_at, lexemes, IsMark, is_open, is_close, Rule, One, File, Indexed, is_schema, IsString, OneString, HasOneString, IsSchema, HasNoSchema, first_of, behind_first, opens, closes, both_open, both_close, inside, text_in, IsFile}
 use Rattle.sb_lex.specs.Bytes as byte
-use Rattle.sb_lex.specs.declared.kinds.Kind.{Kind}
 use Rattle.sb_lex.specs.declared.kinds.Kind.TheVariants as kind
 use Rattle.sb_lex.specs.declared.kinds.Mark.TheVariants as mark
-use Rattle.sb_lex.specs.declared.kinds.Token.{Token}
-use Rattle.sb_lex.specs.Kinds.{IsOf}
-use Rattle.sb_lex.specs.Tokens.{IsCandidate, AreTokensFrom, AreTokens}
 use Rattle.sb_step.specs.declared.step_file.records.Form.TheVariants as form
-use Rattle.sb_step.specs.declared.step_file.records.Record.{Record}
-use Rattle.sb_step.specs.Lexemes.{Lexeme, lexeme_at, lexemes, IsMark, is_open, is_close}
-use Rattle.sb_step.specs.Rules.{Rule, One, ◌⋅◌}
-use Rattle.sb_step.specs.Grammar.{File}
-use Rattle.sb_step.specs.Indexed.{Indexed}
-use Rattle.sb_step.specs.Records.Schema.{is_schema, IsString, OneString, HasOneString, IsSchema, HasNoSchema}
-use Rattle.sb_step.specs.Records.SchemaReading.{first_of, behind_first, opens, closes, both_open, both_close, inside_of, inside, text_in}
-use Rattle.sb_step.specs.Faults.{IsFile}
+use Rattle.sb_step.specs.Rules.{◌⋅◌}
+use Rattle.sb_step.specs.Records.SchemaReading.{inside_of}
 use Rattle.sb_step.proofs.Records.OnlyOnePasses.{passes_among}
 use Rattle.sb_step.proofs.KindsSay.{mark_says, choice}
 use Rattle.sb_step.proofs.Records.RecordsStand.{entity_stands, tokens_behind, reads_on}

@@ -1,24 +1,10 @@
 -- The machine keeps count of the parentheses that are open.
-use Rattle.std.proofs.Common.{◌≡◌, ◌-◌, ℕ, suc, ◌+◌, ◌≤◌, Bool, true, false, cond, List, [], ◌∷◌, length, Some, refl, ap, arith}
-use Rattle.std.specs.Prelude.{nat_lt}
-use Rattle.std.proofs.lemmas.Bool.{false≢true, ltb-true}
-use Rattle.sb_lex.specs.declared.kinds.Kind.{Kind}
+use Rattle.sb_step.proofs.Names.{◌≡◌, ◌-◌, ℕ, suc, ◌+◌, ◌≤◌, Bool, true, false, cond, List, [], ◌∷◌, length, Some, refl, ap, arith, nat_lt, false≢true, ltb-true, Kind, greatest_depth, Section, Bracket, Want, Move, Lexeme, is_value, is_open, is_close, Asked, Way, the_word, the, a_keyword, a_name, the_mark, a_value, section_ways, Nest, plain, begun, State, Turn, is_complex, room_of, next_turn}
 use Rattle.sb_lex.specs.declared.kinds.Kind.TheVariants as kind
 use Rattle.sb_lex.specs.declared.kinds.Mark.TheVariants as mark
-use Rattle.sb_step.specs.Grammar.{greatest_depth}
-use Rattle.sb_step.specs.declared.indexing.states.Section.{Section}
 use Rattle.sb_step.specs.declared.indexing.states.Section.TheVariants as section
-use Rattle.sb_step.specs.declared.indexing.states.Bracket.{Bracket}
 use Rattle.sb_step.specs.declared.indexing.states.Bracket.TheVariants as bracket
-use Rattle.sb_step.specs.declared.indexing.states.Want.{Want}
 use Rattle.sb_step.specs.declared.indexing.states.Want.TheVariants as want
-use Rattle.sb_step.specs.declared.indexing.states.Move.{Move}
-use Rattle.sb_step.specs.Lexemes.{Lexeme, is_value, is_open, is_close}
-use Rattle.sb_step.specs.Index.Ways.{Asked, Way}
-use Rattle.sb_step.specs.Index.Ways.Asked.{the_word, the, a_keyword, a_name, the_mark, a_value}
-use Rattle.sb_step.specs.Index.SectionMoves.{section_ways}
-use Rattle.sb_step.specs.Index.ListMoves.{Nest}
-use Rattle.sb_step.specs.Index.Turns.{plain, begun, State, Turn, is_complex, room_of, next_turn}
 use Rattle.sb_step.proofs.Texts.TurnsByWay.{IsAsked, EachWay, parameter_ways, list_ways, turn_of, EachTurn, each_turned}
 
 -- one parenthesis more, or none

@@ -1,20 +1,11 @@
 -- Single lists of lexemes: texts that the grammar has, and places where it goes on no further. Each
 -- is found by computing.
-use Rattle.std.proofs.Common.{◌≡◌, ℕ, ◌+◌, List, [], ◌∷◌, ◌++◌, Some, None, refl, ap, ◌∙◌, subst, ⊎_elim, cond, eqb, arith}
-use Rattle.std.specs.Prelude.{codes, replicate}
-use Rattle.std.proofs.lemmas.Bool.{cases_Bool, eqb-true}
+use Rattle.sb_step.proofs.Names.{◌≡◌, ℕ, ◌+◌, List, [], ◌∷◌, ◌++◌, Some, None, refl, ap, ◌∙◌, subst, ⊎_elim, cond, eqb, arith, codes, replicate, cases_Bool, eqb-true, Record, Lexeme, IsText, BeginsText, uses, IsGreatest, Rule, One, OneString, next_turn, start, Ran, run}
 use Rattle.sb_lex.specs.declared.kinds.Kind.TheVariants as kind
 use Rattle.sb_lex.specs.declared.kinds.Mark.TheVariants as mark
 use Rattle.sb_lex.specs.declared.kinds.Word.TheVariants as word
 use Rattle.sb_step.specs.declared.step_file.records.Form.TheVariants as form
-use Rattle.sb_step.specs.declared.step_file.records.Record.{Record}
-use Rattle.sb_step.specs.Lexemes.{Lexeme}
-use Rattle.sb_step.specs.Grammar.{IsText}
-use Rattle.sb_step.specs.Faults.{BeginsText}
-use Rattle.sb_step.specs.Numbers.{uses, IsGreatest}
-use Rattle.sb_step.specs.Rules.{Rule, One, ◌⋅◌}
-use Rattle.sb_step.specs.Records.Schema.{OneString}
-use Rattle.sb_step.specs.Index.Turns.{next_turn, start, Ran, run}
+use Rattle.sb_step.specs.Rules.{◌⋅◌}
 use Rattle.sb_step.proofs.Records.PlacesOfItems.{count_by-cons}
 use Rattle.sb_step.proofs.Texts.SomeTextGoesOn.{lexeme_of, mark_of, keyword_of}
 use Rattle.sb_step.proofs.Texts.WhatIsReadIsText.{before}

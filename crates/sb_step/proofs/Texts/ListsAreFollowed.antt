@@ -1,22 +1,12 @@
 -- Parameter lists lead the machine to what stands behind them.
-use Rattle.std.proofs.Common.{◌≡◌, ◌-◌, ℕ, suc, ◌+◌, ◌<◌, ◌≤◌, Bool, true, false, cond, List, [], ◌∷◌, length, Some, None, refl, ap, ◌∙◌, arith}
-use Rattle.std.specs.Prelude.{option_map, option_and_then}
-use Rattle.std.proofs.lemmas.Bool.{false≢true, cond-true, cond-false, lt-ltb}
-use Rattle.sb_lex.specs.declared.kinds.Kind.{Kind}
+use Rattle.sb_step.proofs.Names.{◌≡◌, ◌-◌, ℕ, suc, ◌+◌, ◌<◌, ◌≤◌, Bool, true, false, cond, List, [], ◌∷◌, length, Some, None, refl, ap, ◌∙◌, arith, option_map, option_and_then, false≢true, cond-true, cond-false, lt-ltb, Kind, Section, Bracket, Want, Lexeme, IsKeyword, IsMark, is_value, is_close, greatest_depth, Parameter, ParameterList, MoreParameters, by_want, is_complex, room_of, State, turn_list, next_turn}
 use Rattle.sb_lex.specs.declared.kinds.Kind.TheVariants as kind
 use Rattle.sb_lex.specs.declared.kinds.Mark.TheVariants as mark
-use Rattle.sb_step.specs.declared.indexing.states.Section.{Section}
-use Rattle.sb_step.specs.declared.indexing.states.Bracket.{Bracket}
 use Rattle.sb_step.specs.declared.indexing.states.Bracket.TheVariants as bracket
-use Rattle.sb_step.specs.declared.indexing.states.Want.{Want}
 use Rattle.sb_step.specs.declared.indexing.states.Want.TheVariants as want
-use Rattle.sb_step.specs.Lexemes.{Lexeme, IsKeyword, IsMark, is_value, is_close}
-use Rattle.sb_step.specs.Grammar.{greatest_depth, Parameter, ParameterList, MoreParameters}
 use Rattle.sb_step.specs.Grammar.Parameter.{value, list, typed}
 use Rattle.sb_step.specs.Grammar.ParameterList.{empty, some}
 use Rattle.sb_step.specs.Grammar.MoreParameters.{last, more}
-use Rattle.sb_step.specs.Index.ListMoves.{by_want}
-use Rattle.sb_step.specs.Index.Turns.{is_complex, room_of, State, turn_list, next_turn}
 use Rattle.sb_step.proofs.Texts.TurnsByWay.{nest, turn_within}
 use Rattle.sb_step.proofs.Texts.DepthIsCounted.{opens, closes, depth_without, depth}
 use Rattle.sb_step.proofs.Texts.ReadingToTheEnd.{prepend, ends, by_kind, Shallow, Leads, one_leads, led_on}

@@ -1,13 +1,6 @@
 -- Each input is one file or has one fault.
-use Rattle.std.proofs.Common.{◌≡◌, ℕ, ◌⊎◌, List, [], ◌∷◌, ◌++◌, Option, Some, None, refl, sym, ap, ap₂, ◌∙◌, subst, inl, inr, ⊎_elim, append_assoc, append-nil}
-use Rattle.std.proofs.lemmas.List.{map-append}
-use Rattle.sb_lex.specs.declared.kinds.Token.{Token}
-use Rattle.sb_lex.specs.declared.kinds.BadToken.{BadToken}
-use Rattle.sb_lex.specs.Tokens.{AreTokens, EachInputHasTokens, TokensAreUnique}
-use Rattle.sb_step.specs.Lexemes.{Lexeme, lexeme_at, lexemes}
-use Rattle.sb_step.specs.Grammar.{File, IsText}
-use Rattle.sb_step.specs.Faults.{IsFile, BeginsText, place_of, GoesOn, IsFaultAt, EachIsFileOrFault, FilesAreUnique, FaultsAreUnique, NoFileHasAFault}
-use Rattle.sb_step.specs.Index.Turns.{Turn, next_turn, start, end_of, file_of, Ran, run}
+use Rattle.sb_step.proofs.Names.{◌≡◌, ℕ, ◌⊎◌, List, [], ◌∷◌, ◌++◌, Option, Some, None, refl, sym, ap, ap₂, ◌∙◌, subst, inl, inr, ⊎_elim, append_assoc, append-nil, map-append, Token, BadToken, AreTokens, EachInputHasTokens, TokensAreUnique, Lexeme, lexeme_at, lexemes, File, IsText, IsFile, BeginsText, GoesOn, IsFaultAt, EachIsFileOrFault, FilesAreUnique, FaultsAreUnique, NoFileHasAFault, Turn, next_turn, start, end_of, file_of, Ran, run}
+use Rattle.sb_step.specs.Faults.{place_of}
 use Rattle.sb_step.proofs.Texts.TextsEnd.{goes_on, ends_text, no_end, runs_begin, stops, one_file}
 
 -- the lexemes of one token more

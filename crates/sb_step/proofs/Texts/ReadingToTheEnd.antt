@@ -1,16 +1,8 @@
 -- What the machine finds from a state to the end of a text, and how it is led there.
-use Rattle.std.proofs.Common.{◌≡◌, ℕ, ◌+◌, ◌≤◌, List, [], ◌∷◌, ◌++◌, Option, Some, sym, ap, ◌∙◌, subst, arith}
-use Rattle.std.specs.Prelude.{codes, option_map, option_and_then}
-use Rattle.std.proofs.lemmas.List.Sums.{sum_by-cons}
-use Rattle.sb_lex.specs.declared.kinds.Kind.{Kind}
-use Rattle.sb_step.specs.declared.indexing.states.Section.{Section}
-use Rattle.sb_step.specs.declared.indexing.states.Event.{Event}
+use Rattle.sb_step.proofs.Names.{◌≡◌, ℕ, ◌+◌, ◌≤◌, List, [], ◌∷◌, ◌++◌, Option, Some, sym, ap, ◌∙◌, subst, arith, codes, option_map, option_and_then, sum_by-cons, Kind, Section, Event, Lexeme, IsWord, IsThe, opened, closed, Rule, One, Each, greatest_depth, File, Semicolon, IsInstance, EndOfData, State, Turn, plain, next_turn, end_of}
 use Rattle.sb_step.specs.declared.indexing.states.Event.TheVariants as event
 use Rattle.sb_lex.specs.declared.kinds.Word.TheVariants as word
-use Rattle.sb_step.specs.Lexemes.{Lexeme, IsWord, IsThe, opened, closed}
-use Rattle.sb_step.specs.Rules.{Rule, One, ◌⋅◌, Each}
-use Rattle.sb_step.specs.Grammar.{greatest_depth, File, Semicolon, IsInstance, EndOfData}
-use Rattle.sb_step.specs.Index.Turns.{State, Turn, plain, next_turn, end_of}
+use Rattle.sb_step.specs.Rules.{◌⋅◌}
 use Rattle.sb_step.proofs.Texts.DepthIsCounted.{opens, closes, depth, Counts, turn_counts}
 
 -- what was found, before what is still to come

@@ -1,27 +1,12 @@
 -- A text leads the machine to its end, and what it describes is what is found.
-use Rattle.std.proofs.Common.{◌≡◌, ℕ, true, cond, List, [], ◌∷◌, ◌++◌, Some, None, refl, sym, ap, ◌∙◌, subst, inl, inr, ⊎_elim, append-nil, arith}
-use Rattle.std.specs.Prelude.{codes}
-use Rattle.std.proofs.lemmas.Bool.{cases_Bool}
+use Rattle.sb_step.proofs.Names.{◌≡◌, ℕ, true, cond, List, [], ◌∷◌, ◌++◌, Some, None, refl, sym, ap, ◌∙◌, subst, inl, inr, ⊎_elim, append-nil, arith, codes, cases_Bool, Record, Span, Part, Section, Event, Move, Lexeme, IsThe, IsMark, One, Many, SomeOf, none, File, IsText, Semicolon, SemicolonAt, ParameterList, BeginsSimple, BeginsComplex, IsSimple, InnerRecord, IsComplex, IsRecord, IsInstance, Sections, is_keyword, number_of, is_the, Way, pick, ◌⇢◌, the, a_keyword, a_name, moves, enters, finds, span_of, entity_of, record_of, turn_section, next_turn, start}
 use Rattle.sb_lex.specs.declared.kinds.Kind.TheVariants as kind
 use Rattle.sb_lex.specs.declared.kinds.Mark.TheVariants as mark
 use Rattle.sb_lex.specs.declared.kinds.Word.TheVariants as word
-use Rattle.sb_step.specs.declared.step_file.records.Record.{Record}
-use Rattle.sb_step.specs.declared.indexing.states.Span.{Span}
-use Rattle.sb_step.specs.declared.indexing.states.Part.{Part}
-use Rattle.sb_step.specs.declared.indexing.states.Section.{Section}
 use Rattle.sb_step.specs.declared.indexing.states.Section.TheVariants as section
-use Rattle.sb_step.specs.declared.indexing.states.Event.{Event}
 use Rattle.sb_step.specs.declared.indexing.states.Event.TheVariants as event
-use Rattle.sb_step.specs.declared.indexing.states.Move.{Move}
-use Rattle.sb_step.specs.Lexemes.{Lexeme, IsThe, IsMark}
-use Rattle.sb_step.specs.Rules.{One, ◌⋅◌, Many, SomeOf}
-use Rattle.sb_step.specs.Rules.Many.{none, more}
-use Rattle.sb_step.specs.Grammar.{File, IsText, Semicolon, SemicolonAt, ParameterList, BeginsSimple, BeginsComplex, IsSimple, InnerRecord, IsComplex, IsRecord, IsInstance, Sections}
-use Rattle.sb_step.specs.KindTests.{is_keyword, number_of, is_the}
-use Rattle.sb_step.specs.Index.Ways.{Way, pick, ◌⇢◌}
-use Rattle.sb_step.specs.Index.Ways.Asked.{the, a_keyword, a_name}
-use Rattle.sb_step.specs.Index.SectionMoves.{moves, enters, finds, span_of, entity_of, record_of}
-use Rattle.sb_step.specs.Index.Turns.{turn_section, next_turn, start}
+use Rattle.sb_step.specs.Rules.{◌⋅◌}
+use Rattle.sb_step.specs.Rules.Many.{more}
 use Rattle.sb_step.proofs.KindsSay.{said_the}
 use Rattle.sb_step.proofs.Texts.TurnsByWay.{turn_of}
 use Rattle.sb_step.proofs.Texts.DepthIsCounted.{depth}

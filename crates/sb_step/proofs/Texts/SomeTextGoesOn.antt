@@ -1,22 +1,9 @@
 -- From each state some text goes on: the first of its ways leads to the end.
-use Rattle.std.proofs.Common.{◌≡◌, ℕ, zero, suc, true, cond, List, [], ◌∷◌, ◌++◌, Option, Some, None, refl, ap, ◌∙◌}
-use Rattle.std.specs.Prelude.{is_some, option_map, option_and_then}
-use Rattle.sb_lex.specs.declared.kinds.Kind.{Kind}
+use Rattle.sb_step.proofs.Names.{◌≡◌, ℕ, zero, suc, true, cond, List, [], ◌∷◌, ◌++◌, Option, Some, None, refl, ap, ◌∙◌, is_some, option_map, option_and_then, Kind, Mark, Section, Bracket, Want, Move, Lexeme, File, Asked, Way, the_word, the, a_keyword, a_name, the_mark, a_value, section_ways, State, Turn, next_turn}
 use Rattle.sb_lex.specs.declared.kinds.Kind.TheVariants as kind
-use Rattle.sb_lex.specs.declared.kinds.Mark.{Mark}
 use Rattle.sb_lex.specs.declared.kinds.Mark.TheVariants as mark
-use Rattle.sb_step.specs.declared.indexing.states.Section.{Section}
 use Rattle.sb_step.specs.declared.indexing.states.Section.TheVariants as section
-use Rattle.sb_step.specs.declared.indexing.states.Bracket.{Bracket}
-use Rattle.sb_step.specs.declared.indexing.states.Want.{Want}
 use Rattle.sb_step.specs.declared.indexing.states.Want.TheVariants as want
-use Rattle.sb_step.specs.declared.indexing.states.Move.{Move}
-use Rattle.sb_step.specs.Lexemes.{Lexeme}
-use Rattle.sb_step.specs.Grammar.{File}
-use Rattle.sb_step.specs.Index.Ways.{Asked, Way}
-use Rattle.sb_step.specs.Index.Ways.Asked.{the_word, the, a_keyword, a_name, the_mark, a_value}
-use Rattle.sb_step.specs.Index.SectionMoves.{section_ways}
-use Rattle.sb_step.specs.Index.Turns.{State, Turn, next_turn}
 use Rattle.sb_step.proofs.Texts.TurnsByWay.{nest, turn_within}
 use Rattle.sb_step.proofs.Texts.ReadingToTheEnd.{prepend, ends}
 use Rattle.sb_step.proofs.Texts.ListsAreFollowed.{state_at}

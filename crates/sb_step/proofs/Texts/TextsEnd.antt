@@ -1,13 +1,6 @@
 -- What the machine reads begins a text, and is one where it has come to its end.
-use Rattle.std.proofs.Common.{◌≡◌, ℕ, List, [], ◌∷◌, ◌++◌, Option, Some, None, refl, sym, ap, ◌∙◌, subst, append_assoc, append-nil}
-use Rattle.std.specs.Prelude.{option_map, option_and_then}
-use Rattle.std.proofs.lemmas.Option.{same_Some, none-some, option_and_then_some}
-use Rattle.sb_step.specs.declared.indexing.states.Event.{Event}
+use Rattle.sb_step.proofs.Names.{◌≡◌, ℕ, List, [], ◌∷◌, ◌++◌, Option, Some, None, refl, sym, ap, ◌∙◌, subst, append_assoc, append-nil, option_map, option_and_then, same_Some, none-some, option_and_then_some, Event, Lexeme, File, IsText, BeginsText, State, Turn, next_turn, start, end_of, file_of, Ran, and_ran, run}
 use Rattle.sb_step.specs.declared.indexing.states.Event.TheVariants as event
-use Rattle.sb_step.specs.Lexemes.{Lexeme}
-use Rattle.sb_step.specs.Grammar.{File, IsText}
-use Rattle.sb_step.specs.Faults.{BeginsText}
-use Rattle.sb_step.specs.Index.Turns.{State, Turn, next_turn, start, end_of, file_of, Ran, and_ran, run}
 use Rattle.sb_step.proofs.Texts.ReadingToTheEnd.{prepend, no_more, ends}
 use Rattle.sb_step.proofs.Texts.SectionsAreFollowed.{texts_are_read}
 use Rattle.sb_step.proofs.Texts.WhatIsReadIsText.{what_is_read}

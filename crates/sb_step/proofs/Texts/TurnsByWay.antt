@@ -1,23 +1,10 @@
 -- Each turn of the machine is by one of the ways of its state.
-use Rattle.std.proofs.Common.{◌≡◌, ℕ, Bool, true, false, cond, List, [], ◌∷◌, length, Option, Some, None, refl, sym, ap, ◌∙◌, subst, ⊎_elim}
-use Rattle.std.specs.Prelude.{nat_lt}
-use Rattle.std.proofs.lemmas.Option.{same_Some, none-some}
+use Rattle.sb_step.proofs.Names.{◌≡◌, ℕ, Bool, true, false, cond, List, [], ◌∷◌, length, Option, Some, None, refl, sym, ap, ◌∙◌, subst, ⊎_elim, nat_lt, same_Some, none-some, Section, Bracket, Want, Move, Lexeme, IsWord, IsKeyword, IsThe, IsName, IsMark, IsValue, is_value, is_open, is_close, is_keyword, number_of, Asked, passes, Way, pick, ◌⇢◌, the_word, the, a_keyword, a_name, the_mark, a_value, section_ways, section_move, Nest, parameter, by_want, Turn, plain, begun, room_of, turn_section, turn_list, next_turn_at}
 use Rattle.sb_lex.specs.declared.kinds.Mark.TheVariants as mark
 use Rattle.sb_lex.specs.declared.kinds.Word.TheVariants as word
-use Rattle.sb_step.specs.declared.indexing.states.Section.{Section}
-use Rattle.sb_step.specs.declared.indexing.states.Bracket.{Bracket}
 use Rattle.sb_step.specs.declared.indexing.states.Bracket.TheVariants as bracket
-use Rattle.sb_step.specs.declared.indexing.states.Want.{Want}
 use Rattle.sb_step.specs.declared.indexing.states.Want.TheVariants as want
 use Rattle.sb_step.specs.declared.indexing.states.Event.TheVariants as event
-use Rattle.sb_step.specs.declared.indexing.states.Move.{Move}
-use Rattle.sb_step.specs.Lexemes.{Lexeme, IsWord, IsKeyword, IsThe, IsName, IsMark, IsValue, is_value, is_open, is_close}
-use Rattle.sb_step.specs.KindTests.{is_keyword, number_of}
-use Rattle.sb_step.specs.Index.Ways.{Asked, passes, Way, pick, ◌⇢◌}
-use Rattle.sb_step.specs.Index.Ways.Asked.{the_word, the, a_keyword, a_name, the_mark, a_value}
-use Rattle.sb_step.specs.Index.SectionMoves.{section_ways, section_move}
-use Rattle.sb_step.specs.Index.ListMoves.{Nest, parameter, by_want}
-use Rattle.sb_step.specs.Index.Turns.{Turn, plain, begun, room_of, turn_section, turn_list, next_turn_at}
 use Rattle.sb_step.proofs.KindsSay.{mark_says, first_says, last_says, keyword_says, name_says, the_says, choice}
 
 -- the lexeme is what is asked

@@ -1,29 +1,16 @@
 -- What the machine reads to its end is a text, and describes what was found.
-use Rattle.std.proofs.Common.{◌≡◌, ◌-◌, ℕ, ◌+◌, ◌≤◌, ◌⊎◌, Bool, true, false, cond, List, [], ◌∷◌, ◌++◌, length, Option, Some, None, refl, sym, ap, subst, inl, inr, ⊎_elim, arith}
-use Rattle.std.specs.Prelude.{codes, nat_lt, option_map}
-use Rattle.std.proofs.lemmas.Option.{same_Some, none-some, option_and_then_some}
+use Rattle.sb_step.proofs.Names.{◌≡◌, ◌-◌, ℕ, ◌+◌, ◌≤◌, ◌⊎◌, Bool, true, false, cond, List, [], ◌∷◌, ◌++◌, length, Option, Some, None, refl, sym, ap, subst, inl, inr, ⊎_elim, arith, codes, nat_lt, option_map, same_Some, none-some, option_and_then_some, Record, Span, Part, Section, Bracket, Want, Event, Lexeme, IsWord, IsKeyword, IsThe, IsName, IsMark, opened, closed, Rule, One, Many, Each, SomeOf, none, File, IsText, greatest_depth, Semicolon, SemicolonAt, Parameter, ParameterList, MoreParameters, BeginsSimple, IsSimple, InnerRecord, IsRecord, IsInstance, Sections, span_of, entity_of, record_of, section_ways, State, is_complex, room_of, next_turn, start, end_at}
 use Rattle.sb_lex.specs.declared.kinds.Mark.TheVariants as mark
 use Rattle.sb_lex.specs.declared.kinds.Word.TheVariants as word
-use Rattle.sb_step.specs.declared.step_file.records.Record.{Record}
-use Rattle.sb_step.specs.declared.indexing.states.Span.{Span}
-use Rattle.sb_step.specs.declared.indexing.states.Part.{Part}
-use Rattle.sb_step.specs.declared.indexing.states.Section.{Section}
 use Rattle.sb_step.specs.declared.indexing.states.Section.TheVariants as section
-use Rattle.sb_step.specs.declared.indexing.states.Bracket.{Bracket}
 use Rattle.sb_step.specs.declared.indexing.states.Bracket.TheVariants as bracket
-use Rattle.sb_step.specs.declared.indexing.states.Want.{Want}
 use Rattle.sb_step.specs.declared.indexing.states.Want.TheVariants as want
-use Rattle.sb_step.specs.declared.indexing.states.Event.{Event}
 use Rattle.sb_step.specs.declared.indexing.states.Event.TheVariants as event
-use Rattle.sb_step.specs.Lexemes.{Lexeme, IsWord, IsKeyword, IsThe, IsName, IsMark, opened, closed}
-use Rattle.sb_step.specs.Rules.{Rule, One, ◌⋅◌, Many, Each, SomeOf}
-use Rattle.sb_step.specs.Rules.Many.{none, more as one_more}
-use Rattle.sb_step.specs.Grammar.{File, IsText, greatest_depth, Semicolon, SemicolonAt, Parameter, ParameterList, MoreParameters, BeginsSimple, IsSimple, InnerRecord, IsRecord, IsInstance, Sections}
+use Rattle.sb_step.specs.Rules.{◌⋅◌}
+use Rattle.sb_step.specs.Rules.Many.{more as one_more}
 use Rattle.sb_step.specs.Grammar.Parameter.{value, list, typed}
 use Rattle.sb_step.specs.Grammar.ParameterList.{empty, some}
 use Rattle.sb_step.specs.Grammar.MoreParameters.{last, more}
-use Rattle.sb_step.specs.Index.SectionMoves.{span_of, entity_of, record_of, section_ways}
-use Rattle.sb_step.specs.Index.Turns.{State, is_complex, room_of, next_turn, start, end_at}
 use Rattle.sb_step.proofs.Texts.TurnsByWay.{EachWay, parameter_ways, list_ways, turn_of, EachTurn, each_turned}
 use Rattle.sb_step.proofs.Texts.DepthIsCounted.{depth_within, depth, Fits, Counts, turn_counts, turn_fits}
 use Rattle.sb_step.proofs.Texts.ReadingToTheEnd.{prepend, no_more, End, Data, BehindEntities, ends, Shallow, opened-more, closed-more}

@@ -1,6 +1,4 @@
-use Rattle.std.proofs.Common.{Some, None, subst}
-use Rattle.sb_step.specs.IndexAnswers.{IsIndexed}
-use Rattle.sb_step.specs.Records.Rows.{IsDoubledIn}
+use Rattle.sb_step.proofs.Names.{Some, None, subst, IsIndexed, IsDoubledIn}
 use Rattle.sb_step.proofs.Collecting.FilesAreHeld.{doubled_is, held_of}
 use Rattle.sb_step.proofs.indexing.found.Goals as goal
 

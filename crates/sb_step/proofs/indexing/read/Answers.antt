@@ -1,9 +1,4 @@
-use Rattle.std.proofs.Common.{◌≡◌, ℕ, List, Option, Ok, Err, Some, None, sym, ap, ◌∙◌, subst}
-use Rattle.sb_lex.specs.declared.kinds.Token.{Token}
-use Rattle.sb_lex.specs.Tokens.{IsTokenAnswer, IsNext, Reading, moved}
-use Rattle.sb_step.specs.Index.Turns.{start}
-use Rattle.sb_step.specs.Index.Machines.{state_of}
-use Rattle.sb_step.specs.Index.Progress.{Progress, IsRead}
+use Rattle.sb_step.proofs.Names.{◌≡◌, ℕ, List, Option, Ok, Err, Some, None, sym, ap, ◌∙◌, subst, Token, IsTokenAnswer, IsNext, Reading, moved, start, state_of, Progress, IsRead}
 use Rattle.sb_step.proofs.Collecting.ReadingGoesOn.{nothing_read, one_more, fault_at_bad, read_at_end, error_answers}
 use Rattle.sb_step.proofs.indexing.read.Goals as goal
 

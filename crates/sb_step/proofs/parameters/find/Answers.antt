@@ -1,6 +1,4 @@
-use Rattle.std.proofs.Common.{sym, ap, ◌∙◌, subst}
-use Rattle.sb_step.specs.Params.ParamsAnswers.{IsParamsAnswer, AwaitsByForm, SaysByForm, Gives}
-use Rattle.sb_step.specs.Records.Table.{place_at}
+use Rattle.sb_step.proofs.Names.{sym, ap, ◌∙◌, subst, IsParamsAnswer, AwaitsByForm, SaysByForm, Gives, place_at}
 use Rattle.sb_step.proofs.ParameterLists.ParametersOfAnInstance.{place_has, instance_awaits, params_answered}
 use Rattle.sb_step.proofs.parameters.find.Goals as goal
 

@@ -1,7 +1,4 @@
-use Rattle.std.proofs.Common.{sym, subst}
-use Rattle.std.proofs.lemmas.Result.{IfOk-weaker}
-use Rattle.sb_step.specs.Params.Parameters.{AreParameters}
-use Rattle.sb_step.specs.Params.Readers.{Awaits, AreAhead}
+use Rattle.sb_step.proofs.Names.{sym, subst, IfOk-weaker, AreParameters, Awaits, AreAhead}
 use Rattle.sb_step.proofs.ParameterLists.ParametersOfAnInstance.{behind_parenthesis, list_said}
 use Rattle.sb_step.proofs.parameters.list_at.Goals as goal
 

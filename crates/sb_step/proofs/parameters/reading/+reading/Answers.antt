@@ -1,7 +1,5 @@
-use Rattle.std.proofs.Common.{sym, arith}
-use Rattle.std.proofs.lemmas.Result.{IfOk-weaker}
+use Rattle.sb_step.proofs.Names.{sym, arith, IfOk-weaker, lexeme_at}
 use Rattle.sb_lex.specs.declared.kinds.Mark.TheVariants as mark
-use Rattle.sb_step.specs.Lexemes.{lexeme_at}
 use Rattle.sb_step.proofs.KindsSay.{mark_says}
 use Rattle.sb_step.proofs.ParameterLists.ListsAreRead.{list_has_next, list_begins, item_awaited, item_less, next_awaited, list_goes_on, list_ends}
 use Rattle.sb_step.proofs.ParameterLists.ParametersByToken.{list_awaited, reads_list, is_a_value, reads_value, opens_next, first_next, c_is, first_is, less_left, inner_awaited, closes_next, reads_typed}

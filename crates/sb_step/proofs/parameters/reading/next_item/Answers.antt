@@ -1,4 +1,4 @@
-use Rattle.std.proofs.Common.{sym}
+use Rattle.sb_step.proofs.Names.{sym}
 use Rattle.sb_step.proofs.ParameterLists.ParametersAreRead.{more_has_next, comma_has_next, reads_further, reads_last}
 use Rattle.sb_step.proofs.parameters.reading.next_item.Goals as goal
 

@@ -1,7 +1,4 @@
-use Rattle.std.proofs.Common.{length, sym, ap, ◌∙◌, subst}
-use Rattle.std.specs.Prelude.{nat_eq, option_and_then}
-use Rattle.sb_step.specs.Records.Spans.{keyword_by, keyword_of}
-use Rattle.sb_step.specs.Records.Table.{place_at, PlaceLies, form_of}
+use Rattle.sb_step.proofs.Names.{length, sym, ap, ◌∙◌, subst, nat_eq, option_and_then, keyword_by, keyword_of, place_at, PlaceLies, form_of}
 use Rattle.sb_step.proofs.Records.RecordsStand.{found_lies}
 use Rattle.sb_step.proofs.Records.PlacesTell.{placed, place_lies, keyword_kept}
 use Rattle.sb_step.proofs.step_file.StepFile.keyword.Goals as goal
