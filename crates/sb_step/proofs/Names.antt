@@ -49,7 +49,7 @@ pub use Rattle.sb_step.specs.Params.ParamsAnswers.{AwaitsByForm, Gives, HasMemor
 pub use Rattle.sb_step.specs.Params.Readers.{AreAhead, AreInList, Awaits, Behind, HasNext, NextItem, Reads, ReadsItem, ReadsToken, behind}
 pub use Rattle.sb_step.specs.Records.Rows.{AreUnlike, Finds, IsDoubledIn, IsFirstTwice, IsLast, IsRowOf, IsTable, Rises, numbered_from, row_of}
 pub use Rattle.sb_step.specs.Records.Schema.{HasNoSchema, HasOneString, IsSchema, IsString, OneString, is_schema, is_spelled}
-pub use Rattle.sb_step.specs.Records.SchemaReading.{SchemaSays, behind_first, both_close, both_open, closes, first_of, inside, one_more, opens, text_in, with_entity, with_entity_by}
+pub use Rattle.sb_step.specs.Records.SchemaReading.{marks, SchemaSays, behind_first, both_close, both_open, closes, first_of, inside, one_more, opens, text_in, with_entity, with_entity_by}
 pub use Rattle.sb_step.specs.Records.Spans.{RecordLies, keyword_by, keyword_of}
 pub use Rattle.sb_step.specs.Records.Table.{PlaceLies, form_of, place_at, place_by}
 pub use Rattle.sb_step.specs.Rules.{Each, Many, One, Rule, SomeOf}

@@ -1,5 +1,5 @@
 -- The text that is read behind the keyword of the one FILE_SCHEMA is the schema of the file.
-use Rattle.sb_step.proofs.Names.{◌≡◌, ℕ, ◌+◌, ◌-◌, ◌≤◌, ◌↔◌, true, List, [], ◌∷◌, ◌++◌, Option, Some, None, length, refl, sym, ap, ◌∙◌, subst, ⊎_elim, cond, ◌&&◌, codes, slice_range, filter, false≢true, and_parts, and_from, slice_inside, same_Some, none-some, Kind, Token, IsOf, IsCandidate, AreTokensFrom, AreTokens, Record, Lexeme, lexeme_at, lexemes, IsMark, is_open, is_close, Rule, One, File, Indexed, is_schema, IsString, OneString, HasOneString, IsSchema, HasNoSchema, first_of, behind_first, opens, closes, both_open, both_close, inside, text_in, IsFile}
+use Rattle.sb_step.proofs.Names.{Mark, is_mark, marks, ◌≡◌, ℕ, ◌+◌, ◌-◌, ◌≤◌, ◌↔◌, true, List, [], ◌∷◌, ◌++◌, Option, Some, None, length, refl, sym, ap, ◌∙◌, subst, ⊎_elim, cond, ◌&&◌, codes, slice_range, filter, false≢true, and_parts, and_from, slice_inside, same_Some, none-some, Kind, Token, IsOf, IsCandidate, AreTokensFrom, AreTokens, Record, Lexeme, lexeme_at, lexemes, IsMark, is_open, is_close, Rule, One, File, Indexed, is_schema, IsString, OneString, HasOneString, IsSchema, HasNoSchema, first_of, behind_first, opens, closes, both_open, both_close, inside, text_in, IsFile}
 use Rattle.sb_lex.specs.Bytes as byte
 use Rattle.sb_lex.specs.declared.kinds.Kind.TheVariants as kind
 use Rattle.sb_lex.specs.declared.kinds.Mark.TheVariants as mark
@@ -79,25 +79,15 @@ module _ (input : List ℕ) where
       let one = one_first P tokens j.middle j.first in
       (one.0, subst (λ xs. Q xs rest) one.1 j.second)
 
-  opens_first : (tokens : List Token) → opens (first_of tokens) ≡ true
-      → First (IsMark mark.Open) tokens
-  opens_first [] e = absurd (false≢true e)
-  opens_first (t ∷ later) e = mark_says mark.Open t.kind e
+  marks_first : (m : Mark) (tokens : List Token) → marks m (first_of tokens) ≡ true
+      → First (IsMark m) tokens
+  marks_first m [] e = absurd (false≢true e)
+  marks_first m (t ∷ later) e = mark_says m t.kind e
 
-  first_opens : (tokens : List Token) → First (IsMark mark.Open) tokens
-      → opens (first_of tokens) ≡ true
-  first_opens [] is = absurd is
-  first_opens (t ∷ later) is = ap is_open is
-
-  closes_first : (tokens : List Token) → closes (first_of tokens) ≡ true
-      → First (IsMark mark.Close) tokens
-  closes_first [] e = absurd (false≢true e)
-  closes_first (t ∷ later) e = mark_says mark.Close t.kind e
-
-  first_closes : (tokens : List Token) → First (IsMark mark.Close) tokens
-      → closes (first_of tokens) ≡ true
-  first_closes [] is = absurd is
-  first_closes (t ∷ later) is = ap is_close is
+  first_marks : (m : Mark) (tokens : List Token) → First (IsMark m) tokens
+      → is_mark m (kind.Mark m) ≡ true → marks m (first_of tokens) ≡ true
+  first_marks m [] is same = absurd is
+  first_marks m (t ∷ later) is same = ap (is_mark m) is ∙ same
 
   string_first : (text : List ℕ) (tokens : List Token) → AreSome tokens
       → inside input (first_of tokens) ≡ Some text → First (IsString text) tokens
@@ -138,11 +128,11 @@ module _ (input : List ℕ) where
         let both = and_parts (both_open tokens) (both_close closing) passed.0 in
         let opened = and_parts (opens (first_of tokens)) (opens (first_of second)) both.0 in
         let closed = and_parts (closes (first_of closing)) (closes (first_of final)) both.1 in
-        ahead tokens (opens_first tokens opened.0) (ahead second (opens_first second opened.1)
+        ahead tokens (marks_first mark.Open tokens opened.0) (ahead second (marks_first mark.Open second opened.1)
         (ahead string (string_first text string (some_behind second (some_behind tokens are))
         passed.1)
-        (ahead closing (closes_first closing closed.0)
-        (first_one _ final (closes_first final closed.1))))))
+        (ahead closing (marks_first mark.Close closing closed.0)
+        (first_one _ final (marks_first mark.Close final closed.1))))))
         (λ other. absurd (none-some text other.1))
         (choice (both_open tokens && both_close closing) (inside input (first_of string)) None text
         read)
@@ -157,10 +147,10 @@ module _ (input : List ℕ) where
         let e = one_first _ final rest d.1 in
         let passed : (both_open tokens && both_close closing) ≡ true =
         and_from (both_open tokens) (both_close closing)
-        (and_from (opens (first_of tokens)) (opens (first_of second)) (first_opens tokens a.0)
-        (first_opens second b.0))
-        (and_from (closes (first_of closing)) (closes (first_of final)) (first_closes closing d.0)
-        (first_closes final e.0)) in
+        (and_from (opens (first_of tokens)) (opens (first_of second)) (first_marks mark.Open tokens a.0 refl)
+        (first_marks mark.Open second b.0 refl))
+        (and_from (closes (first_of closing)) (closes (first_of final)) (first_marks mark.Close closing d.0 refl)
+        (first_marks mark.Close final e.0 refl)) in
         ap (λ b. cond b (inside input (first_of string)) None) passed
         ∙ first_string text string (some_behind second (some_behind tokens are)) c.0
 
