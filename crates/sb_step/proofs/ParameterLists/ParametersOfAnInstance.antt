@@ -11,10 +11,6 @@ use Rattle.sb_step.proofs.Records.RecordsStand.{found_lies, tokens_behind}
 
 -- a list is read from its parenthesis on
 
--- there is a token where a list is awaited
-pub list_has_first : (a : Reading) → Awaits AreParameters a → HasNext a
-list_has_first a w = awaits_token AreParameters (λ ps rest l. list_says_on l) a w
-
 module _ (a b : Reading) (t : Token) (read : ReadsToken a b t) where
   -- behind the parenthesis the list goes on
   pub behind_parenthesis : Awaits AreParameters a → Awaits AreInList b

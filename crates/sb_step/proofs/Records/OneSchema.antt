@@ -58,15 +58,3 @@ module _ (input : List ℕ) (before : List Record) where
   pub says_more : (s : Schema) (r : Record) → SchemaSays input before s
       → SchemaSays input (before ++ r ∷ []) (with_entity input s r)
   says_more s r says = by_form s r r.form refl says
-
--- where there are none or several, none is the only one
-pub none_is_only : (input : List ℕ) (header : List Record) (r : Record)
-    → filter (is_schema input) header ≡ r ∷ []
-    → (SchemaSays input header schema.Missing → ⊥) × (SchemaSays input header schema.Several → ⊥)
-none_is_only input header r only =
-    let one : length (filter (is_schema input) header) ≡ 1 = ap length only in (
-      λ (missing : filter (is_schema input) header ≡ []).
-          let zero_ : length (filter (is_schema input) header) ≡ 0 = ap length missing in
-          omega (arith, one, zero_),
-      λ (several : 2 ≤ length (filter (is_schema input) header)). omega (arith, one, several),
-    )
