@@ -219,12 +219,25 @@ longer w step = record {
   on = w.on;
 }
 
+-- the same of one record
+grown : {found : Record → Event} {Is : Record → Type 0} {K : File → Rest} {At Bt : Record → Rule}
+    {f : File} {xs ys : List Lexeme} → Within found Is K At f xs
+    → ((r : Record) (rest : List Lexeme) → At r xs rest → Bt r ys rest) → Within found Is K Bt f ys
+grown w step = longer w (λ r is. (is, step r))
+
+-- the semicolon of a record, behind which the text goes on
+closed_at : (found : Record → Event) (Is : Record → Type 0) (K : File → Rest) (r : Record) → Is r
+    → (x : Lexeme) (xs : List Lexeme) (f : File) → SemicolonAt r.end (x ∷ xs) xs → K f xs
+    → Within found Is K (λ b. SemicolonAt b.end) (prepend (found r) f) (x ∷ xs)
+closed_at found Is K r is x xs f goes on =
+    record { body = r; is = is; later = f; whole = refl; middle = xs; goes = goes; on = on }
+
 -- a parameter list before the rest of a record
 listed : {found : Record → Event} {Is : Record → Type 0} {K : File → Rest} (At : Record → Rule)
     {f : File} {xs : List Lexeme} → After ParameterList (Within found Is K At f) xs
     → Within found Is K (λ r. ParameterList ⋅ At r) f xs
 listed At a =
-    longer a.second (λ r is. (is, λ rest j. record { middle = a.middle; first = a.first; second = j }))
+    grown a.second (λ r rest j. record { middle = a.middle; first = a.first; second = j })
 
 begins_simple : (x : Lexeme) (r : Record) → IsKeyword x → r ≡ entity_of (span_of x) r.end
     → BeginsSimple r x
@@ -304,24 +317,14 @@ sections_come (section.EntityOrEnd s) x xs f = (
 )
 sections_come (section.EntityOpen s) x xs f =
     (λ o on. listed (λ r. SemicolonAt r.end) (list_comes _ x xs o on), tt)
-sections_come (section.EntityEnd s) x xs f = (
-  λ c on. record {
-    body = entity_of s x.token.start;
-    is = refl;
-    later = f;
-    whole = refl;
-    middle = xs;
-    goes = ((c, refl), refl);
-    on = on;
-  },
-  tt,
-)
+sections_come (section.EntityEnd s) x xs f =
+    (λ c on. closed_at _ _ AtEntities (entity_of s x.token.start) refl x xs f ((c, refl), refl) on, tt)
 sections_come section.Data x xs f = (λ the on. (on.0, before the on.1), tt)
 sections_come section.DataSemicolon x xs f = (λ s on. (on.0, before s on.1), tt)
 sections_come section.Instances x xs f =
     (λ the on. data_ends x xs f the on, (λ name on. instance_comes x xs f _ name on, tt))
 sections_come (section.Equals n) x xs f =
-    (λ e on. longer on (λ r is. (tt, λ rest j. before e j)), tt)
+    (λ e on. grown on (λ r rest j. before e j), tt)
 sections_come (section.Body n) x xs f = (
   λ k on. longer on (λ r is. (tt, λ rest j. inl (before (begins_simple x r k is) j))),
   (
@@ -339,43 +342,25 @@ sections_come (section.Body n) x xs f = (
 sections_come (section.SimpleOpen p) x xs f =
     (λ o on. listed (λ r. SemicolonAt r.end) (list_comes _ x xs o on), tt)
 sections_come (section.FirstRecord p) x xs f = (
-  λ k on. longer on (λ r is. (
-    is,
-    λ rest j. record { middle = j.middle; first = before k j.first; second = j.second },
-  )),
+  λ k on. grown on (λ r rest j. record
+      { middle = j.middle; first = before k j.first; second = j.second }),
   tt,
 )
 sections_come (section.RecordOpen p) x xs f =
     (λ o on. listed ComplexRest (list_comes _ x xs o on), tt)
 sections_come (section.NextRecord p) x xs f = (
-  λ c on. longer on (λ r is. (
-    is,
-    λ rest j. record { middle = x ∷ xs; first = none; second = before c j },
-  )),
+  λ c on. grown on (λ r rest j. record { middle = x ∷ xs; first = none; second = before c j }),
   (
-    λ k on. longer on (λ r is. (
-      is,
-      λ rest j. record {
-        middle = j.second.middle;
-        first = one_more (before k j.first) j.second.first;
-        second = j.second.second;
-      },
-    )),
+    λ k on. grown on (λ r rest j. record {
+      middle = j.second.middle;
+      first = one_more (before k j.first) j.second.first;
+      second = j.second.second;
+    }),
     tt,
   ),
 )
-sections_come (section.InstanceEnd p) x xs f = (
-  λ c on. record {
-    body = record_of p x.token.start;
-    is = refl;
-    later = f;
-    whole = refl;
-    middle = xs;
-    goes = ((c, refl), refl);
-    on = on;
-  },
-  tt,
-)
+sections_come (section.InstanceEnd p) x xs f =
+    (λ c on. closed_at _ _ AtInstances (record_of p x.token.start) refl x xs f ((c, refl), refl) on, tt)
 sections_come (section.EndSemicolon k) x xs f = (λ s on. (on.0, before s on.1), tt)
 sections_come (section.LastWord k) x xs f = (λ w on. (on.0, before w on.1), tt)
 sections_come (section.LastSemicolon k) x xs f = (λ s on. (on.0, (s, sym on.1)), tt)
