@@ -2,7 +2,7 @@
 use Rattle.sb_step.proofs.Names.{◌≡◌, ℕ, ◌+◌, ◌-◌, ◌*◌, ◌<◌, ◌≤◌, true, false, List, [], ◌∷◌, ◌++◌, length, refl, sym, ap, ◌∙◌, subst, append_assoc, append-nil, arith, false≢true, Token, IsToken, Reading, Param, Lexeme, lexeme_at, is_close, IsParameter, AreFurther, HasNext, ReadsToken, AreAhead, Awaits, Reads, Behind, AreInList, NextItem, ReadsItem}
 use Rattle.sb_step.proofs.Texts.ListsAreFollowed.{not_closed}
 use Rattle.sb_step.proofs.ParameterLists.SaidIsParameter.{said_parameter}
-use Rattle.sb_step.proofs.ParameterLists.ParametersAreRead.{awaits_token, nothing_in_list, passes, input_stays, goes_further, stays_within}
+use Rattle.sb_step.proofs.ParameterLists.ParametersAreRead.{awaits_token, nothing_in_list, item_read, input_stays, goes_further, stays_within}
 
 -- where the reader stands behind a token that ends the list or begins its next parameter, what the
 -- list says is the items so far and later ones
@@ -31,19 +31,10 @@ module _ (bytes : List ℕ) (entry now : Reading) (t : Token) (read : ReadsToken
     (entry_is : entry.input ≡ bytes) where
   first_item : (ps : List Param) (xs rest : List Lexeme) → AreAhead entry xs → AreInList ps xs rest
       → ItemsSoFar [] (lexeme_at bytes t) now ps rest
-  first_item ps [] rest ahead l = absurd (nothing_in_list ps rest l)
-  first_item ps (x ∷ xs) rest ahead l =
-      let p = passes entry now t read x xs ahead in
-      record {
-        later = ps;
-        next = record {
-          ys = xs;
-          ahead = p.1;
-          in_list = subst (λ y. AreInList ps (y ∷ xs) rest)
-              (p.0 ∙ ap (λ i. lexeme_at i t) entry_is) l;
-        };
-        is = refl;
-      }
+  first_item ps xs rest ahead l =
+      let next = item_read entry now t read ps xs rest ahead l in
+      let here = subst (λ i. NextItem (lexeme_at i t) now ps rest) entry_is next in
+      record { later = ps; next = here; is = refl }
 
   -- nothing but its first token
   pub list_begins : (items : List Param) → items ≡ [] → ReadSoFar bytes entry now items t

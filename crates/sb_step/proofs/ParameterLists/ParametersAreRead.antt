@@ -1,5 +1,5 @@
 -- A reader behind a parameter of a list reads the token with which the list ends or goes on.
-use Rattle.sb_step.proofs.Names.{◌≡◌, ◌<◌, ◌≤◌, true, false, List, [], ◌∷◌, length, sym, ap, ◌∙◌, subst, inl, inr, arith, false≢true, Token, IsToken, Reading, Param, Lexeme, lexeme_at, is_comma, Rule, AreFurther, behind, HasNext, ReadsToken, AreAhead, Awaits, AreInList, NextItem, ReadsItem}
+use Rattle.sb_step.proofs.Names.{⊎_elim, ◌⊎◌, ◌≡◌, ◌<◌, ◌≤◌, true, false, List, [], ◌∷◌, length, sym, ap, ◌∙◌, subst, inl, inr, arith, false≢true, Token, IsToken, Reading, Param, Lexeme, lexeme_at, is_comma, Rule, AreFurther, behind, HasNext, ReadsToken, AreAhead, Awaits, AreInList, NextItem, ReadsItem}
 use Rattle.sb_step.proofs.ParameterLists.WhatListsSay.{FurtherOn, says_on, further_on}
 
 -- one token
@@ -49,25 +49,35 @@ pub more_has_next : (at : Reading) → Awaits AreFurther at → HasNext at
 more_has_next at w = awaits_token AreFurther (λ ps rest m. further_on m) at w
 
 module _ (a b : Reading) (t : Token) (read : ReadsToken a b t) where
-  kind_is : (x : Lexeme) (xs : List Lexeme) → AreAhead a (x ∷ xs) → x.token.kind ≡ t.kind
-  kind_is x xs ahead = ap (λ y. y.token.kind) (passes a b t read x xs ahead).0
+  -- the token ends the list or begins its next parameter
+  pub item_read : (ps : List Param) (xs rest : List Lexeme) → AreAhead a xs → AreInList ps xs rest
+      → NextItem (lexeme_at a.input t) b ps rest
+  item_read ps [] rest ahead l = absurd (nothing_in_list ps rest l)
+  item_read ps (x ∷ xs) rest ahead l =
+      let p = passes a b t read x xs ahead in
+      let in_list = subst (λ y. AreInList ps (y ∷ xs) rest) p.0 l in
+      record { ys = xs; ahead = p.1; in_list = in_list }
+
+  kind_is : (x : Lexeme) (xs : List Lexeme) → AreAhead a (x ∷ xs) → t.kind ≡ x.token.kind
+  kind_is x xs ahead = ap (λ y. y.token.kind) (sym (passes a b t read x xs ahead).0)
+
+  -- behind a parameter it ends the list, or is a comma
+  further_read : (ps : List Param) (xs rest : List Lexeme) → AreAhead a xs → FurtherOn ps rest xs
+      → ((is_comma t.kind ≡ false) × NextItem (lexeme_at a.input t) b ps rest)
+      ⊎ ((is_comma t.kind ≡ true) × (ys : List Lexeme) × AreAhead b ys × AreInList ps ys rest)
+  further_read ps [] rest ahead on = absurd on
+  further_read ps (x ∷ xs) rest ahead (inl c) =
+      inl (ap is_comma (kind_is x xs ahead ∙ c.0), item_read ps (x ∷ xs) rest ahead c.1)
+  further_read ps (x ∷ xs) rest ahead (inr m) =
+      inr (ap is_comma (kind_is x xs ahead ∙ m.0), xs, (passes a b t read x xs ahead).1, m.1)
 
   -- behind a comma there is a token
   pub comma_has_next : is_comma t.kind ≡ true → Awaits AreFurther a → HasNext b
-  comma_has_next comma w = by_first w.xs w.ahead (further_on w.is)
-    where
-      by_first : (xs : List Lexeme) → AreAhead a xs → FurtherOn w.value w.rest xs → HasNext b
-      by_first [] ahead on = absurd on
-      by_first (x ∷ xs) ahead (inl c) =
-          absurd (false≢true (ap is_comma (sym c.0 ∙ kind_is x xs ahead) ∙ comma))
-      by_first (x ∷ xs) ahead (inr m) =
-          awaits_token AreInList nothing_in_list b (record {
-            value = w.value;
-            xs = xs;
-            rest = w.rest;
-            ahead = (passes a b t read x xs ahead).1;
-            is = m.1;
-          })
+  comma_has_next comma w =
+      ⊎_elim (λ l. absurd (false≢true (sym l.0 ∙ comma)))
+      (λ m. awaits_token AreInList nothing_in_list b
+      (record { value = w.value; xs = m.1; rest = w.rest; ahead = m.2; is = m.3 }))
+      (further_read w.value w.xs w.rest w.ahead (further_on w.is))
 
   -- where there is no comma the list ends
   pub reads_last : is_comma t.kind ≡ false → ReadsItem a b t
@@ -76,51 +86,24 @@ module _ (a b : Reading) (t : Token) (read : ReadsToken a b t) where
     further = goes_further a b t read;
     within = stays_within a b t read;
     token = read.next.token;
-    leads = λ ps xs rest ahead m. by_first ps xs rest ahead (further_on m);
+    leads = λ ps xs rest ahead m.
+        ⊎_elim (λ l. l.1) (λ c. absurd (false≢true (sym none ∙ c.0)))
+        (further_read ps xs rest ahead (further_on m));
   }
-    where
-      by_first : (ps : List Param) (xs rest : List Lexeme) → AreAhead a xs → FurtherOn ps rest xs
-          → NextItem (lexeme_at a.input t) b ps rest
-      by_first ps [] rest ahead on = absurd on
-      by_first ps (x ∷ xs) rest ahead (inr m) =
-          absurd (false≢true (sym none ∙ ap is_comma (sym (kind_is x xs ahead) ∙ m.0)))
-      by_first ps (x ∷ xs) rest ahead (inl c) =
-          let p = passes a b t read x xs ahead in
-          record {
-            ys = xs;
-            ahead = p.1;
-            in_list = subst (λ y. AreInList ps (y ∷ xs) rest) p.0 c.1;
-          }
 
-  -- behind a comma the next parameter begins
-  pub reads_further : (c : Reading) (u : Token) → ReadsToken b c u → is_comma t.kind ≡ true
-      → ReadsItem a c u
-  reads_further c u then comma =
-      let input = input_stays a b t read in
-      record {
-        input_is = input_stays b c u then ∙ input;
-        further = omega (arith, goes_further a b t read, goes_further b c u then);
-        within = subst (λ i. c.place ≤ length i) input (stays_within b c u then);
-        token = subst (λ i. IsToken i u) input then.next.token;
-        leads = λ ps xs rest ahead m. by_first ps xs rest ahead (further_on m);
-      }
-    where
-      by_second : (ps : List Param) (xs rest : List Lexeme) → AreAhead b xs → AreInList ps xs rest
-          → NextItem (lexeme_at a.input u) c ps rest
-      by_second ps [] rest ahead l = absurd (nothing_in_list ps rest l)
-      by_second ps (y ∷ ys) rest ahead l =
-          let q = passes b c u then y ys ahead in
-          record {
-            ys = ys;
-            ahead = q.1;
-            in_list = subst (λ z. AreInList ps (z ∷ ys) rest)
-                (q.0 ∙ ap (λ i. lexeme_at i u) (input_stays a b t read)) l;
-          }
-
-      by_first : (ps : List Param) (xs rest : List Lexeme) → AreAhead a xs → FurtherOn ps rest xs
-          → NextItem (lexeme_at a.input u) c ps rest
-      by_first ps [] rest ahead on = absurd on
-      by_first ps (x ∷ xs) rest ahead (inl l) =
-          absurd (false≢true (ap is_comma (sym l.0 ∙ kind_is x xs ahead) ∙ comma))
-      by_first ps (x ∷ xs) rest ahead (inr m) =
-          by_second ps xs rest (passes a b t read x xs ahead).1 m.1
+-- behind a comma the next parameter begins
+pub reads_further : (a b : Reading) (t : Token) (read : ReadsToken a b t) (c : Reading) (u : Token)
+    → ReadsToken b c u → is_comma t.kind ≡ true → ReadsItem a c u
+reads_further a b t read c u then comma =
+    let input = input_stays a b t read in
+    record {
+      input_is = input_stays b c u then ∙ input;
+      further = omega (arith, goes_further a b t read, goes_further b c u then);
+      within = subst (λ i. c.place ≤ length i) input (stays_within b c u then);
+      token = subst (λ i. IsToken i u) input then.next.token;
+      leads = λ ps xs rest ahead m.
+          ⊎_elim (λ l. absurd (false≢true (sym l.0 ∙ comma)))
+          (λ k. subst (λ i. NextItem (lexeme_at i u) c ps rest) input
+          (item_read b c u then ps k.1 rest k.2 k.3))
+          (further_read a b t read ps xs rest ahead (further_on m));
+    }

@@ -3,7 +3,7 @@ use Rattle.sb_step.proofs.Names.{◌≡◌, ℕ, ◌≤◌, ◌↔◌, List, [],
 use Rattle.sb_step.specs.declared.error.ParamsError.TheVariants as params_error
 use Rattle.sb_step.specs.declared.step_file.records.Form.TheVariants as form
 use Rattle.sb_step.proofs.ParameterLists.WhatListsSay.{ListSaysOn, list_says_on}
-use Rattle.sb_step.proofs.ParameterLists.ParametersAreRead.{awaits_token, passes}
+use Rattle.sb_step.proofs.ParameterLists.ParametersAreRead.{passes}
 use Rattle.sb_step.proofs.ParameterLists.ParametersAreUnique.{parameters_are_unique}
 use Rattle.sb_step.proofs.ParameterLists.ParametersExist.{tokens_ahead, each_instance_has_parameters}
 use Rattle.sb_step.proofs.Records.PlacesTell.{placed, form_kept}
@@ -12,30 +12,22 @@ use Rattle.sb_step.proofs.Records.RecordsStand.{found_lies, tokens_behind}
 -- a list is read from its parenthesis on
 
 module _ (a b : Reading) (t : Token) (read : ReadsToken a b t) where
+  opened : (ps : List Param) (xs rest : List Lexeme) → AreAhead a xs → ListSaysOn ps rest xs
+      → (ys : List Lexeme) × AreAhead b ys × AreInList ps ys rest
+  opened ps [] rest ahead on = absurd on
+  opened ps (x ∷ xs) rest ahead on = (xs, (passes a b t read x xs ahead).1, on.1)
+
   -- behind the parenthesis the list goes on
   pub behind_parenthesis : Awaits AreParameters a → Awaits AreInList b
-  behind_parenthesis w = by_first w.xs (list_says_on w.is) w.ahead
-    where
-      by_first : (xs : List Lexeme) → ListSaysOn w.value w.rest xs → AreAhead a xs
-          → Awaits AreInList b
-      by_first [] on ahead = absurd on
-      by_first (x ∷ xs) on ahead = record {
-        value = w.value;
-        xs = xs;
-        rest = w.rest;
-        ahead = (passes a b t read x xs ahead).1;
-        is = on.1;
-      }
+  behind_parenthesis w =
+      let o = opened w.value w.xs w.rest w.ahead (list_says_on w.is) in
+      record { value = w.value; xs = o.0; rest = w.rest; ahead = o.1; is = o.2 }
 
   -- and what was read there is what the list says
   pub list_said : (c : Reading) (ps : List Param) → Reads AreInList b c ps → (qs : List Param)
       (xs rest : List Lexeme) → AreAhead a xs → AreParameters qs xs rest → qs ≡ ps
-  list_said c ps reads qs xs rest ahead l = by_first xs (list_says_on l) ahead
-    where
-      by_first : (xs : List Lexeme) → ListSaysOn qs rest xs → AreAhead a xs → qs ≡ ps
-      by_first [] on ahead = absurd on
-      by_first (x ∷ xs) on ahead =
-          (reads.leads qs xs rest (passes a b t read x xs ahead).1 on.1).0
+  list_said c ps reads qs xs rest ahead l =
+      let o = opened qs xs rest ahead (list_says_on l) in (reads.leads qs o.0 rest o.1 o.2).0
 
 -- the tokens of the lexemes that a reader stands before are those from its place on
 abbrev tokens_of : List Lexeme → List Token
