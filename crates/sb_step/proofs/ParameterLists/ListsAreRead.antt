@@ -27,12 +27,12 @@ pub record ReadSoFar (bytes : List ℕ) (entry now : Reading) (items : List Para
 pub list_has_next : (at : Reading) → Awaits AreInList at → HasNext at
 list_has_next at w = awaits_token AreInList nothing_in_list at w
 
-module _ (bytes : List ℕ) (entry now : Reading) (t : Token) (read : ReadsToken entry now t)
+module _ {bytes : List ℕ} {entry now : Reading} {t : Token} (read : ReadsToken entry now t)
     (entry_is : entry.input ≡ bytes) where
   first_item : (ps : List Param) (xs rest : List Lexeme) → AreAhead entry xs → AreInList ps xs rest
       → ItemsSoFar [] (lexeme_at bytes t) now ps rest
   first_item ps xs rest ahead l =
-      let next = item_read entry now t read ps xs rest ahead l in
+      let next = item_read read ps xs rest ahead l in
       let here = subst (λ i. NextItem (lexeme_at i t) now ps rest) entry_is next in
       record { later = ps; next = here; is = refl }
 
@@ -40,9 +40,9 @@ module _ (bytes : List ℕ) (entry now : Reading) (t : Token) (read : ReadsToken
   pub list_begins : (items : List Param) → items ≡ [] → ReadSoFar bytes entry now items t
   list_begins items none = record {
     entry_is = entry_is;
-    input_is = input_stays entry now t read ∙ entry_is;
-    further = goes_further entry now t read;
-    within = subst (λ i. now.place ≤ length i) entry_is (stays_within entry now t read);
+    input_is = input_stays read ∙ entry_is;
+    further = goes_further read;
+    within = subst (λ i. now.place ≤ length i) entry_is (stays_within read);
     token = subst (λ i. IsToken i t) entry_is read.next.token;
     leads = λ ps xs rest ahead l.
         subst (λ all. ItemsSoFar all (lexeme_at bytes t) now ps rest) (sym none)
@@ -71,7 +71,7 @@ going_on y ys rest (p ∷ ps) going j = record {
   further = j.second;
 }
 
-module _ (bytes : List ℕ) (entry now : Reading) (items : List Param) (t : Token)
+module _ {bytes : List ℕ} {entry now : Reading} {items : List Param} {t : Token}
     (read : ReadSoFar bytes entry now items t) where
   pub item_less : 2 * (length bytes - now.place) + 1 < 2 * (length bytes - entry.place)
   item_less = omega (arith, read.further, read.within)
@@ -90,7 +90,7 @@ module _ (bytes : List ℕ) (entry now : Reading) (items : List Param) (t : Toke
         is = g.says;
       }
 
-  module _ (b : Reading) (p : Param)
+  module _ {b : Reading} {p : Param}
       (item : Reads (Behind (lexeme_at bytes t) IsParameter) now b p) where
     -- and what follows it
     pub next_awaited : is_close t.kind ≡ false → Awaits AreInList entry → Awaits AreFurther b
@@ -105,7 +105,7 @@ module _ (bytes : List ℕ) (entry now : Reading) (items : List Param) (t : Toke
           is = g.further;
         }
 
-    module _ (c : Reading) (u : Token) (next : ReadsItem b c u) where
+    module _ {c : Reading} {u : Token} (next : ReadsItem b c u) where
       b_is : b.input ≡ bytes
       b_is = item.onward.input_is ∙ read.input_is
 

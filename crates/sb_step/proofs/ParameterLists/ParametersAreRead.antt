@@ -4,7 +4,7 @@ use Rattle.sb_step.proofs.ParameterLists.WhatListsSay.{FurtherOn, says_on, furth
 
 -- one token
 
-module _ (a b : Reading) (t : Token) (read : ReadsToken a b t) where
+module _ {a b : Reading} {t : Token} (read : ReadsToken a b t) where
   -- the token was the first of the lexemes ahead, and the reader stands before the others
   pub passes : (x : Lexeme) (xs : List Lexeme) → AreAhead a (x ∷ xs)
       → (x ≡ lexeme_at a.input t) × AreAhead b xs
@@ -48,18 +48,18 @@ nothing_in_list (p ∷ ps) rest j = says_on j.first
 pub more_has_next : (at : Reading) → Awaits AreFurther at → HasNext at
 more_has_next at w = awaits_token AreFurther (λ ps rest m. further_on m) at w
 
-module _ (a b : Reading) (t : Token) (read : ReadsToken a b t) where
+module _ {a b : Reading} {t : Token} (read : ReadsToken a b t) where
   -- the token ends the list or begins its next parameter
   pub item_read : (ps : List Param) (xs rest : List Lexeme) → AreAhead a xs → AreInList ps xs rest
       → NextItem (lexeme_at a.input t) b ps rest
   item_read ps [] rest ahead l = absurd (nothing_in_list ps rest l)
   item_read ps (x ∷ xs) rest ahead l =
-      let p = passes a b t read x xs ahead in
+      let p = passes read x xs ahead in
       let in_list = subst (λ y. AreInList ps (y ∷ xs) rest) p.0 l in
       record { ys = xs; ahead = p.1; in_list = in_list }
 
   kind_is : (x : Lexeme) (xs : List Lexeme) → AreAhead a (x ∷ xs) → t.kind ≡ x.token.kind
-  kind_is x xs ahead = ap (λ y. y.token.kind) (sym (passes a b t read x xs ahead).0)
+  kind_is x xs ahead = ap (λ y. y.token.kind) (sym (passes read x xs ahead).0)
 
   -- behind a parameter it ends the list, or is a comma
   further_read : (ps : List Param) (xs rest : List Lexeme) → AreAhead a xs → FurtherOn ps rest xs
@@ -69,7 +69,7 @@ module _ (a b : Reading) (t : Token) (read : ReadsToken a b t) where
   further_read ps (x ∷ xs) rest ahead (inl c) =
       inl (ap is_comma (kind_is x xs ahead ∙ c.0), item_read ps (x ∷ xs) rest ahead c.1)
   further_read ps (x ∷ xs) rest ahead (inr m) =
-      inr (ap is_comma (kind_is x xs ahead ∙ m.0), xs, (passes a b t read x xs ahead).1, m.1)
+      inr (ap is_comma (kind_is x xs ahead ∙ m.0), xs, (passes read x xs ahead).1, m.1)
 
   -- behind a comma there is a token
   pub comma_has_next : is_comma t.kind ≡ true → Awaits AreFurther a → HasNext b
@@ -82,9 +82,9 @@ module _ (a b : Reading) (t : Token) (read : ReadsToken a b t) where
   -- where there is no comma the list ends
   pub reads_last : is_comma t.kind ≡ false → ReadsItem a b t
   reads_last none = record {
-    input_is = input_stays a b t read;
-    further = goes_further a b t read;
-    within = stays_within a b t read;
+    input_is = input_stays read;
+    further = goes_further read;
+    within = stays_within read;
     token = read.next.token;
     leads = λ ps xs rest ahead m.
         ⊎_elim (λ l. l.1) (λ c. absurd (false≢true (sym none ∙ c.0)))
@@ -92,18 +92,18 @@ module _ (a b : Reading) (t : Token) (read : ReadsToken a b t) where
   }
 
 -- behind a comma the next parameter begins
-pub reads_further : (a b : Reading) (t : Token) (read : ReadsToken a b t) (c : Reading) (u : Token)
-    → ReadsToken b c u → is_comma t.kind ≡ true → ReadsItem a c u
-reads_further a b t read c u then comma =
-    let input = input_stays a b t read in
+pub reads_further : {a b c : Reading} {t u : Token} → ReadsToken a b t → ReadsToken b c u
+    → is_comma t.kind ≡ true → ReadsItem a c u
+reads_further {c = c} {u = u} read then comma =
+    let input = input_stays read in
     record {
-      input_is = input_stays b c u then ∙ input;
-      further = omega (arith, goes_further a b t read, goes_further b c u then);
-      within = subst (λ i. c.place ≤ length i) input (stays_within b c u then);
+      input_is = input_stays then ∙ input;
+      further = omega (arith, goes_further read, goes_further then);
+      within = subst (λ i. c.place ≤ length i) input (stays_within then);
       token = subst (λ i. IsToken i u) input then.next.token;
       leads = λ ps xs rest ahead m.
           ⊎_elim (λ l. absurd (false≢true (sym l.0 ∙ comma)))
           (λ k. subst (λ i. NextItem (lexeme_at i u) c ps rest) input
-          (item_read b c u then ps k.1 rest k.2 k.3))
-          (further_read a b t read ps xs rest ahead (further_on m));
+          (item_read then ps k.1 rest k.2 k.3))
+          (further_read read ps xs rest ahead (further_on m));
     }

@@ -64,7 +64,7 @@ module _ (bytes : List ℕ) (x : Lexeme) (keyword : IsKeyword x) (a : Reading)
   pub opens_next : Awaits (Behind x IsParameter) a → HasNext a
   opens_next w = awaits_token (Behind x IsParameter) (λ p rest is. typed_on p [] rest is) a w
 
-  module _ (b : Reading) (opening : Token) (opens : ReadsToken a b opening) where
+  module _ {b : Reading} {opening : Token} (opens : ReadsToken a b opening) where
     -- and behind its parenthesis too
     pub first_next : Awaits (Behind x IsParameter) a → HasNext b
     first_next w = by_first w.xs w.ahead (typed_on w.value w.xs w.rest w.is)
@@ -76,20 +76,20 @@ module _ (bytes : List ℕ) (x : Lexeme) (keyword : IsKeyword x) (a : Reading)
               value = t.inner;
               xs = ys;
               rest = t.close_mark ∷ w.rest;
-              ahead = (passes a b opening opens y ys ahead).1;
+              ahead = (passes opens y ys ahead).1;
               is = t.says;
             })
 
-    module _ (c : Reading) (start : Token) (first : ReadsToken b c start) where
+    module _ {c : Reading} {start : Token} (first : ReadsToken b c start) where
       b_is : b.input ≡ bytes
-      b_is = input_stays a b opening opens ∙ input
+      b_is = input_stays opens ∙ input
 
       at_inner_by : (p : Param) (xs rest : List Lexeme) → AreAhead a xs → TypedSays x p rest xs
           → AtInner x c (lexeme_at bytes start) p rest
       at_inner_by p [] rest ahead t = absurd t
       at_inner_by p (y ∷ []) rest ahead t = absurd (says_on t.says)
       at_inner_by p (y ∷ z ∷ zs) rest ahead t =
-          let q = passes b c start first z zs (passes a b opening opens y (z ∷ zs) ahead).1 in
+          let q = passes first z zs (passes opens y (z ∷ zs) ahead).1 in
           record {
             inner = t.inner;
             zs = zs;
@@ -106,7 +106,7 @@ module _ (bytes : List ℕ) (x : Lexeme) (keyword : IsKeyword x) (a : Reading)
 
       -- the input is still the same
       pub c_is : c.input ≡ bytes
-      c_is = input_stays b c start first ∙ b_is
+      c_is = input_stays first ∙ b_is
 
       -- the second token is one of it
       pub first_is : IsToken bytes start
@@ -116,8 +116,8 @@ module _ (bytes : List ℕ) (x : Lexeme) (keyword : IsKeyword x) (a : Reading)
       pub less_left : 2 * (length bytes - c.place) + 1 < 2 * (length bytes - a.place)
       less_left =
           let within : c.place ≤ length bytes =
-          subst (λ i. c.place ≤ length i) b_is (stays_within b c start first) in
-          omega (arith, within, goes_further a b opening opens, goes_further b c start first)
+          subst (λ i. c.place ≤ length i) b_is (stays_within first) in
+          omega (arith, within, goes_further opens, goes_further first)
 
       -- the inner parameter is awaited
       pub inner_awaited : Awaits (Behind x IsParameter) a
@@ -132,7 +132,7 @@ module _ (bytes : List ℕ) (x : Lexeme) (keyword : IsKeyword x) (a : Reading)
             is = i.says;
           }
 
-      module _ (d : Reading) (p : Param)
+      module _ {d : Reading} {p : Param}
           (inner : Reads (Behind (lexeme_at bytes start) IsParameter) c d p) where
         -- behind it there is a token
         pub closes_next : Awaits (Behind x IsParameter) a → HasNext d
@@ -142,18 +142,18 @@ module _ (bytes : List ℕ) (x : Lexeme) (keyword : IsKeyword x) (a : Reading)
             (i.close_mark.token, l.1.0)
 
         -- and so a keyword with its parameter is read
-        pub reads_typed : (e : Reading) (closing : Token) → ReadsToken d e closing
+        pub reads_typed : {e : Reading} {closing : Token} → ReadsToken d e closing
             → (name : List ℕ) (boxed : Param) → name ≡ x.text → boxed ≡ p
             → Reads (Behind x IsParameter) a e (param.Typed name boxed)
-        reads_typed e closing closes name boxed named same = record {
+        reads_typed closes name boxed named same = record {
           onward = record {
-            input_is = input_stays d e closing closes ∙ inner.onward.input_is ∙ c_is ∙ sym input;
+            input_is = input_stays closes ∙ inner.onward.input_is ∙ c_is ∙ sym input;
             place = omega (
               arith,
-              goes_further a b opening opens,
-              goes_further b c start first,
+              goes_further opens,
+              goes_further first,
               inner.onward.place,
-              goes_further d e closing closes,
+              goes_further closes,
             );
           };
           leads = λ q xs rest ahead is.
@@ -161,6 +161,6 @@ module _ (bytes : List ℕ) (x : Lexeme) (keyword : IsKeyword x) (a : Reading)
               let l = inner.leads i.inner i.zs (i.close_mark ∷ rest) i.ahead i.says in
               let one : i.inner ≡ boxed = l.0 ∙ sym same in (
                 i.is ∙ (λ j. param.Typed (sym named j) (one j)),
-                (passes d e closing closes i.close_mark rest l.1).1,
+                (passes closes i.close_mark rest l.1).1,
               );
         }

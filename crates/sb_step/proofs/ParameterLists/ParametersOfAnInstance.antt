@@ -11,11 +11,11 @@ use Rattle.sb_step.proofs.Records.RecordsStand.{found_lies, tokens_behind}
 
 -- a list is read from its parenthesis on
 
-module _ (a b : Reading) (t : Token) (read : ReadsToken a b t) where
+module _ {a b : Reading} {t : Token} (read : ReadsToken a b t) where
   opened : (ps : List Param) (xs rest : List Lexeme) → AreAhead a xs → ListSaysOn ps rest xs
       → (ys : List Lexeme) × AreAhead b ys × AreInList ps ys rest
   opened ps [] rest ahead on = absurd on
-  opened ps (x ∷ xs) rest ahead on = (xs, (passes a b t read x xs ahead).1, on.1)
+  opened ps (x ∷ xs) rest ahead on = (xs, (passes read x xs ahead).1, on.1)
 
   -- behind the parenthesis the list goes on
   pub behind_parenthesis : Awaits AreParameters a → Awaits AreInList b
@@ -24,9 +24,9 @@ module _ (a b : Reading) (t : Token) (read : ReadsToken a b t) where
       record { value = w.value; xs = o.0; rest = w.rest; ahead = o.1; is = o.2 }
 
   -- and what was read there is what the list says
-  pub list_said : (c : Reading) (ps : List Param) → Reads AreInList b c ps → (qs : List Param)
+  pub list_said : {c : Reading} {ps : List Param} → Reads AreInList b c ps → (qs : List Param)
       (xs rest : List Lexeme) → AreAhead a xs → AreParameters qs xs rest → qs ≡ ps
-  list_said c ps reads qs xs rest ahead l =
+  list_said reads qs xs rest ahead l =
       let o = opened qs xs rest ahead (list_says_on l) in (reads.leads qs o.0 rest o.1 o.2).0
 
 -- the tokens of the lexemes that a reader stands before are those from its place on
