@@ -2,8 +2,8 @@
 use Rattle.sb_step.proofs.Names.{◌≡◌, ℕ, List, Some, None, refl, sym, ap, ◌∙◌, subst, Row, Collected, FilesAreUnique, numbers_of, Described, Described-prop, IsHeld, HasDoubled, IsTable, IsDoubledIn, IsFound}
 use Rattle.sb_step.proofs.Records.InstancesByNumber.{apart_from, least_from}
 
-module _ (input : List ℕ) (k : ℕ) (c : Collected) (found : IsFound input k c) (numbers : List ℕ)
-    (rows : List Row) (taken : numbers ≡ c.instances.numbers.items) (t : IsTable numbers rows)
+module _ {input : List ℕ} {k : ℕ} {c : Collected} (found : IsFound input k c) {numbers : List ℕ}
+    {rows : List Row} (taken : numbers ≡ c.instances.numbers.items) (t : IsTable numbers rows)
   where
     table_is : IsTable (numbers_of found.file.instances) rows
     table_is = subst (λ l. IsTable l rows) (taken ∙ found.instances.numbers) t

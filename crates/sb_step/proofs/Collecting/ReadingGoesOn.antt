@@ -34,10 +34,10 @@ nothing_read input c empty = record {
 }
 
 -- a token was accepted
-pub one_more : (input : List ℕ) (place : ℕ) (t : Token) (s u : State) (c d : Collected)
+pub one_more : {input : List ℕ} {place : ℕ} {t : Token} {s u : State} {c d : Collected}
     → Progress input place s c → IsNext input place t
     → Accepted input s u (lexeme_at input t) c d → Progress input t.end u d
-one_more input place t s u c d p next a = record {
+one_more {input} {place} {t} {s} {u} p next a = record {
   before = p.before ++ t ∷ [];
   events = p.events ++ a.event ∷ [];
   tokens = to_more input 0 place p.before t p.tokens next;

@@ -23,16 +23,16 @@ value_says : (input : List ℕ) (t : Token) → IsToken input t → (k : Kind) �
 value_says input t token kind.Integer is v = (param.Int (text_of input t), refl)
 value_says input t token kind.Real is v = (param.Real (text_of input t), refl)
 value_says input t token kind.Str is v =
-    let e = string_is input t token is in
+    let e = string_is token is in
     let w = inside_is_written (inside_of (text_of input t)) e.is in (
       param.Str w.0,
       (w.0, subst (λ i. Encloses (codes "'") i (text_of input t)) w.1 e.whole, refl),
     )
 value_says input t token kind.Enumeration is v =
-    let e = enumeration_is input t token is in
+    let e = enumeration_is token is in
     (param.Enumeration (inside_of (text_of input t)), (inside_of (text_of input t), e.whole, refl))
 value_says input t token kind.Binary is v =
-    let e = binary_is input t token is in
+    let e = binary_is token is in
     (param.Binary (inside_of (text_of input t)), (inside_of (text_of input t), e.whole, refl))
 value_says input t token (kind.Name n) is v = (param.Reference n, refl)
 value_says input t token (kind.Mark mark.Dollar) is v = (param.Null, refl)

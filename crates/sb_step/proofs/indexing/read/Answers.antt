@@ -24,7 +24,6 @@ tokens-init c = record {
 pub tokens-preserved : goal.tokens-preserved
 tokens-preserved c =
     let input = c.args.bytes.now in
-    let place = c.tokens.lexer.place in
     let invariant = c.tokens.invariant in
     let next = next_is input c.tokens.lexer _ c.in-Ok-Some.token c.in-Ok-Some.field-0-is
     invariant.input_is c.in-Ok-Some.ensures.answer in
@@ -36,9 +35,7 @@ tokens-preserved c =
       progress = subst
           (λ k. Progress input k (state_of c.accept.new.machine) c.accept.new.collected)
           (sym (ap (λ r. r.place) behind))
-          (one_more input place c.in-Ok-Some.token (state_of c.tokens.machine)
-          (state_of c.accept.new.machine) c.tokens.collected c.accept.new.collected
-          invariant.progress next c.in-Ok.ensures);
+          (one_more invariant.progress next c.in-Ok.ensures);
     }
 
 pub returns-in-Err-accept : goal.returns-in-Err-accept
