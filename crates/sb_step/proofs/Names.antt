@@ -57,7 +57,6 @@ pub use Rattle.sb_step.specs.Rules.Many.{none}
 pub use Rattle.sb_step.specs.declared.error.ParamsError.{ParamsError}
 pub use Rattle.sb_step.specs.declared.error.StepError.{StepError}
 pub use Rattle.sb_step.specs.declared.indexing.collected.Collected.{Collected}
-pub use Rattle.sb_step.specs.declared.indexing.instances.Instances.{Instances}
 pub use Rattle.sb_step.specs.declared.indexing.states.Bracket.{Bracket}
 pub use Rattle.sb_step.specs.declared.indexing.states.Event.{Event}
 pub use Rattle.sb_step.specs.declared.indexing.states.Move.{Move}

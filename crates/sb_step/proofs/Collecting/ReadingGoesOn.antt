@@ -1,5 +1,5 @@
 -- What a reading of the tokens so far says of the input.
-use Rattle.sb_step.proofs.Names.{◌≡◌, ℕ, List, [], ◌∷◌, ◌++◌, Option, Some, None, Err, refl, sym, ap, ◌∙◌, subst, append-nil, Token, BadToken, IsNext, IsEnd, IsBadFrom, AreTokensFrom, AreTokens, TokensFollowEachPlace, StepError, Collected, lexeme_at, lexemes, IsFaultAt, IsAnswer, State, next_turn, start, end_of, file_of, Ran, run, AreCollected, TokensTo, Progress, Accepted, Accepts, IsRead}
+use Rattle.sb_step.proofs.Names.{◌≡◌, ℕ, List, [], ◌∷◌, ◌++◌, Option, Some, None, Err, refl, sym, ap, ◌∙◌, subst, Token, BadToken, IsNext, IsEnd, IsBadFrom, AreTokensFrom, TokensFollowEachPlace, StepError, Collected, lexeme_at, lexemes, IsFaultAt, IsAnswer, State, next_turn, start, end_of, file_of, Ran, run, AreCollected, TokensTo, Progress, Accepted, Accepts, IsRead}
 use Rattle.sb_step.specs.declared.error.StepError.TheVariants as step_error
 use Rattle.sb_step.proofs.Texts.TextsEnd.{goes_on, no_end, stops}
 use Rattle.sb_step.proofs.Texts.OneFileOrOneFault.{fault_behind, file_behind, lexemes-more}

@@ -1,5 +1,5 @@
 -- What stands behind the keyword of an instance is read, and is what the instance holds.
-use Rattle.sb_step.proofs.Names.{◌≡◌, ℕ, ◌≤◌, ◌↔◌, List, [], ◌∷◌, ◌++◌, length, Some, None, Result, Ok, Err, map, refl, sym, ap, ◌∙◌, subst, nat_eq, same_Some, none-some, Token, AreTokensFrom, Reading, TokensBehindAPlaceAreUnique, ParamsError, Form, Record, Param, Lexeme, lexemes, Indexed, IsIndexed, place_at, form_of, Place, AreParameters, SaysSimple, HoldsParameters, HoldsByForm, HasParameters, ParametersAreUnique, HasNext, ReadsToken, AreAhead, Awaits, Reads, AreInList, behind, IsParamsAnswer, HasMemory, reader_at, AwaitsByForm, SaysByForm, ListSays, Gives}
+use Rattle.sb_step.proofs.Names.{◌≡◌, ℕ, ◌≤◌, ◌↔◌, List, [], ◌∷◌, ◌++◌, length, Some, None, Result, Ok, Err, map, refl, sym, ap, ◌∙◌, subst, nat_eq, same_Some, none-some, Token, AreTokensFrom, Reading, TokensBehindAPlaceAreUnique, ParamsError, Form, Record, Param, Lexeme, lexemes, Indexed, IsIndexed, place_at, form_of, Place, AreParameters, SaysSimple, HoldsParameters, HoldsByForm, HasParameters, ParametersAreUnique, ReadsToken, AreAhead, Awaits, Reads, AreInList, behind, IsParamsAnswer, HasMemory, reader_at, AwaitsByForm, SaysByForm, ListSays, Gives}
 use Rattle.sb_step.specs.declared.error.ParamsError.TheVariants as params_error
 use Rattle.sb_step.specs.declared.step_file.records.Form.TheVariants as form
 use Rattle.sb_step.proofs.ParameterLists.WhatListsSay.{ListSaysOn, list_says_on}

@@ -1,5 +1,5 @@
 -- What holds of a list of lexemes and with it of each tail holds behind a rule too.
-use Rattle.sb_step.proofs.Names.{ℕ, List, [], ◌∷◌, ◌++◌, sym, subst, inl, inr, Stands, Record, Lexeme, Rule, One, Many, Each, SomeOf, none, File, Parameter, ParameterList, MoreParameters, IsSimple, InnerRecord, IsComplex, IsRecord, IsInstance, Sections}
+use Rattle.sb_step.proofs.Names.{ℕ, List, [], ◌∷◌, sym, subst, inl, inr, Stands, Record, Lexeme, Rule, One, Many, Each, SomeOf, none, File, Parameter, ParameterList, MoreParameters, IsSimple, InnerRecord, IsComplex, IsRecord, IsInstance, Sections}
 use Rattle.sb_step.specs.Rules.{◌⋅◌}
 use Rattle.sb_step.specs.Rules.Many.{more}
 use Rattle.sb_step.specs.Grammar.Parameter.{value, list, typed}

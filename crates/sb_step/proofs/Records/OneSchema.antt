@@ -1,5 +1,5 @@
 -- What is known of the schema stays right with an entity more.
-use Rattle.sb_step.proofs.Names.{◌≡◌, ℕ, ◌≤◌, true, false, cond, List, [], ◌∷◌, ◌++◌, length, refl, sym, ap, ◌∙◌, subst, ⊎_elim, arith, length-append, append-nil, codes, filter, cases_Bool, cond-true, cond-false, filter-append, Form, Record, Schema, is_spelled, is_schema, one_more, with_entity_by, with_entity, SchemaSays}
+use Rattle.sb_step.proofs.Names.{◌≡◌, ℕ, true, false, cond, List, [], ◌∷◌, ◌++◌, length, refl, sym, ap, ◌∙◌, subst, ⊎_elim, arith, length-append, append-nil, codes, filter, cases_Bool, cond-true, cond-false, filter-append, Form, Record, Schema, is_spelled, is_schema, one_more, with_entity_by, with_entity, SchemaSays}
 use Rattle.sb_step.specs.declared.step_file.records.Form.TheVariants as form
 use Rattle.sb_step.specs.declared.step_file.schema.Schema.TheVariants as schema
 use Rattle.sb_step.specs.Records.SchemaReading.{Says}

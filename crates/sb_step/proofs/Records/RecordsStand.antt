@@ -1,8 +1,8 @@
 -- Where a simple record of a file stands among the tokens of its input.
-use Rattle.sb_step.proofs.Names.{◌≡◌, ℕ, ◌≤◌, Bool, List, [], ◌∷◌, ◌++◌, length, Option, Some, None, refl, sym, ap, ◌∙◌, subst, inl, inr, append_assoc, arith, lookup, same_Some, none-some, Token, BadToken, IsNext, AreTokensFrom, AreTokens, Record, Lexeme, lexeme_at, lexemes, IsMark, Each, File, ParameterList, IsSimple, IsRecord, IsInstance, BeginsSimple, SemicolonAt, IsFile, RecordLies, Stands}
+use Rattle.sb_step.proofs.Names.{◌≡◌, ℕ, ◌≤◌, Bool, List, [], ◌∷◌, ◌++◌, length, Option, Some, None, refl, sym, ap, ◌∙◌, subst, inl, inr, append_assoc, arith, lookup, Token, BadToken, IsNext, AreTokensFrom, AreTokens, Record, Lexeme, lexeme_at, lexemes, IsMark, File, ParameterList, IsSimple, IsRecord, BeginsSimple, SemicolonAt, IsFile, RecordLies, Stands}
 use Rattle.sb_lex.specs.declared.kinds.Mark.TheVariants as mark
 use Rattle.sb_step.specs.declared.step_file.records.Form.TheVariants as form
-use Rattle.sb_step.proofs.Records.OnlyOnePasses.{found_among}
+use Rattle.sb_step.proofs.Records.WhatIsFoundStands.{found_among}
 use Rattle.sb_step.proofs.Records.BehindRules.{HoldsOfTails, one_leaves, list_leaves, entity_place, instance_place}
 
 -- the lexemes are those of the tokens from some token on

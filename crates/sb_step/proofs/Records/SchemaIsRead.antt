@@ -1,12 +1,12 @@
 -- The text that is read behind the keyword of the one FILE_SCHEMA is the schema of the file.
-use Rattle.sb_step.proofs.Names.{Mark, is_mark, marks, ◌≡◌, ℕ, ◌+◌, ◌-◌, ◌≤◌, ◌↔◌, true, List, [], ◌∷◌, ◌++◌, Option, Some, None, length, refl, sym, ap, ◌∙◌, subst, ⊎_elim, cond, ◌&&◌, codes, slice_range, filter, false≢true, and_parts, and_from, slice_inside, same_Some, none-some, Kind, Token, IsOf, IsCandidate, AreTokensFrom, AreTokens, Record, Lexeme, lexeme_at, lexemes, IsMark, is_open, is_close, Rule, One, File, Indexed, is_schema, IsString, OneString, HasOneString, IsSchema, HasNoSchema, first_of, behind_first, opens, closes, both_open, both_close, inside, text_in, IsFile}
+use Rattle.sb_step.proofs.Names.{Mark, is_mark, marks, ◌≡◌, ℕ, ◌+◌, ◌-◌, ◌≤◌, ◌↔◌, true, List, [], ◌∷◌, ◌++◌, Option, Some, None, length, refl, sym, ap, ◌∙◌, subst, ⊎_elim, cond, ◌&&◌, codes, slice_range, filter, false≢true, and_parts, and_from, slice_inside, same_Some, none-some, Kind, Token, IsOf, IsCandidate, AreTokensFrom, AreTokens, Record, Lexeme, lexeme_at, lexemes, IsMark, Rule, One, File, Indexed, is_schema, IsString, OneString, HasOneString, IsSchema, HasNoSchema, first_of, behind_first, opens, closes, both_open, both_close, inside, text_in, IsFile}
 use Rattle.sb_lex.specs.Bytes as byte
 use Rattle.sb_lex.specs.declared.kinds.Kind.TheVariants as kind
 use Rattle.sb_lex.specs.declared.kinds.Mark.TheVariants as mark
 use Rattle.sb_step.specs.declared.step_file.records.Form.TheVariants as form
 use Rattle.sb_step.specs.Rules.{◌⋅◌}
 use Rattle.sb_step.specs.Records.SchemaReading.{inside_of}
-use Rattle.sb_step.proofs.Records.OnlyOnePasses.{passes_among}
+use Rattle.sb_step.proofs.Records.WhatIsFoundStands.{passes_among}
 use Rattle.sb_step.proofs.KindsSay.{mark_says, choice}
 use Rattle.sb_step.proofs.Records.RecordsStand.{entity_stands, tokens_behind, reads_on}
 

@@ -47,8 +47,11 @@ decide input before [] None ran are is = at_end (end_of ran.state) refl
   where
     at_end : (ends : Option ℕ) → end_of ran.state ≡ ends → FileOrFault input
     at_end None none =
-        inr (_, fault_behind input before [] None ran are is
-        (no_end (lexemes input before) ran is none))
+        inr (
+          _,
+          fault_behind input before [] None ran are is
+              (no_end (lexemes input before) ran is none),
+        )
     at_end (Some k) ends = inl (file_of ran.events k, file_behind input before ran k are is ends)
 decide input before (t ∷ after) bad ran are is =
     at_token (λ r reads. decide input (before ++ t ∷ []) after bad r
@@ -60,8 +63,11 @@ decide input before (t ∷ after) bad ran are is =
         → next_turn ran.state (lexeme_at input t) ≡ found
         → FileOrFault input
     at_token further None none =
-        inr (t.start, fault_behind input before (t ∷ after) bad ran are is
-        (stops (lexemes input before) ran is (lexeme_at input t) none))
+        inr (
+          t.start,
+          fault_behind input before (t ∷ after) bad ran are is
+              (stops (lexemes input before) ran is (lexeme_at input t) none),
+        )
     at_token further (Some turn) on =
         further (record { state = turn.state; events = ran.events ++ turn.event ∷ [] })
         (ap (λ l. run l start) (lexemes-more input before t)

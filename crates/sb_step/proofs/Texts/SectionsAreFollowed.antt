@@ -1,5 +1,5 @@
 -- A text leads the machine to its end, and what it describes is what is found.
-use Rattle.sb_step.proofs.Names.{◌≡◌, ℕ, true, cond, List, [], ◌∷◌, ◌++◌, Some, None, refl, sym, ap, ◌∙◌, subst, inl, inr, ⊎_elim, append-nil, arith, codes, cases_Bool, Record, Span, Part, Section, Event, Move, Lexeme, IsThe, IsMark, One, Many, SomeOf, none, File, IsText, Semicolon, SemicolonAt, ParameterList, BeginsSimple, BeginsComplex, IsSimple, InnerRecord, IsComplex, IsRecord, IsInstance, Sections, is_keyword, number_of, is_the, Way, pick, ◌⇢◌, the, a_keyword, a_name, moves, enters, finds, span_of, entity_of, record_of, turn_section, next_turn, start}
+use Rattle.sb_step.proofs.Names.{Kind, ◌≡◌, ℕ, true, cond, List, [], ◌∷◌, ◌++◌, Some, None, refl, sym, ap, ◌∙◌, subst, inl, inr, ⊎_elim, append-nil, arith, codes, cases_Bool, Record, Span, Part, Section, Event, Move, Lexeme, IsThe, IsMark, One, Many, SomeOf, none, File, IsText, Semicolon, SemicolonAt, ParameterList, BeginsSimple, BeginsComplex, IsSimple, InnerRecord, IsComplex, IsRecord, IsInstance, Sections, is_keyword, number_of, is_the, Way, pick, ◌⇢◌, the, a_keyword, a_name, moves, enters, finds, span_of, entity_of, record_of, turn_section, next_turn, start}
 use Rattle.sb_lex.specs.declared.kinds.Kind.TheVariants as kind
 use Rattle.sb_lex.specs.declared.kinds.Mark.TheVariants as mark
 use Rattle.sb_lex.specs.declared.kinds.Word.TheVariants as word
@@ -13,11 +13,17 @@ use Rattle.sb_step.proofs.Texts.DepthIsCounted.{depth}
 use Rattle.sb_step.proofs.Texts.ReadingToTheEnd.{prepend, no_more, ends, at, with_kind, by_kind, Shallow, Leads, one_leads, led_on, Data, End, BehindEntities, Drives, one_drives, kind_drives, joined_drive, each_of, each_drive}
 use Rattle.sb_step.proofs.Texts.ListsAreFollowed.{list_leads}
 
--- one lexeme of a kind leads from one to the other
-semicolon_drives : (o p : Section) → ((x : Lexeme)
+-- one lexeme of the kind leads from one to the other
+kind_moves : (k : Kind) (o p : Section)
+    → ((x : Lexeme) → next_turn (at o) (with_kind k x) ≡ Some (turn_of (moves p)))
+    → Drives (One (λ x. x.token.kind ≡ k)) (at o) (at p) (λ f. f)
+kind_moves k o p next = kind_drives k (at o) (turn_of (moves p)) next
+
+-- a semicolon does
+semicolon_moves : (o p : Section) → ((x : Lexeme)
     → next_turn (at o) (with_kind (kind.Mark mark.Semicolon) x) ≡ Some (turn_of (moves p)))
     → Drives Semicolon (at o) (at p) (λ f. f)
-semicolon_drives o p next = kind_drives (kind.Mark mark.Semicolon) (at o) (turn_of (moves p)) next
+semicolon_moves o p next = kind_moves (kind.Mark mark.Semicolon) o p next
 
 -- a keyword of these letters does, where it is asked first
 by_letters : (letters : List ℕ) (m : Move) (ways : List (Way Move)) (x : Lexeme)
@@ -137,8 +143,7 @@ module _ (n : ℕ) (r : Record) where
       ≡ Some (turn_of (moves (section.RecordOpen (part_of n r)))))
       → Drives InnerRecord (at o) (at (section.NextRecord (part_of n r))) (λ f. f)
   inner_drives o next =
-      joined_drive (kind_drives kind.Keyword (at o)
-      (turn_of (moves (section.RecordOpen (part_of n r)))) next)
+      joined_drive (kind_moves kind.Keyword o (section.RecordOpen (part_of n r)) next)
       (lists_drive (section.RecordOpen (part_of n r)) (section.NextRecord (part_of n r))
       (λ x. refl))
 
@@ -173,10 +178,9 @@ module _ (n : ℕ) (r : Record) where
 instance_drives : (i : ℕ × Record) → Drives (IsInstance i) (at section.Instances)
     (at section.Instances) (prepend (event.Instance i.0 i.1))
 instance_drives i =
-    joined_drive (kind_drives (kind.Name i.0) (at section.Instances)
-    (turn_of (moves (section.Equals i.0))) (λ x. refl))
-    (joined_drive (kind_drives (kind.Mark mark.Equals) (at (section.Equals i.0))
-    (turn_of (moves (section.Body i.0))) (λ x. refl)) (record_drives i.0 i.1))
+    joined_drive (kind_moves (kind.Name i.0) section.Instances (section.Equals i.0) (λ x. refl))
+    (joined_drive (kind_moves (kind.Mark mark.Equals) (section.Equals i.0) (section.Body i.0)
+    (λ x. refl)) (record_drives i.0 i.1))
 
 -- sections
 
@@ -205,17 +209,16 @@ end_drives k =
     (a_name ⇢ moves (section.Equals (number_of x.token.kind)) ∷ []) x
     (said_the (codes "ENDSEC") x is.0)
     ∙ ap (λ e. Some (turn_of (moves (section.EndSemicolon e)))) is.1))
-    (joined_drive (semicolon_drives (section.EndSemicolon k) (section.LastWord k) (λ x. refl))
-    (joined_drive (kind_drives (kind.Word word.Last) (at (section.LastWord k))
-    (turn_of (moves (section.LastSemicolon k))) (λ x. refl))
-    (semicolon_drives (section.LastSemicolon k) (section.End k) (λ x. refl))))
+    (joined_drive (semicolon_moves (section.EndSemicolon k) (section.LastWord k) (λ x. refl))
+    (joined_drive (kind_moves (kind.Word word.Last) (section.LastWord k) (section.LastSemicolon k) (λ x. refl))
+    (semicolon_moves (section.LastSemicolon k) (section.End k) (λ x. refl))))
 
 data_drives : (f : File) (s : Span) → Drives (Semicolon ⋅ Data f) (at (section.EntityOrEnd s))
     (at (section.End f.data_end)) (instances_add f.instances)
 data_drives f s =
-    joined_drive (semicolon_drives (section.EntityOrEnd s) section.Data (λ x. refl))
+    joined_drive (semicolon_moves (section.EntityOrEnd s) section.Data (λ x. refl))
     (joined_drive (letters_drive (codes "DATA") section.Data section.DataSemicolon (λ x is. is))
-    (joined_drive (semicolon_drives section.DataSemicolon section.Instances (λ x. refl))
+    (joined_drive (semicolon_moves section.DataSemicolon section.Instances (λ x. refl))
     (joined_drive (each_drive IsInstance (at section.Instances)
     (λ i. prepend (event.Instance i.0 i.1)) instance_drives f.instances)
     (end_drives f.data_end))))
@@ -237,9 +240,9 @@ sections_drive : (f : File) → Drives (Sections f) start (at (section.End f.dat
 sections_drive f =
     joined_drive (kind_drives (kind.Word word.First) start
     (turn_of (moves section.BeginSemicolon)) (λ x. refl))
-    (joined_drive (semicolon_drives section.BeginSemicolon section.Header (λ x. refl))
+    (joined_drive (semicolon_moves section.BeginSemicolon section.Header (λ x. refl))
     (joined_drive (letters_drive (codes "HEADER") section.Header section.HeaderSemicolon (λ x is. is))
-    (joined_drive (semicolon_drives section.HeaderSemicolon section.FirstEntity (λ x. refl))
+    (joined_drive (semicolon_moves section.HeaderSemicolon section.FirstEntity (λ x. refl))
     (joined_drive (some_entities_drive f.header) (behind_entities f)))))
 
 entities_added : (h : List Record) (f : File)
