@@ -36,7 +36,7 @@ pub use Rattle.sb_step.specs.Index.Machines.{state_of}
 pub use Rattle.sb_step.specs.Index.Progress.{Accepted, Accepts, IsFound, IsRead, Progress, TokensTo}
 pub use Rattle.sb_step.specs.Index.SectionMoves.{enters, entity_of, finds, moves, record_of, section_move, section_ways, span_of}
 pub use Rattle.sb_step.specs.Index.StoredInstances.{AreStored}
-pub use Rattle.sb_step.specs.Index.Turns.{Ran, State, Turn, and_ran, begun, end_at, end_of, entities_of, file_of, instances_of, is_complex, next_turn, next_turn_at, plain, room_of, run, start, turn_list, turn_section}
+pub use Rattle.sb_step.specs.Index.Turns.{Ran, State, Turn, and_ran, begun, end_at, end_of, entities_of, file_of, instances_of, is_complex, next_turn, next_turn_at, plain, room_of, run, start, turn_of, turn_within}
 pub use Rattle.sb_step.specs.Index.Ways.{Asked, Way, passes, pick, ◌⇢◌}
 pub use Rattle.sb_step.specs.Index.Ways.Asked.{a_keyword, a_name, a_value, the, the_mark, the_word}
 pub use Rattle.sb_step.specs.IndexAnswers.{HasDoubled, IsAnswer, IsHeld, IsInTime, IsIndexed}

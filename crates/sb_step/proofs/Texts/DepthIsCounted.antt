@@ -1,11 +1,11 @@
 -- The machine keeps count of the parentheses that are open.
-use Rattle.sb_step.proofs.Names.{◌≡◌, ◌-◌, ℕ, suc, ◌+◌, ◌≤◌, Bool, true, false, cond, List, [], ◌∷◌, length, Some, refl, ap, arith, nat_lt, false≢true, ltb-true, Kind, greatest_depth, Section, Bracket, Want, Move, Lexeme, is_value, is_open, is_close, Asked, Way, the_word, the, a_keyword, a_name, the_mark, a_value, section_ways, Nest, plain, begun, State, Turn, is_complex, room_of, next_turn}
+use Rattle.sb_step.proofs.Names.{◌≡◌, ◌-◌, ℕ, suc, ◌+◌, ◌≤◌, Bool, true, false, cond, List, [], ◌∷◌, length, Some, refl, ap, arith, nat_lt, false≢true, ltb-true, Kind, greatest_depth, Section, Bracket, Want, Move, Lexeme, is_value, is_open, is_close, Asked, Way, the_word, the, a_keyword, a_name, the_mark, a_value, section_ways, Nest, plain, begun, State, Turn, is_complex, room_of, next_turn, turn_of}
 use Rattle.sb_lex.specs.declared.kinds.Kind.TheVariants as kind
 use Rattle.sb_lex.specs.declared.kinds.Mark.TheVariants as mark
 use Rattle.sb_step.specs.declared.indexing.states.Section.TheVariants as section
 use Rattle.sb_step.specs.declared.indexing.states.Bracket.TheVariants as bracket
 use Rattle.sb_step.specs.declared.indexing.states.Want.TheVariants as want
-use Rattle.sb_step.proofs.Texts.TurnsByWay.{IsAsked, EachWay, parameter_ways, list_ways, turn_of, EachTurn, each_turned}
+use Rattle.sb_step.proofs.Texts.TurnsByWay.{IsAsked, EachWay, parameter_ways, list_ways, EachTurn, each_turned}
 
 -- one parenthesis more, or none
 abbrev pub opens : Kind → ℕ

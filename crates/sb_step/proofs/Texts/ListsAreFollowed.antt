@@ -1,5 +1,5 @@
 -- Parameter lists lead the machine to what stands behind them.
-use Rattle.sb_step.proofs.Names.{◌≡◌, ◌-◌, ℕ, suc, ◌+◌, ◌<◌, ◌≤◌, Bool, true, false, cond, List, [], ◌∷◌, length, Some, None, refl, ap, ◌∙◌, arith, option_map, option_and_then, false≢true, cond-true, cond-false, lt-ltb, Kind, Section, Bracket, Want, Lexeme, IsKeyword, IsMark, is_value, is_close, greatest_depth, Parameter, ParameterList, MoreParameters, by_want, is_complex, room_of, State, turn_list, next_turn}
+use Rattle.sb_step.proofs.Names.{◌≡◌, ◌-◌, ℕ, suc, ◌+◌, ◌<◌, ◌≤◌, Bool, true, false, cond, List, [], ◌∷◌, length, Some, None, refl, ap, ◌∙◌, arith, option_map, option_and_then, false≢true, cond-true, cond-false, lt-ltb, Kind, Section, Bracket, Want, Lexeme, IsKeyword, IsMark, is_value, is_close, greatest_depth, Parameter, ParameterList, MoreParameters, by_want, is_complex, room_of, State, next_turn, turn_within}
 use Rattle.sb_lex.specs.declared.kinds.Kind.TheVariants as kind
 use Rattle.sb_lex.specs.declared.kinds.Mark.TheVariants as mark
 use Rattle.sb_step.specs.declared.indexing.states.Bracket.TheVariants as bracket
@@ -7,7 +7,7 @@ use Rattle.sb_step.specs.declared.indexing.states.Want.TheVariants as want
 use Rattle.sb_step.specs.Grammar.Parameter.{value, list, typed}
 use Rattle.sb_step.specs.Grammar.ParameterList.{empty, some}
 use Rattle.sb_step.specs.Grammar.MoreParameters.{last, more}
-use Rattle.sb_step.proofs.Texts.TurnsByWay.{nest, turn_within}
+use Rattle.sb_step.proofs.Texts.TurnsByWay.{nest}
 use Rattle.sb_step.proofs.Texts.DepthIsCounted.{opens, closes, depth_without, depth}
 use Rattle.sb_step.proofs.Texts.ReadingToTheEnd.{prepend, ends, by_kind, Shallow, Leads, one_leads, led_on}
 
@@ -61,12 +61,12 @@ module _ (o : Section) where
   turned : (fs : List Bracket) (w : Want) (gs : List Bracket) (v : Want) (x : Lexeme)
       (xs : List Lexeme) (k : Kind) → x.token.kind ≡ k
       → by_want w (room_of o) fs k ≡ Some (nest gs v)
-      → next_turn (state_at o fs w) x ≡ turn_list o (by_want w (room_of o) fs x.token.kind)
+      → next_turn (state_at o fs w) x ≡ option_map (turn_within o) (by_want w (room_of o) fs x.token.kind)
       → Shallow (depth (state_at o fs w)) (x ∷ xs)
       → Leads (state_at o fs w) (x ∷ xs) (state_at o gs v) xs (λ f. f)
   turned fs w gs v x xs k is moves begins shallow =
       one_leads (state_at o fs w) x xs (turn_within o (nest gs v))
-      (begins ∙ ap (λ q. turn_list o (by_want w (room_of o) fs q)) is ∙ ap (turn_list o) moves)
+      (begins ∙ ap (λ q. option_map (turn_within o) (by_want w (room_of o) fs q)) is ∙ ap (option_map (turn_within o)) moves)
       shallow
 
   -- what begins a parameter may begin one where a list may end
@@ -77,7 +77,7 @@ module _ (o : Section) where
   as_first f fs {xs = x ∷ xs} head l = record {
     shallow = l.shallow;
     leads = λ g e.
-        ap (λ n. option_and_then (λ t. option_map (prepend t.event) (ends xs t.state)) (turn_list o n))
+        ap (λ n. option_and_then (λ t. option_map (prepend t.event) (ends xs t.state)) (option_map (turn_within o) n))
         (cond-false (is_close x.token.kind) _ _ head) ∙ l.leads g e;
   }
 
@@ -91,7 +91,7 @@ module _ (o : Section) where
     parameter_leads (list l) f fs shallow =
         list_leads l (state_at o (f ∷ fs) want.Parameter) (f ∷ fs)
         (λ x xs opening deep. by_kind (state_at o (f ∷ fs) want.Parameter) x (kind.Mark mark.Open) _
-        opening (ap (turn_list o) (cond-true _ _ None
+        opening (ap (option_map (turn_within o)) (cond-true _ _ None
         (lt-ltb (suc (length fs)) (room_of o) (room_now (suc (length fs)) x xs deep opening)))))
         shallow
     parameter_leads (typed {keyword = x} {open_mark = y} {close_mark = z} {xs = xs} {rest = rest}

@@ -1,5 +1,5 @@
 -- A text leads the machine to its end, and what it describes is what is found.
-use Rattle.sb_step.proofs.Names.{Kind, ◌≡◌, ℕ, true, cond, List, [], ◌∷◌, ◌++◌, Some, None, refl, sym, ap, ◌∙◌, subst, inl, inr, ⊎_elim, append-nil, arith, codes, cases_Bool, Record, Span, Part, Section, Event, Move, Lexeme, IsThe, IsMark, One, Many, SomeOf, none, File, IsText, Semicolon, SemicolonAt, ParameterList, BeginsSimple, BeginsComplex, IsSimple, InnerRecord, IsComplex, IsRecord, IsInstance, Sections, is_keyword, number_of, is_the, Way, pick, ◌⇢◌, the, a_keyword, a_name, moves, enters, finds, span_of, entity_of, record_of, turn_section, next_turn, start}
+use Rattle.sb_step.proofs.Names.{Kind, ◌≡◌, ℕ, true, cond, List, [], ◌∷◌, ◌++◌, Some, None, refl, sym, ap, ◌∙◌, subst, inl, inr, ⊎_elim, append-nil, arith, codes, cases_Bool, Record, Span, Part, Section, Event, Move, Lexeme, IsThe, IsMark, One, Many, SomeOf, none, File, IsText, Semicolon, SemicolonAt, ParameterList, BeginsSimple, BeginsComplex, IsSimple, InnerRecord, IsComplex, IsRecord, IsInstance, Sections, is_keyword, number_of, is_the, Way, pick, ◌⇢◌, the, a_keyword, a_name, moves, enters, finds, span_of, entity_of, record_of, option_map, next_turn, start, turn_of}
 use Rattle.sb_lex.specs.declared.kinds.Kind.TheVariants as kind
 use Rattle.sb_lex.specs.declared.kinds.Mark.TheVariants as mark
 use Rattle.sb_lex.specs.declared.kinds.Word.TheVariants as word
@@ -8,7 +8,6 @@ use Rattle.sb_step.specs.declared.indexing.states.Event.TheVariants as event
 use Rattle.sb_step.specs.Rules.{◌⋅◌}
 use Rattle.sb_step.specs.Rules.Many.{more}
 use Rattle.sb_step.proofs.KindsSay.{said_the}
-use Rattle.sb_step.proofs.Texts.TurnsByWay.{turn_of}
 use Rattle.sb_step.proofs.Texts.DepthIsCounted.{depth}
 use Rattle.sb_step.proofs.Texts.ReadingToTheEnd.{prepend, no_more, ends, at, with_kind, by_kind, Shallow, Leads, one_leads, led_on, Data, End, BehindEntities, Drives, one_drives, kind_drives, joined_drive, each_of, each_drive}
 use Rattle.sb_step.proofs.Texts.ListsAreFollowed.{list_leads}
@@ -27,12 +26,12 @@ semicolon_moves o p next = kind_moves (kind.Mark mark.Semicolon) o p next
 
 -- a keyword of these letters does, where it is asked first
 by_letters : (letters : List ℕ) (m : Move) (ways : List (Way Move)) (x : Lexeme)
-    → is_the letters x ≡ true → turn_section (pick (the letters ⇢ m ∷ ways) x) ≡ Some (turn_of m)
-by_letters letters m ways x is = ap (λ b. turn_section (cond b (Some m) (pick ways x))) is
+    → is_the letters x ≡ true → option_map turn_of (pick (the letters ⇢ m ∷ ways) x) ≡ Some (turn_of m)
+by_letters letters m ways x is = ap (λ b. option_map turn_of (cond b (Some m) (pick ways x))) is
 
 -- and leads from one to the other, where it alone is asked
 letters_drive : (letters : List ℕ) (o p : Section) → ((x : Lexeme)
-    → turn_section (pick (the letters ⇢ moves p ∷ []) x) ≡ Some (turn_of (moves p))
+    → option_map turn_of (pick (the letters ⇢ moves p ∷ []) x) ≡ Some (turn_of (moves p))
     → next_turn (at o) x ≡ Some (turn_of (moves p)))
     → Drives (One (IsThe letters)) (at o) (at p) (λ f. f)
 letters_drive letters o p next =
@@ -103,9 +102,9 @@ entity_drives r (x ∷ xs) rest j shallow =
     (by_letters (codes "ENDSEC") (moves either) (a_keyword ⇢ moves opening ∷ []) x ends) (λ y. refl)
     behind shallow)
     (λ begins. entity_leads section.Entities opening r x xs rest j.first.0
-    (ap (λ b. turn_section (cond b (Some (moves either))
+    (ap (λ b. option_map turn_of (cond b (Some (moves either))
     (cond (is_keyword x.token.kind) (Some (moves opening)) None))) begins
-    ∙ ap (λ k. turn_section (cond (is_keyword k) (Some (moves opening)) None)) j.first.0.keyword)
+    ∙ ap (λ k. option_map turn_of (cond (is_keyword k) (Some (moves opening)) None)) j.first.0.keyword)
     (λ y. refl) behind shallow)
     (cases_Bool (is_the (codes "ENDSEC") x))
 

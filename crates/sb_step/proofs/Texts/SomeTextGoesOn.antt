@@ -1,10 +1,10 @@
 -- From each state some text goes on: the first of its ways leads to the end.
-use Rattle.sb_step.proofs.Names.{◌≡◌, ℕ, zero, suc, true, cond, List, [], ◌∷◌, ◌++◌, Option, Some, None, refl, ap, ◌∙◌, is_some, option_map, option_and_then, Kind, Mark, Section, Bracket, Want, Move, Lexeme, File, Asked, Way, the_word, the, a_keyword, a_name, the_mark, a_value, section_ways, State, Turn, next_turn}
+use Rattle.sb_step.proofs.Names.{◌≡◌, ℕ, zero, suc, true, cond, List, [], ◌∷◌, ◌++◌, Option, Some, None, refl, ap, ◌∙◌, is_some, option_map, option_and_then, Kind, Mark, Section, Bracket, Want, Move, Lexeme, File, Asked, Way, the_word, the, a_keyword, a_name, the_mark, a_value, section_ways, State, Turn, next_turn, turn_within}
 use Rattle.sb_lex.specs.declared.kinds.Kind.TheVariants as kind
 use Rattle.sb_lex.specs.declared.kinds.Mark.TheVariants as mark
 use Rattle.sb_step.specs.declared.indexing.states.Section.TheVariants as section
 use Rattle.sb_step.specs.declared.indexing.states.Want.TheVariants as want
-use Rattle.sb_step.proofs.Texts.TurnsByWay.{nest, turn_within}
+use Rattle.sb_step.proofs.Texts.TurnsByWay.{nest}
 use Rattle.sb_step.proofs.Texts.ReadingToTheEnd.{prepend, ends}
 use Rattle.sb_step.proofs.Texts.ListsAreFollowed.{state_at}
 

@@ -1,6 +1,7 @@
 -- What the machine reads begins a text, and is one where it has come to its end.
 use Rattle.sb_step.proofs.Names.{◌≡◌, ℕ, List, [], ◌∷◌, ◌++◌, Option, Some, None, refl, sym, ap, ◌∙◌, subst, append_assoc, append-nil, option_map, option_and_then, same_Some, none-some, option_and_then_some, Event, Lexeme, File, IsText, BeginsText, State, Turn, next_turn, start, end_of, file_of, Ran, and_ran, run}
 use Rattle.sb_step.specs.declared.indexing.states.Event.TheVariants as event
+use Rattle.sb_step.proofs.Texts.TurnsByWay.{mapped}
 use Rattle.sb_step.proofs.Texts.ReadingToTheEnd.{prepend, no_more, ends}
 use Rattle.sb_step.proofs.Texts.SectionsAreFollowed.{texts_are_read}
 use Rattle.sb_step.proofs.Texts.WhatIsReadIsText.{what_is_read}
@@ -15,16 +16,11 @@ module _ (Q : List Lexeme → State → Ran → Type 0)
     (none : (s : State) → Q [] s (record { state = s; events = [] }))
     (more : (x : Lexeme) (xs : List Lexeme) (s : State) (turn : Turn) (after : Ran)
     → next_turn s x ≡ Some turn → Q xs turn.state after → Q (x ∷ xs) s (turned turn after)) where
-  one_ran : (turn : Turn) (found : Option Ran) (ran : Ran) → and_ran turn.event found ≡ Some ran
-      → (after : Ran) × (found ≡ Some after) × (turned turn after ≡ ran)
-  one_ran turn None ran is = absurd (none-some ran is)
-  one_ran turn (Some after) ran is = (after, refl, same_Some (turned turn after) ran is)
-
   each_run : (xs : List Lexeme) (s : State) (ran : Ran) → run xs s ≡ Some ran → Q xs s ran
   each_run [] s ran is = subst (Q [] s) (same_Some _ ran is) (none s)
   each_run (x ∷ xs) s ran is =
       option_and_then_some _ (next_turn s x) ran is (λ turn next found.
-      let after = one_ran turn (run xs turn.state) ran found in
+      let after = mapped (turned turn) (run xs turn.state) ran found in
       subst (Q (x ∷ xs) s) after.2
       (more x xs s turn after.0 next (each_run xs turn.state after.0 after.1)))
 

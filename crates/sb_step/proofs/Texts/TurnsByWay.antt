@@ -1,5 +1,5 @@
 -- Each turn of the machine is by one of the ways of its state.
-use Rattle.sb_step.proofs.Names.{◌≡◌, ℕ, Bool, true, false, cond, List, [], ◌∷◌, length, Option, Some, None, refl, sym, ap, ◌∙◌, subst, ⊎_elim, nat_lt, same_Some, none-some, Section, Bracket, Want, Move, Lexeme, IsWord, IsKeyword, IsThe, IsName, IsMark, IsValue, is_value, is_open, is_close, is_keyword, number_of, Asked, passes, Way, pick, ◌⇢◌, the_word, the, a_keyword, a_name, the_mark, a_value, section_ways, section_move, Nest, parameter, by_want, Turn, plain, begun, room_of, turn_section, turn_list, next_turn_at}
+use Rattle.sb_step.proofs.Names.{◌≡◌, ℕ, Bool, true, false, cond, List, [], ◌∷◌, length, Option, Some, None, refl, sym, ap, ◌∙◌, subst, ⊎_elim, nat_lt, same_Some, none-some, Section, Bracket, Want, Move, Lexeme, IsWord, IsKeyword, IsThe, IsName, IsMark, IsValue, is_value, is_open, is_close, is_keyword, number_of, Asked, passes, Way, pick, ◌⇢◌, the_word, the, a_keyword, a_name, the_mark, a_value, section_ways, section_move, Nest, parameter, by_want, Turn, plain, begun, room_of, next_turn_at, turn_of, turn_within, option_map}
 use Rattle.sb_lex.specs.declared.kinds.Mark.TheVariants as mark
 use Rattle.sb_lex.specs.declared.kinds.Word.TheVariants as word
 use Rattle.sb_step.specs.declared.indexing.states.Bracket.TheVariants as bracket
@@ -98,17 +98,6 @@ list_by_ways want.Open room f fs x = refl
 
 -- turns
 
--- the turn that a move is
-abbrev pub turn_of : Move → Turn
-turn_of m = record {
-  state = record { section = m.section; nest = cond m.opens begun plain };
-  event = m.event;
-}
-
--- a turn to this nest, at which nothing was found
-abbrev pub turn_within : Section → Nest → Turn
-turn_within o n = record { state = record { section = o; nest = n }; event = event.Nothing }
-
 -- it holds of the turn by each way of the state
 abbrev pub EachTurn : (Turn → Type 0) → Section → List Bracket → Want → Lexeme → Type 0
 EachTurn Q o [] w x = EachWay (λ m. Q (turn_of m)) x (section_ways o x)
@@ -116,27 +105,20 @@ EachTurn Q o (f ∷ fs) w x =
     EachWay (λ n. Q (turn_within o n)) x
     (list_ways w (nat_lt (length (f ∷ fs)) (room_of o)) f fs)
 
-section_turned : (Q : Turn → Type 0) (found : Option Move)
-    → ((m : Move) → found ≡ Some m → Q (turn_of m)) → (turn : Turn)
-    → turn_section found ≡ Some turn → Q turn
-section_turned Q None each turn is = absurd (none-some turn is)
-section_turned Q (Some m) each turn is = subst Q (same_Some (turn_of m) turn is) (each m refl)
-
-list_turned : (Q : Turn → Type 0) (o : Section) (found : Option Nest)
-    → ((n : Nest) → found ≡ Some n → Q (turn_within o n)) → (turn : Turn)
-    → turn_list o found ≡ Some turn → Q turn
-list_turned Q o None each turn is = absurd (none-some turn is)
-list_turned Q o (Some n) each turn is =
-    subst Q (same_Some (turn_within o n) turn is) (each n refl)
+-- where something is found of what was found, something was
+pub mapped : {A B : Type 0} (g : A → B) (found : Option A) (b : B) → option_map g found ≡ Some b
+    → (a : A) × (found ≡ Some a) × (g a ≡ b)
+mapped g None b is = absurd (none-some b is)
+mapped g (Some a) b is = (a, refl, same_Some (g a) b is)
 
 -- so it holds of the turn that is made
 pub each_turned : (Q : Turn → Type 0) (o : Section) (fs : List Bracket) (w : Want) (x : Lexeme)
     → EachTurn Q o fs w x → (turn : Turn) → next_turn_at o fs w x ≡ Some turn → Q turn
 each_turned Q o [] w x each turn is =
-    section_turned Q (section_move o x)
-    (picked (λ m. Q (turn_of m)) x (section_ways o x) each) turn is
+    let m = mapped turn_of (section_move o x) turn is in
+    subst Q m.2 (picked (λ m. Q (turn_of m)) x (section_ways o x) each m.0 m.1)
 each_turned Q o (f ∷ fs) w x each turn is =
     let ways = list_ways w (nat_lt (length (f ∷ fs)) (room_of o)) f fs in
-    list_turned Q o (by_want w (room_of o) (f ∷ fs) x.token.kind)
-    (λ n found. picked (λ n. Q (turn_within o n)) x ways each n
-    (sym (list_by_ways w (room_of o) f fs x) ∙ found)) turn is
+    let n = mapped (turn_within o) (by_want w (room_of o) (f ∷ fs) x.token.kind) turn is in
+    subst Q n.2 (picked (λ n. Q (turn_within o n)) x ways each n.0
+    (sym (list_by_ways w (room_of o) f fs x) ∙ n.1))

@@ -1,5 +1,5 @@
 -- What the machine reads to its end is a text, and describes what was found.
-use Rattle.sb_step.proofs.Names.{◌≡◌, ◌-◌, ℕ, ◌+◌, ◌≤◌, ◌⊎◌, Bool, true, false, cond, List, [], ◌∷◌, ◌++◌, length, Option, Some, None, refl, sym, ap, subst, inl, inr, ⊎_elim, arith, codes, nat_lt, option_map, same_Some, none-some, option_and_then_some, Record, Span, Part, Section, Bracket, Want, Event, Lexeme, IsWord, IsKeyword, IsThe, IsName, IsMark, opened, closed, Rule, One, Many, Each, SomeOf, none, File, IsText, greatest_depth, Semicolon, SemicolonAt, Parameter, ParameterList, MoreParameters, BeginsSimple, IsSimple, InnerRecord, IsRecord, IsInstance, Sections, span_of, entity_of, record_of, section_ways, State, is_complex, room_of, next_turn, start, end_at}
+use Rattle.sb_step.proofs.Names.{◌≡◌, ◌-◌, ℕ, ◌+◌, ◌≤◌, ◌⊎◌, Bool, true, false, cond, List, [], ◌∷◌, ◌++◌, length, Option, Some, None, refl, sym, ap, subst, inl, inr, ⊎_elim, arith, codes, nat_lt, option_map, same_Some, none-some, option_and_then_some, Record, Span, Part, Section, Bracket, Want, Event, Lexeme, IsWord, IsKeyword, IsThe, IsName, IsMark, opened, closed, Rule, One, Many, Each, SomeOf, none, File, IsText, greatest_depth, Semicolon, SemicolonAt, Parameter, ParameterList, MoreParameters, BeginsSimple, IsSimple, InnerRecord, IsRecord, IsInstance, Sections, span_of, entity_of, record_of, section_ways, State, is_complex, room_of, next_turn, start, end_at, turn_of}
 use Rattle.sb_lex.specs.declared.kinds.Mark.TheVariants as mark
 use Rattle.sb_lex.specs.declared.kinds.Word.TheVariants as word
 use Rattle.sb_step.specs.declared.indexing.states.Section.TheVariants as section
@@ -11,7 +11,7 @@ use Rattle.sb_step.specs.Rules.Many.{more as one_more}
 use Rattle.sb_step.specs.Grammar.Parameter.{value, list, typed}
 use Rattle.sb_step.specs.Grammar.ParameterList.{empty, some}
 use Rattle.sb_step.specs.Grammar.MoreParameters.{last, more}
-use Rattle.sb_step.proofs.Texts.TurnsByWay.{EachWay, parameter_ways, list_ways, turn_of, EachTurn, each_turned}
+use Rattle.sb_step.proofs.Texts.TurnsByWay.{EachWay, parameter_ways, list_ways, mapped, EachTurn, each_turned}
 use Rattle.sb_step.proofs.Texts.DepthIsCounted.{depth_within, depth, Fits, Counts, turn_counts, turn_fits}
 use Rattle.sb_step.proofs.Texts.ReadingToTheEnd.{prepend, no_more, End, Data, BehindEntities, ends, Shallow, opened-more, closed-more}
 
@@ -408,11 +408,6 @@ ended _ _ w f is = absurd (none-some f is)
 shallow_end : (d : ℕ) → d ≤ greatest_depth → Shallow d []
 shallow_end d low [] back same = omega arith
 shallow_end d low (x ∷ front) back same = absurd (cc)
-
-mapped : {A B : Type 0} (g : A → B) (o : Option A) (b : B) → option_map g o ≡ Some b
-    → (a : A) × (o ≡ Some a) × (g a ≡ b)
-mapped g None b is = absurd (none-some b is)
-mapped g (Some a) b is = (a, refl, same_Some (g a) b is)
 
 reads : (xs : List Lexeme) (s : State) (f : File) → Fits s → ends xs s ≡ Some f → Reads s f xs
 reads [] s f fit is = record {
