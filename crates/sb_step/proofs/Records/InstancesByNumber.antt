@@ -1,8 +1,8 @@
 -- The table finds each instance by its number, and no other; it has a number as often as the file.
-use Rattle.sb_step.proofs.Names.{◌⊎◌, inl, inr, ◌≡◌, ℕ, ◌+◌, ◌-◌, ◌%◌, ◌<◌, ◌≤◌, Bool, eqb, cond, List, [], ◌∷◌, ◌++◌, map, length, take, zero, suc, Some, None, refl, sym, ap, ◌∙◌, subst, ⊎_elim, get_or, arith, ◌≢◌, nat_eq, option_map, All, count_by, lookup, mod-eq_of_lt, cases_Bool, eqb-true, eq-eqb, cases_lt, cond-true, cond-false, get_or-map, length-map, sum_by-IsPermutation, length_permutation, All-permutation, Record, Place, Row, numbers_of, uses, IsUsedTwice, AreApart, IsLeastTwice, IsGreatestUsed, IsGreatest, place_at, row_of, numbered_from, IsTable, AreUnlike, IsFirstTwice, IsLast, IsRowOf}
+use Rattle.sb_step.proofs.Names.{◌⊎◌, ◌≡◌, ℕ, ◌+◌, ◌-◌, ◌%◌, ◌<◌, ◌≤◌, Bool, eqb, cond, List, [], ◌∷◌, ◌++◌, map, length, take, zero, suc, Some, None, refl, sym, ap, ◌∙◌, subst, ⊎_elim, get_or, arith, ◌≢◌, nat_eq, option_map, All, count_by, lookup, mod-eq_of_lt, cases_Bool, eqb-true, eq-eqb, cases_lt, cond-true, cond-false, get_or-map, length-map, sum_by-IsPermutation, length_permutation, All-permutation, Record, Place, Row, numbers_of, uses, IsUsedTwice, AreApart, IsLeastTwice, IsGreatestUsed, IsGreatest, place_at, row_of, numbered_from, IsTable, AreUnlike, IsFirstTwice, IsLast, IsRowOf, true}
 use Rattle.sb_step.specs.declared.step_file.records.Form.TheVariants as form
 use Rattle.sb_step.specs.Records.Table.{place_of}
-use Rattle.sb_step.proofs.Records.PlacesOfItems.{count_by-cons, first_counts, passes_at, passes_at_two, place_counts, two_places_count}
+use Rattle.sb_step.proofs.Records.PlacesOfItems.{count_by-cons, passes_at, passes_at_two, place_counts, two_places_count}
 
 -- numbers and rows
 
@@ -64,25 +64,6 @@ numbered_tell i (n ∷ numbers) (suc k) d within =
 -- a look-up in the instances
 
 module _ (n : ℕ) where
-  abbrev has_it : ℕ × Record → Bool
-  has_it i = eqb i.0 n
-
-  -- the first has the number, or it is looked up among the later ones
-  first_or_later : (i : ℕ × Record) (later : List (ℕ × Record))
-      → ((i.0 ≡ n) × (uses n (i ∷ later) ≡ 1 + uses n later))
-      ⊎ ((lookup (nat_eq n) (i ∷ later) ≡ lookup (nat_eq n) later)
-      × (uses n later ≤ uses n (i ∷ later)))
-  first_or_later i later =
-      let count = count_by-cons has_it i later in
-      ⊎_elim
-      (λ same. let is = eqb-true n i.0 same in
-      inl (sym is, first_counts has_it i later (eq-eqb i.0 n (sym is))))
-      (λ other. inr (
-        cond-false (eqb n i.0) (Some i.1) (lookup (nat_eq n) later) other,
-        omega (arith, count),
-      ))
-      (cases_Bool (eqb n i.0))
-
   -- the one that has the number, where no second has
   pub lookup_one : (instances : List (ℕ × Record)) (j : ℕ) (d : ℕ × Record)
       → j < length instances → uses n instances ≤ 1 → (get_or instances j d).0 ≡ n
@@ -91,21 +72,32 @@ module _ (n : ℕ) where
   lookup_one (i ∷ later) zero d within one has =
       cond-true (eqb n i.0) (Some i.1) (lookup (nat_eq n) later) (eq-eqb n i.0 (sym has))
   lookup_one (i ∷ later) (suc j) d within one has =
-      let more = place_counts has_it later j d (omega arith)
+      let more = place_counts (λ (k : ℕ × Record). eqb k.0 n) later j d (omega arith)
       (eq-eqb (get_or later j d).0 n has) in
-      ⊎_elim (λ here. absurd (omega (arith, here.1, more, one)))
-      (λ other. other.0
-      ∙ lookup_one later j d (omega arith) (omega (arith, other.1, one)) has)
-      (first_or_later i later)
+      let count = count_by-cons (λ (k : ℕ × Record). eqb k.0 n) i later in
+      ⊎_elim
+      (λ same. let here : eqb i.0 n ≡ true = eq-eqb i.0 n (sym (eqb-true n i.0 same)) in
+      let two : uses n (i ∷ later) ≡ 1 + uses n later =
+      count ∙ ap (λ b. cond b 1 0 + uses n later) here in
+      absurd (omega (arith, two, more, one)))
+      (λ other. cond-false (eqb n i.0) (Some i.1) (lookup (nat_eq n) later) other
+      ∙ lookup_one later j d (omega arith) (omega (arith, count, one)) has)
+      (cases_Bool (eqb n i.0))
 
   -- none, where none has it
   pub lookup_none : (instances : List (ℕ × Record)) → uses n instances ≡ 0
       → lookup (nat_eq n) instances ≡ None
   lookup_none [] none = refl
   lookup_none (i ∷ later) none =
-      ⊎_elim (λ here. absurd (omega (arith, here.1, none)))
-      (λ other. other.0 ∙ lookup_none later (omega (arith, other.1, none)))
-      (first_or_later i later)
+      let count = count_by-cons (λ (k : ℕ × Record). eqb k.0 n) i later in
+      ⊎_elim
+      (λ same. let here : eqb i.0 n ≡ true = eq-eqb i.0 n (sym (eqb-true n i.0 same)) in
+      let more : uses n (i ∷ later) ≡ 1 + uses n later =
+      count ∙ ap (λ b. cond b 1 0 + uses n later) here in
+      absurd (omega (arith, more, none)))
+      (λ other. cond-false (eqb n i.0) (Some i.1) (lookup (nat_eq n) later) other
+      ∙ lookup_none later (omega (arith, count, none)))
+      (cases_Bool (eqb n i.0))
 
 -- the table
 

@@ -7,13 +7,11 @@ module _ {X : Type 0} (p : X → Bool) where
       → count_by p (x ∷ xs) ≡ cond (p x) 1 0 + count_by p xs
   count_by-cons x xs = sum_by-cons (λ y. cond (p y) 1 0) x xs
 
-  -- it counts one there
-  pub first_counts : (x : X) (xs : List X) → p x ≡ true → count_by p (x ∷ xs) ≡ 1 + count_by p xs
+  first_counts : (x : X) (xs : List X) → p x ≡ true → count_by p (x ∷ xs) ≡ 1 + count_by p xs
   first_counts x xs passes =
       count_by-cons x xs ∙ ap (λ b. cond b 1 0 + count_by p xs) passes
 
-  -- and none where it fails
-  pub first_does_not : (x : X) (xs : List X) → p x ≡ false → count_by p (x ∷ xs) ≡ count_by p xs
+  first_does_not : (x : X) (xs : List X) → p x ≡ false → count_by p (x ∷ xs) ≡ count_by p xs
   first_does_not x xs fails =
       let same : count_by p (x ∷ xs) ≡ 0 + count_by p xs =
       count_by-cons x xs ∙ ap (λ b. cond b 1 0 + count_by p xs) fails in
