@@ -44,7 +44,8 @@ opened_list ps (x ∷ xs) rest q other o on =
     let l = list_on_mark q x xs other o.0 on in (l.items, l.is, (o.0, l.says))
 
 mutual
-  parameter_once : {p : Param} {xs rest : List Lexeme} → IsParameter p xs rest
+  -- a parameter says one thing
+  pub parameter_once : {p : Param} {xs rest : List Lexeme} → IsParameter p xs rest
       → (q : Param) (other : List Lexeme) → SaysOn q other xs → (p ≡ q) × (rest ≡ other)
   parameter_once (value {p = p} {x = x} says) q other (inl v) =
       (says_once x.token.kind x.text p q says v.0, sym v.1)

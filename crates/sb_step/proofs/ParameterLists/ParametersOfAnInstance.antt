@@ -41,7 +41,7 @@ are_tokens at (x ∷ xs) ahead =
     ((ahead.0, later.0), (λ i. ahead.1 i ∷ later.1 i))
 
 -- and there are no others
-ahead_once : TokensBehindAPlaceAreUnique → (at : Reading) (xs ys : List Lexeme) → AreAhead at xs
+pub ahead_once : TokensBehindAPlaceAreUnique → (at : Reading) (xs ys : List Lexeme) → AreAhead at xs
     → AreAhead at ys → xs ≡ ys
 ahead_once one_list at xs ys a b =
     let one = are_tokens at xs a in
