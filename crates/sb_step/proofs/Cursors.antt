@@ -2,6 +2,6 @@
 pub mod LeftIsUnique
 pub mod CursorsBegin
 pub mod ParametersClose
+pub mod TypedByToken
 pub mod ParametersArePassed
 pub mod FormsByToken
-pub mod TypedByToken

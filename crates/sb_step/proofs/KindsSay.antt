@@ -1,16 +1,9 @@
 -- What the tests of kinds say.
-use Rattle.std.proofs.Common.{◌≡◌, ℕ, List, true, false, Option, Some, refl, ap, ◌⊎◌, inl, inr, Bool, cond, eqb, sym, ◌∙◌}
-use Rattle.std.proofs.lemmas.Bool.{false≢true, and_parts, and_from, eqb-true}
-use Rattle.std.proofs.lemmas.Slice.Eq.{bytes_eq-Decides}
-use Rattle.sb_lex.specs.declared.kinds.Kind.{Kind}
+use Rattle.sb_step.proofs.Names.{◌≡◌, ℕ, List, true, false, Option, Some, refl, ap, ◌⊎◌, inl, inr, Bool, cond, eqb, sym, ◌∙◌, false≢true, and_parts, and_from, eqb-true, bytes_eq-Decides, Kind, Mark, mark_byte, Lexeme, IsThe, is_mark, is_first, is_last, is_keyword, is_name, number_of, is_the}
 use Rattle.sb_lex.specs.declared.kinds.Kind.TheVariants as kind
-use Rattle.sb_lex.specs.declared.kinds.Mark.{Mark}
 use Rattle.sb_lex.specs.declared.kinds.Mark.TheVariants as mark
 use Rattle.sb_lex.specs.declared.kinds.Word.TheVariants as word
 use Rattle.sb_lex.specs.Bytes as byte
-use Rattle.sb_lex.specs.Kinds.{mark_byte}
-use Rattle.sb_step.specs.Lexemes.{Lexeme, IsThe, is_mark}
-use Rattle.sb_step.specs.KindTests.{is_first, is_last, is_keyword, number_of, is_the}
 
 -- the mark of a byte
 mark_of : ℕ → Mark
@@ -53,9 +46,9 @@ keyword_says kind.Keyword e = refl
 keyword_says _ e = absurd (false≢true e)
 
 -- a name with its number
-pub number_says : (k : Kind) (n : ℕ) → number_of k ≡ Some n → k ≡ kind.Name n
-number_says (kind.Name m) n e = let same : m ≡ n = cc in ap (λ i. kind.Name i) same
-number_says _ n e = absurd (cc)
+pub name_says : (k : Kind) → is_name k ≡ true → k ≡ kind.Name (number_of k)
+name_says (kind.Name n) e = refl
+name_says _ e = absurd (false≢true e)
 
 -- a keyword of these letters
 pub the_says : (letters : List ℕ) (x : Lexeme) → is_the letters x ≡ true → IsThe letters x

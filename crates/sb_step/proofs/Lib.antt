@@ -1,3 +1,4 @@
+mod Names
 pub mod KindsSay
 -- the machine goes on exactly where the grammar does
 pub mod Texts

@@ -2,10 +2,11 @@
 pub mod DoubledApostrophes
 pub mod InsidesOfTokens
 pub mod SaidIsParameter
+pub mod WhatListsSay
+pub mod ParametersAreUnique
 pub mod ParametersAreRead
 pub mod ListsAreRead
 pub mod ParametersByToken
-pub mod ParametersAreUnique
-pub mod ParametersOfAnInstance
 pub mod ParametersExist
+pub mod ParametersOfAnInstance
 mod Examples

@@ -1,7 +1,6 @@
 -- A record stands among the tokens where the file has it.
 pub mod BehindRules
-pub mod RecordsLie
-pub mod OnlyOnePasses
+pub mod WhatIsFoundStands
 pub mod PlacesOfItems
 pub mod RowsAreSearched
 pub mod InstancesByNumber

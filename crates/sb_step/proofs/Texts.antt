@@ -1,11 +1,10 @@
 -- The machine goes on exactly where the grammar does.
-pub mod TurnsByTest
-pub mod Continuations
-pub mod ListsByLexeme
-pub mod SectionsByLexeme
+pub mod TurnsByWay
 pub mod DepthIsCounted
+pub mod ReadingToTheEnd
+pub mod ListsAreFollowed
 pub mod SectionsAreFollowed
-pub mod TextsAreRead
+pub mod WhatIsReadIsText
 pub mod SomeTextGoesOn
 pub mod TextsEnd
 pub mod OneFileOrOneFault

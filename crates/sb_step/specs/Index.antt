@@ -1,4 +1,5 @@
 -- What the private functions of `index` promise.
+pub mod Ways
 pub mod SectionMoves
 pub mod ListMoves
 pub mod Turns

@@ -1,5 +1,5 @@
 -- Tests of the kinds of tokens.
-use Rattle.std.specs.Prelude.{ℕ, Bool, true, false, ◌&&◌, List, Option, Some, None}
+use Rattle.std.specs.Prelude.{ℕ, Bool, true, false, ◌&&◌, List}
 use Rattle.std.specs.Str.{bytes_eq}
 use Rattle.sb_lex.specs.declared.kinds.Kind.{Kind}
 use Rattle.sb_lex.specs.declared.kinds.Kind.TheVariants as kind
@@ -34,10 +34,15 @@ abbrev pub is_keyword : Kind → Bool
 is_keyword kind.Keyword = true
 is_keyword _ = false
 
+-- a name
+abbrev pub is_name : Kind → Bool
+is_name (kind.Name n) = true
+is_name _ = false
+
 -- the number of a name
-abbrev pub number_of : Kind → Option ℕ
-number_of (kind.Name n) = Some n
-number_of _ = None
+abbrev pub number_of : Kind → ℕ
+number_of (kind.Name n) = n
+number_of _ = 0
 
 -- the keyword of these letters
 abbrev pub is_the : List ℕ → Lexeme → Bool

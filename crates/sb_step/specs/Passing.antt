@@ -26,10 +26,22 @@ pub record StillOpen (depth : ℕ) (now : Reading) (rest : List Lexeme) : Type 0
   pub ahead : AreAhead now ys
   pub closes : Closes depth ys rest
 
--- where it stood before what the rule describes, so many parentheses of that are open now
-pub record Opens (P : Rule) (depth : ℕ) (old new : Reading) : Type 0 where
+-- where it stood before what the rule describes for some value, so many parentheses of that are open
+-- now
+pub record Opens {A : Type 0} (P : A → Rule) (depth : ℕ) (old new : Reading) : Type 0 where
   pub onward : Onward old new
-  pub leads : (xs rest : List Lexeme) → AreAhead old xs → P xs rest → StillOpen depth new rest
+  pub leads : (a : A) (xs rest : List Lexeme) → AreAhead old xs → P a xs rest
+      → StillOpen depth new rest
+
+-- where so many parentheses were open, it stands behind the one that closes the last of them
+pub record HasClosed (depth : ℕ) (old new : Reading) : Type 0 where
+  pub onward : Onward old new
+  pub leads : (rest : List Lexeme) → StillOpen depth old rest → AreAhead new rest
+
+-- where it stood before what the rule describes for some value, it stands behind that
+pub record PassesOver {A : Type 0} (P : A → Rule) (old new : Reading) : Type 0 where
+  pub onward : Onward old new
+  pub leads : (a : A) (xs rest : List Lexeme) → AreAhead old xs → P a xs rest → AreAhead new rest
 
 -- behind a parameter of a list, the further ones are left
 abbrev pub Leaves : Reading → Option Token → Type 0

@@ -1,9 +1,9 @@
 // Passing over a parameter, whatever stands in it.
-ghost use Rattle.std.specs.Prelude.{◌≡◌, ◌≤◌};
-ghost use Rattle.sb_step.specs.Lexemes.{lexeme_at};
-ghost use Rattle.sb_step.specs.Grammar.{Parameter, MoreParameters};
-ghost use Rattle.sb_step.specs.Params.Readers.{Awaits, CarriesOver, Behind};
-ghost use Rattle.sb_step.specs.Passing.{Closes, Opens, Leaves, depth_behind as behind_kind};
+ghost use Rattle.std.specs.Prelude.{◌≡◌, ◌≤◌, List};
+ghost use Rattle.sb_step.specs.Lexemes.{Lexeme, lexeme_at};
+ghost use Rattle.sb_step.specs.Params.Parameters.{IsParameter, AreFurther};
+ghost use Rattle.sb_step.specs.Params.Readers.{Awaits, Behind};
+ghost use Rattle.sb_step.specs.Passing.{StillOpen, Opens, HasClosed, PassesOver, Leaves, depth_behind as behind_kind};
 
 use crate::kinds::{is_close, is_comma, is_keyword, is_open};
 use crate::parameters::reading::next;
@@ -11,9 +11,9 @@ use sb_lex::{Kind, Lexer, Token};
 
 /// Passes over the parameter that begins with this token.
 pub(crate) fn pass(lexer: &mut Lexer<'_>, first: Token)
-    requires { Awaits (Behind (lexeme_at lexer.old.input first) Parameter) lexer.old }
-    ensures { CarriesOver (Behind (lexeme_at lexer.old.input first) Parameter)
-        (Behind (lexeme_at lexer.old.input first) Parameter) lexer.old lexer.new }
+    requires { Awaits (Behind (lexeme_at lexer.old.input first) IsParameter) lexer.old }
+    ensures { PassesOver (Behind (lexeme_at lexer.old.input first) IsParameter)
+        lexer.old lexer.new }
 {
     let depth = opened(lexer, first);
     close(lexer, depth);
@@ -21,8 +21,8 @@ pub(crate) fn pass(lexer: &mut Lexer<'_>, first: Token)
 
 /// How many parentheses are open behind what the parameter begins with.
 fn opened(lexer: &mut Lexer<'_>, first: Token) -> u128
-    requires { Awaits (Behind (lexeme_at lexer.old.input first) Parameter) lexer.old }
-    ensures opens { Opens (Behind (lexeme_at lexer.old.input first) Parameter) result
+    requires { Awaits (Behind (lexeme_at lexer.old.input first) IsParameter) lexer.old }
+    ensures opens { Opens (Behind (lexeme_at lexer.old.input first) IsParameter) result
         lexer.old lexer.new }
     ensures few { result ≤ 1 }
 {
@@ -38,9 +38,9 @@ fn opened(lexer: &mut Lexer<'_>, first: Token) -> u128
 
 /// Passes over all tokens up to the one that closes the last of so many open parentheses.
 fn close(lexer: &mut Lexer<'_>, first_depth: u128)
-    requires awaits { Awaits (Closes first_depth) lexer.old }
+    requires awaits { (rest : List Lexeme) × StillOpen first_depth lexer.old rest }
     requires few { first_depth ≤ 1 }
-    ensures { CarriesOver (Closes first_depth) (Closes first_depth) lexer.old lexer.new }
+    ensures { HasClosed first_depth lexer.old lexer.new }
 {
     let mut depth = first_depth;
     'tokens: while depth > 0 {
@@ -65,7 +65,7 @@ fn depth_behind(depth: u128, kind: Kind) -> u128
 
 /// Behind a parameter of a list: the first token of the next one, if there is one.
 pub(crate) fn following(lexer: &mut Lexer<'_>) -> Option<Token>
-    requires { Awaits MoreParameters lexer.old }
+    requires { Awaits AreFurther lexer.old }
     ensures { Leaves lexer.old result }
 {
     let mark = next(lexer);

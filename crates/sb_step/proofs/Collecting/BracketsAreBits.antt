@@ -1,6 +1,5 @@
 -- There are as many parentheses as bits.
-use Rattle.std.proofs.Common.{◌≡◌, ℕ, zero, suc, ◌/◌, length, refl, ap}
-use Rattle.sb_step.specs.Index.ListMoves.{brackets_of}
+use Rattle.sb_step.proofs.Names.{◌≡◌, ℕ, zero, suc, ◌/◌, length, refl, ap, brackets_of}
 
 -- the bits tell of so many
 pub length-brackets_of : (len bits : ℕ) → length (brackets_of len bits) ≡ len

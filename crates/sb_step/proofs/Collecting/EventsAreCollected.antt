@@ -1,13 +1,6 @@
 -- What was found at one lexeme more stands behind what was found before.
-use Rattle.std.proofs.Common.{◌≡◌, ℕ, List, [], ◌∷◌, ◌++◌, refl, sym, ap, ◌∙◌, subst, append-nil}
-use Rattle.sb_step.specs.declared.step_file.records.Record.{Record}
-use Rattle.sb_step.specs.declared.indexing.states.Event.{Event}
+use Rattle.sb_step.proofs.Names.{◌≡◌, ℕ, List, [], ◌∷◌, ◌++◌, refl, sym, ap, ◌∙◌, subst, append-nil, Record, Event, Collected, entities_of, instances_of, AreStored, AreCollected, with_entity, SchemaSays}
 use Rattle.sb_step.specs.declared.indexing.states.Event.TheVariants as event
-use Rattle.sb_step.specs.declared.indexing.collected.Collected.{Collected}
-use Rattle.sb_step.specs.Index.Turns.{entities_of, instances_of}
-use Rattle.sb_step.specs.Index.StoredInstances.{AreStored}
-use Rattle.sb_step.specs.Index.Collects.{AreCollected}
-use Rattle.sb_step.specs.Records.SchemaReading.{with_entity, SchemaSays}
 use Rattle.sb_step.proofs.Records.OneSchema.{says_more}
 
 entities_of-more : (events : List Event) (g : Event) → entities_of (events ++ g ∷ [])

@@ -1,17 +1,9 @@
 -- What was kept of a file is held of it, and the least number used twice is found in the table.
-use Rattle.std.proofs.Common.{◌≡◌, ℕ, List, Some, None, refl, sym, ap, ◌∙◌, subst}
-use Rattle.sb_step.specs.declared.step_file.table.Row.{Row}
-use Rattle.sb_step.specs.declared.indexing.collected.Collected.{Collected}
-use Rattle.sb_step.specs.Faults.{FilesAreUnique}
-use Rattle.sb_step.specs.Numbers.{numbers_of}
-use Rattle.sb_step.specs.Described.{Described, Described-prop}
-use Rattle.sb_step.specs.IndexAnswers.{IsHeld, HasDoubled}
-use Rattle.sb_step.specs.Records.Rows.{IsTable, IsDoubledIn}
-use Rattle.sb_step.specs.Index.Progress.{IsFound}
+use Rattle.sb_step.proofs.Names.{◌≡◌, ℕ, List, Some, None, refl, sym, ap, ◌∙◌, subst, Row, Collected, FilesAreUnique, numbers_of, Described, Described-prop, IsHeld, HasDoubled, IsTable, IsDoubledIn, IsFound}
 use Rattle.sb_step.proofs.Records.InstancesByNumber.{apart_from, least_from}
 
-module _ (input : List ℕ) (k : ℕ) (c : Collected) (found : IsFound input k c) (numbers : List ℕ)
-    (rows : List Row) (taken : numbers ≡ c.instances.numbers.items) (t : IsTable numbers rows)
+module _ {input : List ℕ} {k : ℕ} {c : Collected} (found : IsFound input k c) {numbers : List ℕ}
+    {rows : List Row} (taken : numbers ≡ c.instances.numbers.items) (t : IsTable numbers rows)
   where
     table_is : IsTable (numbers_of found.file.instances) rows
     table_is = subst (λ l. IsTable l rows) (taken ∙ found.instances.numbers) t

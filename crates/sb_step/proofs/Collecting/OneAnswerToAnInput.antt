@@ -1,12 +1,6 @@
 -- To an input there is one answer, but for want of memory.
-use Rattle.std.proofs.Common.{◌≡◌, ◌↔◌, ℕ, List, Result, Ok, Err, refl, sym, ap, ◌∙◌, subst, arith}
-use Rattle.sb_step.specs.declared.error.StepError.{StepError}
+use Rattle.sb_step.proofs.Names.{File, IsFile, HasDoubled, ◌≡◌, ◌↔◌, ℕ, List, Result, Ok, Err, refl, sym, ap, ◌∙◌, subst, arith, StepError, Record, FilesAreUnique, FaultsAreUnique, NoFileHasAFault, AreApart, IsLeastTwice, Indexed, IsAnswer, IsInTime}
 use Rattle.sb_step.specs.declared.error.StepError.TheVariants as step_error
-use Rattle.sb_step.specs.declared.step_file.records.Record.{Record}
-use Rattle.sb_step.specs.Faults.{FilesAreUnique, FaultsAreUnique, NoFileHasAFault}
-use Rattle.sb_step.specs.Numbers.{AreApart, IsLeastTwice}
-use Rattle.sb_step.specs.Indexed.{Indexed}
-use Rattle.sb_step.specs.IndexAnswers.{IsAnswer, IsInTime}
 
 -- no number is the least of those used twice where none is used twice
 apart_or_doubled : (n : ℕ) (instances : List (ℕ × Record)) → AreApart instances
@@ -23,8 +17,14 @@ least_is_one m n instances one two =
 
 module _ (one_file : FilesAreUnique) (one_fault : FaultsAreUnique)
     (not_both : NoFileHasAFault) where
+  -- the number is the least of those used twice in any file that the input is
+  doubled_in : (input : List ℕ) (n : ℕ) (d : HasDoubled input n) (f : File) → IsFile input f
+      → IsLeastTwice n f.instances
+  doubled_in input n d f is =
+      subst (λ g. IsLeastTwice n g.instances) (one_file input d.file f d.is is) d.least
+
   -- two answers are one
-  pub answers_are_one : (input : List ℕ) (a b : Result Indexed StepError) → IsInTime a → IsInTime b
+  answers_are_one : (input : List ℕ) (a b : Result Indexed StepError) → IsInTime a → IsInTime b
       → IsAnswer input a → IsAnswer input b → a ≡ b
   answers_are_one input (Ok f) (Ok g) early soon one two =
       let file = one_file input f.file g.file one.file two.file in
@@ -33,9 +33,7 @@ module _ (one_file : FilesAreUnique) (one_fault : FaultsAreUnique)
   answers_are_one input (Ok f) (Err (step_error.Syntax k)) early soon one two =
       absurd (not_both input f.file k one.file two)
   answers_are_one input (Ok f) (Err (step_error.Duplicate n)) early soon one two =
-      absurd (apart_or_doubled n f.file.instances one.apart
-      (subst (λ g. IsLeastTwice n g.instances)
-      (one_file input two.file f.file two.is one.file) two.least))
+      absurd (apart_or_doubled n f.file.instances one.apart (doubled_in input n two f.file one.file))
   answers_are_one input (Ok f) (Err step_error.NoMemory) early soon one two = absurd (soon refl)
   answers_are_one input (Err (step_error.Syntax k)) (Ok f) early soon one two =
       absurd (not_both input f.file k two.file one)
@@ -46,16 +44,13 @@ module _ (one_file : FilesAreUnique) (one_fault : FaultsAreUnique)
   answers_are_one input (Err (step_error.Syntax k)) (Err step_error.NoMemory) early soon one two =
       absurd (soon refl)
   answers_are_one input (Err (step_error.Duplicate n)) (Ok f) early soon one two =
-      absurd (apart_or_doubled n f.file.instances two.apart
-      (subst (λ g. IsLeastTwice n g.instances)
-      (one_file input one.file f.file one.is two.file) one.least))
+      absurd (apart_or_doubled n f.file.instances two.apart (doubled_in input n one f.file two.file))
   answers_are_one input (Err (step_error.Duplicate n)) (Err (step_error.Syntax k)) early soon one
       two = absurd (not_both input one.file k one.is two)
   answers_are_one input (Err (step_error.Duplicate n)) (Err (step_error.Duplicate m)) early soon one
       two =
       ap (λ p. Err (step_error.Duplicate p)) (least_is_one n m two.file.instances
-      (subst (λ g. IsLeastTwice n g.instances)
-      (one_file input one.file two.file one.is two.is) one.least) two.least)
+      (doubled_in input n one two.file two.is) two.least)
   answers_are_one input (Err (step_error.Duplicate n)) (Err step_error.NoMemory) early soon one
       two = absurd (soon refl)
   answers_are_one input (Err step_error.NoMemory) b early soon one two = absurd (early refl)

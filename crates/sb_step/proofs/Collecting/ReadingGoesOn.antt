@@ -1,19 +1,8 @@
 -- What a reading of the tokens so far says of the input.
-use Rattle.std.proofs.Common.{◌≡◌, ℕ, List, [], ◌∷◌, ◌++◌, Option, Some, None, Err, refl, sym, ap, ◌∙◌, subst, append-nil}
-use Rattle.sb_lex.specs.declared.kinds.Token.{Token}
-use Rattle.sb_lex.specs.declared.kinds.BadToken.{BadToken}
-use Rattle.sb_lex.specs.Tokens.{IsNext, IsEnd, IsBadFrom, AreTokensFrom, AreTokens, TokensFollowEachPlace}
-use Rattle.sb_step.specs.declared.error.StepError.{StepError}
+use Rattle.sb_step.proofs.Names.{◌≡◌, ℕ, List, [], ◌∷◌, ◌++◌, Option, Some, None, Err, refl, sym, ap, ◌∙◌, subst, Token, BadToken, IsNext, IsEnd, IsBadFrom, AreTokensFrom, TokensFollowEachPlace, StepError, Collected, lexeme_at, lexemes, IsFaultAt, IsAnswer, State, next_turn, start, end_of, file_of, Ran, run, AreCollected, TokensTo, Progress, Accepted, Accepts, IsRead}
 use Rattle.sb_step.specs.declared.error.StepError.TheVariants as step_error
-use Rattle.sb_step.specs.declared.indexing.collected.Collected.{Collected}
-use Rattle.sb_step.specs.Lexemes.{lexeme_at, lexemes}
-use Rattle.sb_step.specs.Faults.{IsFaultAt}
-use Rattle.sb_step.specs.IndexAnswers.{IsAnswer}
-use Rattle.sb_step.specs.Index.Turns.{State, next_turn, start, end_of, file_of, Ran, run}
-use Rattle.sb_step.specs.Index.Collects.{AreCollected}
-use Rattle.sb_step.specs.Index.Progress.{TokensTo, Progress, Accepted, Accepts, IsRead}
-use Rattle.sb_step.proofs.Texts.TextsEnd.{ends_text, runs_begin}
-use Rattle.sb_step.proofs.Texts.OneFileOrOneFault.{goes_on, stops, no_end, lexemes-more}
+use Rattle.sb_step.proofs.Texts.TextsEnd.{goes_on, no_end, stops}
+use Rattle.sb_step.proofs.Texts.OneFileOrOneFault.{fault_behind, file_behind, lexemes-more}
 
 -- the tokens up to a place, and those from there on, are the tokens
 to_all : (input : List ℕ) (from to : ℕ) (before after : List Token) (bad : Option BadToken)
@@ -45,16 +34,16 @@ nothing_read input c empty = record {
 }
 
 -- a token was accepted
-pub one_more : (input : List ℕ) (place : ℕ) (t : Token) (s u : State) (c d : Collected)
+pub one_more : {input : List ℕ} {place : ℕ} {t : Token} {s u : State} {c d : Collected}
     → Progress input place s c → IsNext input place t
     → Accepted input s u (lexeme_at input t) c d → Progress input t.end u d
-one_more input place t s u c d p next a = record {
+one_more {input} {place} {t} {s} {u} p next a = record {
   before = p.before ++ t ∷ [];
   events = p.events ++ a.event ∷ [];
   tokens = to_more input 0 place p.before t p.tokens next;
   reads = ap (λ l. run l start) (lexemes-more input p.before t)
-      ∙ goes_on (lexemes input p.before) (record { state = s; events = p.events })
-      (lexeme_at input t) (record { state = u; event = a.event }) p.reads a.turns;
+      ∙ goes_on (lexeme_at input t) (record { state = u; event = a.event })
+      (lexemes input p.before) start (record { state = s; events = p.events }) p.reads a.turns;
   collected = a.collects p.events p.collected;
 }
 
@@ -66,51 +55,31 @@ pub fault_at_token : TokensFollowEachPlace
 fault_at_token follow input place t s c p next none =
     let l = follow input t.end next.token.candidate.within in
     let ran : Ran = record { state = s; events = p.events } in
-    record {
-      before = p.before;
-      after = t ∷ l.0;
-      bad = l.1;
-      are = to_all input 0 place p.before (t ∷ l.0) l.1 p.tokens (next, l.2);
-      at = refl;
-      begins = runs_begin (lexemes input p.before) ran p.reads;
-      refused = stops (lexemes input p.before) ran (lexeme_at input t) p.reads none;
-    }
+    fault_behind input p.before (t ∷ l.0) l.1 ran
+    (to_all input 0 place p.before (t ∷ l.0) l.1 p.tokens (next, l.2)) p.reads
+    (stops (lexemes input p.before) ran p.reads (lexeme_at input t) none)
 
 -- no token begins
 pub fault_at_bad : (input : List ℕ) (place bad : ℕ) (s : State) (c : Collected)
     → Progress input place s c → IsBadFrom input place bad → IsFaultAt input bad
-fault_at_bad input place bad s c p is = record {
-  before = p.before;
-  after = [];
-  bad = Some (record { 0 = bad });
-  are = to_all input 0 place p.before [] (Some (record { 0 = bad })) p.tokens is;
-  at = refl;
-  begins = runs_begin (lexemes input p.before) (record { state = s; events = p.events }) p.reads;
-  refused = λ goes. goes;
-}
+fault_at_bad input place bad s c p is =
+    let here = Some (record { 0 = bad }) in
+    fault_behind input p.before [] here (record { state = s; events = p.events })
+    (to_all input 0 place p.before [] here p.tokens is) p.reads (λ goes. goes)
 
 -- the end of the input
 
 end_answers : (input : List ℕ) (place : ℕ) (s : State) (c : Collected) (end : Option ℕ)
     → end_of s ≡ end → Progress input place s c → IsEnd input place → IsRead input end c
-end_answers input place s c None none p ends = record {
-  before = p.before;
-  after = [];
-  bad = None;
-  are = to_all input 0 place p.before [] None p.tokens ends;
-  at = refl;
-  begins = runs_begin (lexemes input p.before) (record { state = s; events = p.events }) p.reads;
-  refused = no_end (lexemes input p.before) (record { state = s; events = p.events }) p.reads none;
-}
+end_answers input place s c None none p ends =
+    let ran : Ran = record { state = s; events = p.events } in
+    fault_behind input p.before [] None ran
+    (to_all input 0 place p.before [] None p.tokens ends) p.reads
+    (no_end (lexemes input p.before) ran p.reads none)
 end_answers input place s c (Some k) ended p ends = record {
   file = file_of p.events k;
-  is = record {
-    tokens = p.before;
-    are = subst (λ ts. AreTokens input ts None) (append-nil p.before)
-        (to_all input 0 place p.before [] None p.tokens ends);
-    text = ends_text (lexemes input p.before) (record { state = s; events = p.events }) k
-        p.reads ended;
-  };
+  is = file_behind input p.before (record { state = s; events = p.events }) k
+      (to_all input 0 place p.before [] None p.tokens ends) p.reads ended;
   ends = refl;
   schema = p.collected.schema;
   instances = p.collected.instances;

@@ -5,43 +5,36 @@ use Rattle.sb_lex.specs.declared.kinds.Token.{Token}
 use Rattle.sb_lex.specs.Tokens.{Reading, IsToken}
 use Rattle.sb_step.specs.declared.parameters.param.Param.{Param}
 use Rattle.sb_step.specs.Lexemes.{Lexeme, lexeme_at, is_close}
-use Rattle.sb_step.specs.Grammar.{ParameterList}
 use Rattle.sb_step.specs.Params.Parameters.{AreParameters}
 use Rattle.sb_step.specs.Params.Readers.{HasNext, ReadsToken, AreAhead, Awaits, AreInList, behind}
 use Rattle.sb_step.specs.Cursor.{StandsAt, AreLeft, ListBehind, unless_closed}
-use Rattle.sb_step.proofs.Texts.ListsByLexeme.{parameter_on, parameter_closes_none}
+use Rattle.sb_step.proofs.Texts.ListsAreFollowed.{not_closed}
 use Rattle.sb_step.proofs.ParameterLists.SaidIsParameter.{said_parameter}
-use Rattle.sb_step.proofs.ParameterLists.ParametersAreRead.{FirstPassed, passes, input_stays, first_has_next}
-use Rattle.sb_step.proofs.ParameterLists.ParametersExist.{list_says}
+use Rattle.sb_step.proofs.ParameterLists.ParametersAreRead.{passes, input_stays, nothing_in_list}
+use Rattle.sb_step.proofs.ParameterLists.ListsAreRead.{list_has_next}
 use Rattle.sb_step.specs.Params.ParamsAnswers.{reader_at, ListSays}
-use Rattle.sb_step.proofs.ParameterLists.ParametersAreUnique.{ListSaysOn, list_says_on}
-
--- what is said of a list begins with a lexeme
-pub not_nothing : (ps : List Param) (rest : List Lexeme) → AreInList ps [] rest → ⊥
-not_nothing [] rest says = says
-not_nothing (p ∷ ps) rest says = parameter_on (said_parameter says.first)
+use Rattle.sb_step.proofs.ParameterLists.WhatListsSay.{ListSaysOn, list_says_on}
 
 -- a list that is closed at once has no parameter
 pub closed_is_empty : (ps : List Param) (x : Lexeme) (xs rest : List Lexeme)
     → is_close x.token.kind ≡ true → AreInList ps (x ∷ xs) rest → ps ≡ []
 closed_is_empty [] x xs rest closed says = refl
 closed_is_empty (p ∷ ps) x xs rest closed says =
-    let none = parameter_closes_none says.middle x xs (parameter_on (said_parameter says.first)) in
-    absurd (false≢true (sym none ∙ closed))
+    absurd (false≢true (sym (not_closed (said_parameter says.first)) ∙ closed))
 
 module _ (input : List ℕ) (b c : Reading) (t : Token) (read : ReadsToken b c t)
     (is_input : b.input ≡ input) where
   -- where a token of a list was read, its parameters are left unless it ends the list
   pub left_in_list : (ps : List Param) (xs rest : List Lexeme) → AreAhead b xs
       → AreInList ps xs rest → AreLeft input (unless_closed t) ps
-  left_in_list ps [] rest ahead says = absurd (not_nothing ps rest says)
+  left_in_list ps [] rest ahead says = absurd (nothing_in_list ps rest says)
   left_in_list ps (x ∷ xs) rest ahead says = by_close (cases_Bool (is_close t.kind))
     where
-      p : FirstPassed b c t x xs
-      p = passes b c t read x xs ahead
+      p : (x ≡ lexeme_at b.input t) × AreAhead c xs
+      p = passes read x xs ahead
 
       same : x ≡ lexeme_at input t
-      same = p.is ∙ ap (λ i. lexeme_at i t) is_input
+      same = p.0 ∙ ap (λ i. lexeme_at i t) is_input
 
       by_close : (is_close t.kind ≡ true) ⊎ (is_close t.kind ≡ false)
           → AreLeft input (unless_closed t) ps
@@ -56,7 +49,7 @@ module _ (input : List ℕ) (b c : Reading) (t : Token) (read : ReadsToken b c t
             xs = xs;
             rest = rest;
             ahead = subst (λ i. AreAhead (behind i t) xs) is_input
-                (subst (λ r. AreAhead r xs) read.moved p.ahead);
+                (subst (λ r. AreAhead r xs) read.moved p.1);
             says = subst (λ y. AreInList ps (y ∷ xs) rest) same says;
           } in
           rw going stands
@@ -73,7 +66,7 @@ left_of_list input a b c o t opens read is_input ps xs rest ahead says =
     by_first [] ahead on = absurd on
     by_first (x ∷ xs) ahead on =
         left_in_list input b c t read is_input ps xs rest
-        (passes a b o opens x xs ahead).ahead on.1
+        (passes opens x xs ahead).1 on.1
 
 -- where a cursor begins at a list, the parameters that it says are left
 module _ (bytes : List ℕ) (place : ℕ) (a b c : Reading) (o t : Token) (opens : ReadsToken a b o)
@@ -84,23 +77,18 @@ module _ (bytes : List ℕ) (place : ℕ) (a b c : Reading) (o t : Token) (opens
   all_left ps xs rest ahead says =
       subst (λ n. AreLeft bytes n ps) (sym next_is)
       (left_of_list bytes a b c o t opens read
-      (input_stays a b o opens ∙ ap (λ r. r.input) a_is) ps xs rest
+      (input_stays opens ∙ ap (λ r. r.input) a_is) ps xs rest
       (subst (λ r. AreAhead r xs) (sym a_is) ahead) says)
 
   -- there are some
-  pub some_left : Awaits ParameterList (reader_at bytes place)
+  pub some_left : Awaits AreParameters (reader_at bytes place)
       → (ps : List Param) × AreLeft bytes next ps
-  some_left w =
-      let said = list_says w.is (reader_at bytes place) w.ahead in
-      (said.ps, all_left said.ps w.xs w.rest w.ahead said.are)
+  some_left w = (w.value, all_left w.value w.xs w.rest w.ahead w.is)
 
   -- and no others
   pub what_is_said : (qs : List Param) → ((ps : List Param) → AreLeft bytes next ps → qs ≡ ps)
       → ListSays bytes place qs
-  what_is_said qs only xs rest ahead l =
-      let said = list_says l (reader_at bytes place) ahead in
-      subst (λ all. AreParameters all xs rest)
-      (sym (only said.ps (all_left said.ps xs rest ahead said.are))) said.are
+  what_is_said qs only ps xs rest ahead l = sym (only ps (all_left ps xs rest ahead l))
 
 -- ---- inside a list
 
@@ -108,13 +96,14 @@ module _ (bytes : List ℕ) (o : Token) (b : Reading) (b_is : b ≡ behind bytes
     (l : ListBehind bytes o ps) where
   -- there is a token behind its parenthesis
   pub inside_has_next : HasNext b
-  inside_has_next = by_first l.xs l.ahead l.says
-    where
-      by_first : (xs : List Lexeme) → AreAhead (behind bytes o) xs → AreInList ps xs l.rest
-          → HasNext b
-      by_first [] ahead says = absurd (not_nothing ps l.rest says)
-      by_first (x ∷ xs) ahead says =
-          first_has_next b x xs (subst (λ r. AreAhead r (x ∷ xs)) (sym b_is) ahead)
+  inside_has_next =
+      list_has_next b (record {
+        value = ps;
+        xs = l.xs;
+        rest = l.rest;
+        ahead = subst (λ r. AreAhead r l.xs) (sym b_is) l.ahead;
+        is = l.says;
+      })
 
   -- and its parameters are left
   pub inside_left : (c : Reading) (t : Token) → ReadsToken b c t → (next : Option Token)

@@ -16,9 +16,9 @@ use Rattle.theory_bytes.specs.Insides.{inside_of}
 use Rattle.theory_bytes.proofs.InsidesAreBetween.{inside-between}
 use Rattle.sb_step.specs.Cursor.{StandsAt, ListBehind}
 use Rattle.sb_step.specs.Forms.{reference_in, reference_or_none_in, number_in, enumeration_in, is_null_in, is_dollar, name_of, name_or_none_of, number_text, enumeration_text}
-use Rattle.sb_step.proofs.ParameterLists.ParametersAreUnique.{SaysOn, TypedSays, says_on, parameter_once}
-use Rattle.sb_step.proofs.ParameterLists.SaidIsParameter.{says_value}
-use Rattle.sb_step.proofs.Cursors.ParametersArePassed.{value_opens_none}
+use Rattle.sb_step.proofs.KindsSay.{mark_says}
+use Rattle.sb_step.proofs.ParameterLists.WhatListsSay.{SaysOn, TypedSays, says_on, list_on_mark}
+use Rattle.sb_step.proofs.ParameterLists.ParametersAreUnique.{parameter_once}
 
 -- the next parameter, and how it begins
 record Next (bytes : List ℕ) (t : Token) (ps : List Param) : Type 0 where
@@ -235,21 +235,16 @@ pub record FirstList (bytes : List ℕ) (t : Token) (ps : List Param) : Type 0 w
 pub first_list : (bytes : List ℕ) (t : Token) (ps : List Param) → StandsAt bytes t ps
     → is_open t.kind ≡ true → FirstList bytes t ps
 first_list bytes t [] s opens = absurd (false≢true (sym s.going ∙ ap is_close s.says.0))
-first_list bytes t (p ∷ ps) s opens = by_case (says_on s.says.first)
-  where
-    by_case : SaysOn p s.says.middle (lexeme_at bytes t ∷ s.xs) → FirstList bytes t (p ∷ ps)
-    by_case (inl v) =
-        let none = value_opens_none t.kind
-        (says_value t.kind (slice_range bytes t.start t.end) p v.0) in
-        absurd (false≢true (sym none ∙ opens))
-    by_case (inr (inl l)) = record {
-      items = l.1.items;
-      is = ap (λ q. Some q) l.1.is;
+first_list bytes t (p ∷ ps) s opens =
+    let l = list_on_mark p (lexeme_at bytes t) s.xs s.says.middle (mark_says mark.Open t.kind opens)
+    (says_on s.says.first) in
+    record {
+      items = l.items;
+      is = ap (λ q. Some q) l.is;
       behind_it = record {
         xs = s.xs;
         rest = s.says.middle;
         ahead = s.ahead;
-        says = l.1.says;
+        says = l.says;
       };
     }
-    by_case (inr (inr k)) = absurd (false≢true (sym (ap is_open k.0) ∙ opens))

@@ -1,37 +1,27 @@
 -- Wherever a cursor stands, there is one list of parameters that are left.
-use Rattle.std.proofs.Common.{◌≡◌, ℕ, List, [], ◌∷◌, Option, Some, None, map, refl, sym, ap, ◌∙◌, subst}
+use Rattle.std.proofs.Common.{◌≡◌, ℕ, List, [], ◌∷◌, Option, Some, None, refl, sym, ◌∙◌, subst}
 use Rattle.sb_lex.specs.declared.kinds.Kind.TheVariants as kind
 use Rattle.sb_lex.specs.declared.kinds.Mark.TheVariants as mark
 use Rattle.sb_lex.specs.declared.kinds.Token.{Token}
-use Rattle.sb_lex.specs.Tokens.{AreTokensFrom, Reading, TokensBehindAPlaceAreUnique}
+use Rattle.sb_lex.specs.Tokens.{TokensBehindAPlaceAreUnique}
 use Rattle.sb_step.specs.declared.parameters.param.Param.{Param}
-use Rattle.sb_step.specs.Lexemes.{Lexeme, lexeme_at, lexemes}
+use Rattle.sb_step.specs.Lexemes.{Lexeme, lexeme_at, IsMark}
 use Rattle.sb_step.specs.Params.Parameters.{AreParameters}
-use Rattle.sb_step.specs.Params.Readers.{AreAhead, behind}
+use Rattle.sb_step.specs.Params.Parameters.AreParameters.{empty, some}
+use Rattle.sb_step.specs.Params.Readers.{AreInList, behind}
 use Rattle.std.specs.Coded.{Coded-set, coded_list}
 use Rattle.sb_step.specs.contracts.parameters.param.Param as param
 use Rattle.sb_step.specs.Cursor.{AreLeft, LeftAreUnique, Left, left_once}
-use Rattle.sb_step.proofs.ParameterLists.ParametersByToken.{said_behind}
+use Rattle.sb_step.proofs.ParameterLists.ParametersOfAnInstance.{ahead_once}
 use Rattle.sb_step.proofs.ParameterLists.ParametersAreUnique.{parameters_are_unique}
 
-abbrev tokens_of : List Lexeme → List Token
-tokens_of xs = map (λ x. x.token) xs
-
-are_tokens : (at : Reading) (xs : List Lexeme) → AreAhead at xs
-    → AreTokensFrom at.input at.place (tokens_of xs) None × (xs ≡ lexemes at.input (tokens_of xs))
-are_tokens at [] ahead = (ahead, refl)
-are_tokens at (x ∷ xs) ahead =
-    let later = are_tokens (behind at.input x.token) xs ahead.2 in
-    ((ahead.0, later.0), (λ i. ahead.1 i ∷ later.1 i))
-
--- a reader stands before one list of lexemes
-ahead_once : TokensBehindAPlaceAreUnique → (at : Reading) (xs ys : List Lexeme) → AreAhead at xs
-    → AreAhead at ys → xs ≡ ys
-ahead_once one_list at xs ys a b =
-    let one = are_tokens at xs a in
-    let other = are_tokens at ys b in
-    let same = one_list at.input at.place (tokens_of xs) (tokens_of ys) None None one.0 other.0 in
-    one.1 ∙ ap (lexemes at.input) same.0 ∙ sym other.1
+-- behind a parenthesis a whole list is left
+said_behind : (x : Lexeme) (ps : List Param) (xs rest : List Lexeme) → IsMark mark.Open x
+    → AreInList ps xs rest → AreParameters ps (x ∷ xs) rest
+said_behind x [] [] rest o says = absurd says
+said_behind x [] (y ∷ xs) rest o says =
+    subst (λ r. AreParameters [] (x ∷ y ∷ xs) r) (sym says.1) (empty o says.0)
+said_behind x (p ∷ ps) xs rest o says = some o says.first says.second
 
 -- a parenthesis, before which what is left is a whole list
 abbrev parenthesis : Lexeme

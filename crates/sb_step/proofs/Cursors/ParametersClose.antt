@@ -1,17 +1,18 @@
 -- A parameter closes as many parentheses as it opens.
-use Rattle.std.proofs.Common.{◌≡◌, ℕ, suc, true, List, [], ◌∷◌, refl, sym, ap, subst, inl, inr}
+use Rattle.std.proofs.Common.{◌≡◌, ℕ, suc, true, List, [], ◌∷◌, refl, sym, ap, subst}
 use Rattle.std.proofs.lemmas.Bool.{false≢true}
 use Rattle.sb_lex.specs.declared.kinds.Kind.{Kind}
 use Rattle.sb_lex.specs.declared.kinds.Kind.TheVariants as kind
 use Rattle.sb_lex.specs.declared.kinds.Mark.TheVariants as mark
+use Rattle.sb_step.specs.declared.parameters.param.Param.{Param}
 use Rattle.sb_step.specs.Lexemes.{Lexeme, is_value}
 use Rattle.sb_step.specs.Grammar.{Parameter, ParameterList, MoreParameters}
 use Rattle.sb_step.specs.Grammar.Parameter.{value, list, typed}
 use Rattle.sb_step.specs.Grammar.ParameterList.{empty, some}
 use Rattle.sb_step.specs.Grammar.MoreParameters.{last, more}
-use Rattle.sb_step.specs.Params.Readers.{InList}
+use Rattle.sb_step.specs.Params.Readers.{AreInList}
 use Rattle.sb_step.specs.Passing.{depth_behind, Closes}
-use Rattle.sb_step.proofs.Texts.ListsByLexeme.{InTyped}
+use Rattle.sb_step.proofs.ParameterLists.SaidIsParameter.{said_parameter, said_further}
 
 -- a value leaves as many open as there were
 pub value_keeps : (n : ℕ) (k : Kind) → is_value k ≡ true → depth_behind n k ≡ n
@@ -66,15 +67,10 @@ mutual
       (parameter_closes p depth rest (more_closes others depth rest closes))
 
 -- behind its parenthesis a list closes one
-pub list_closes_one : (xs rest : List Lexeme) → InList xs rest → Closes 1 xs rest
-list_closes_one [] rest (inl c) = absurd c
-list_closes_one (x ∷ xs) rest (inl c) =
-    closes_on 0 0 x xs rest (ap (depth_behind 1) c.0) c.1
-list_closes_one xs rest (inr j) =
-    parameter_closes j.first 0 rest (more_closes j.second 0 rest refl)
-
--- behind the parenthesis of its keyword so does a typed parameter
-pub typed_closes_one : (y : Lexeme) (xs rest : List Lexeme) → InTyped rest y xs → Closes 1 xs rest
-typed_closes_one y xs rest t =
-    parameter_closes t.inner 0 rest
-    (closes_on 0 0 t.close_mark rest rest (ap (depth_behind 1) t.closes) refl)
+pub list_closes_one : (ps : List Param) (xs rest : List Lexeme) → AreInList ps xs rest
+    → Closes 1 xs rest
+list_closes_one [] [] rest c = absurd c
+list_closes_one [] (x ∷ xs) rest c = closes_on 0 0 x xs rest (ap (depth_behind 1) c.0) c.1
+list_closes_one (p ∷ ps) xs rest j =
+    parameter_closes (said_parameter j.first) 0 rest
+    (more_closes (said_further j.second) 0 rest refl)

@@ -2,11 +2,13 @@
 use Rattle.std.proofs.Common.{◌≡◌, ℕ, true, false, List, [], ◌∷◌, Some, refl, sym, ap, ◌∙◌, subst}
 use Rattle.std.proofs.lemmas.Bool.{false≢true}
 use Rattle.std.specs.Prelude.{slice_get, slice_range}
+use Rattle.sb_lex.specs.declared.kinds.Kind.{Kind}
+use Rattle.sb_lex.specs.declared.kinds.Kind.TheVariants as kind
 use Rattle.sb_lex.specs.declared.kinds.Token.{Token}
 use Rattle.sb_lex.specs.Tokens.{Reading}
 use Rattle.sb_step.specs.declared.parameters.param.Param.{Param}
 use Rattle.sb_step.specs.declared.parameters.param.Param.TheVariants as param
-use Rattle.sb_step.specs.Lexemes.{Lexeme, lexeme_at, is_close}
+use Rattle.sb_step.specs.Lexemes.{Lexeme, lexeme_at, is_value, is_close}
 use Rattle.sb_step.specs.KindTests.{is_keyword}
 use Rattle.sb_step.specs.Params.Parameters.{IsParameter}
 use Rattle.sb_step.specs.Params.Parameters.IsParameter.{value, list, typed}
@@ -16,27 +18,31 @@ use Rattle.sb_step.specs.Params.Readers.{HasNext, ReadsToken, AreAhead, AreInLis
 use Rattle.sb_step.specs.Cursor.{StandsAt, ListBehind}
 use Rattle.sb_step.specs.Forms.{IsTyped}
 use Rattle.sb_step.proofs.ParameterLists.SaidIsParameter.{says_value}
-use Rattle.sb_step.proofs.ParameterLists.ParametersAreRead.{passes, first_has_next}
-use Rattle.sb_step.proofs.Cursors.ParametersArePassed.{value_is_no_keyword}
+use Rattle.sb_step.proofs.ParameterLists.ParametersAreRead.{passes}
 
 -- what a keyword goes on with
-record Argument (p : Param) (rest : List Lexeme) (x y : Lexeme) (ys : List Lexeme) : Type 0 where
-  inner : Param
-  is : p ≡ param.Typed x.text inner
-  says : AreInList (inner ∷ []) ys rest
+pub record Argument (p : Param) (rest : List Lexeme) (x y : Lexeme) (ys : List Lexeme) : Type 0 where
+  pub inner : Param
+  pub is : p ≡ param.Typed x.text inner
+  pub says : AreInList (inner ∷ []) ys rest
 
 -- a parameter, where it begins with a keyword
-abbrev KeywordOn : Param → List Lexeme → List Lexeme → Type 0
+abbrev pub KeywordOn : Param → List Lexeme → List Lexeme → Type 0
 KeywordOn p rest [] = ⊥
 KeywordOn p rest (x ∷ []) = is_keyword x.token.kind ≡ true → ⊥
 KeywordOn p rest (x ∷ (y ∷ ys)) = is_keyword x.token.kind ≡ true → Argument p rest x y ys
+
+value_is_no_keyword : (k : Kind) → is_value k ≡ true → is_keyword k ≡ false
+value_is_no_keyword kind.Keyword v = absurd (false≢true v)
+value_is_no_keyword _ v = refl
 
 no_keyword_on : (p : Param) (rest : List Lexeme) (x : Lexeme) (xs : List Lexeme)
     → is_keyword x.token.kind ≡ false → KeywordOn p rest (x ∷ xs)
 no_keyword_on p rest x [] other = λ named. false≢true (sym other ∙ named)
 no_keyword_on p rest x (y ∷ ys) other = λ named. absurd (false≢true (sym other ∙ named))
 
-keyword_on : {p : Param} {xs rest : List Lexeme} → IsParameter p xs rest → KeywordOn p rest xs
+-- a parameter begins so
+pub keyword_on : {p : Param} {xs rest : List Lexeme} → IsParameter p xs rest → KeywordOn p rest xs
 keyword_on (value {p = p} {x = x} {rest = rest} says) =
     no_keyword_on p rest x rest
     (value_is_no_keyword x.token.kind (says_value x.token.kind x.text p says))
@@ -86,7 +92,7 @@ module _ (bytes : List ℕ) (t : Token) (b : Reading) (b_is : b ≡ behind bytes
   pub parenthesis_next : HasNext b
   parenthesis_next =
       let n = typed_next bytes t ps s named in
-      first_has_next b n.y n.ys (subst (λ r. AreAhead r (n.y ∷ n.ys)) (sym b_is) n.ahead)
+      (n.y.token, (subst (λ r. AreAhead r (n.y ∷ n.ys)) (sym b_is) n.ahead).0)
 
   -- behind it the argument is a list of one
   pub argument_behind : (c : Reading) (o : Token) → ReadsToken b c o
@@ -94,7 +100,7 @@ module _ (bytes : List ℕ) (t : Token) (b : Reading) (b_is : b ≡ behind bytes
       × ListBehind bytes o (p ∷ [])
   argument_behind c o read =
       let n = typed_next bytes t ps s named in
-      let p = passes b c o read n.y n.ys
+      let p = passes read n.y n.ys
       (subst (λ r. AreAhead r (n.y ∷ n.ys)) (sym b_is) n.ahead) in (
         n.inner,
         (n.inner, n.is, refl),
@@ -102,7 +108,7 @@ module _ (bytes : List ℕ) (t : Token) (b : Reading) (b_is : b ≡ behind bytes
           xs = n.ys;
           rest = n.rest;
           ahead = subst (λ i. AreAhead (behind i o) n.ys) (ap (λ r. r.input) b_is)
-              (subst (λ r. AreAhead r n.ys) read.moved p.ahead);
+              (subst (λ r. AreAhead r n.ys) read.moved p.1);
           says = n.says;
         },
       )

@@ -1,12 +1,5 @@
 -- A string is written with doubled apostrophes in one way, and read back from it.
-use Rattle.std.proofs.Common.{◌≡◌, ℕ, suc, ◌+◌, ◌<◌, Bool, true, false, cond, List, [], ◌∷◌, ◌++◌, length, drop, drop-drop, drop-cons, get_or, if◌then◌else◌, refl, sym, ap, ◌∙◌, subst, inl, inr, append_assoc, append-nil}
-use Rattle.std.proofs.Math.Seq.{drop-append_seam}
-use Rattle.std.specs.List.{AllByRecursion, concat}
-use Rattle.std.specs.Prelude.{◌==◌, not, IsTrue}
-use Rattle.sb_lex.specs.Bytes.{apostrophe}
-use Rattle.theory_bytes.specs.Sets.{Repeated}
-use Rattle.sb_lex.specs.Kinds.{StringPiece}
-use Rattle.sb_step.specs.Params.Parameters.{written, doubled}
+use Rattle.sb_step.proofs.Names.{◌≡◌, ℕ, suc, ◌+◌, ◌<◌, Bool, true, false, cond, List, [], ◌∷◌, ◌++◌, length, drop, drop-drop, drop-cons, get_or, if◌then◌else◌, refl, sym, ap, ◌∙◌, subst, inl, inr, append_assoc, append-nil, drop-append_seam, AllByRecursion, concat, ◌==◌, not, IsTrue, apostrophe, Repeated, StringPiece, written, doubled}
 
 -- joined texts are doubled one by one
 pub doubled-append : (s t : List ℕ) → doubled (s ++ t) ≡ doubled s ++ doubled t
@@ -21,13 +14,22 @@ pub record HalfRead (bytes single : List ℕ) (at : ℕ) : Type 0 where
   pub later : List ℕ
   pub behind : drop at bytes ≡ doubled later
 
+-- what is written of a byte begins with it
+abbrev behind_written : ℕ → List ℕ → List ℕ
+behind_written b rest = if b == apostrophe then b ∷ rest else rest
+
+written_begins : (b : ℕ) (rest : List ℕ) → written b ++ rest ≡ b ∷ behind_written b rest
+written_begins b rest = by_case (b == apostrophe)
+  where
+    by_case : (twice : Bool) → cond twice (b ∷ b ∷ []) (b ∷ []) ++ rest
+        ≡ b ∷ cond twice (b ∷ rest) rest
+    by_case true = refl
+    by_case false = refl
+
 written_head : (b : ℕ) (rest : List ℕ) (c : ℕ) (more : List ℕ) → c ∷ more ≡ written b ++ rest
     → c ≡ b
-written_head b rest c more same = by_case (b == apostrophe) same
-  where
-    by_case : (twice : Bool) → c ∷ more ≡ cond twice (b ∷ b ∷ []) (b ∷ []) ++ rest → c ≡ b
-    by_case true same = cc
-    by_case false same = cc
+written_head b rest c more same =
+    let begins : c ∷ more ≡ b ∷ behind_written b rest = same ∙ written_begins b rest in cc
 
 module _ (bytes single : List ℕ) (at : ℕ) (h : HalfRead bytes single at)
     (within : at < length bytes) where
@@ -104,22 +106,9 @@ inside_is_written bytes r =
 -- from what is written the text is known
 
 empty_is_none : (b : ℕ) (s : List ℕ) → [] ≡ doubled (b ∷ s) → ⊥
-empty_is_none b s same = by_case (b == apostrophe) same
-  where
-    by_case : (twice : Bool) → [] ≡ cond twice (b ∷ b ∷ []) (b ∷ []) ++ doubled s → ⊥
-    by_case true same = absurd (cc)
-    by_case false same = absurd (cc)
-
-abbrev behind_written : ℕ → List ℕ → List ℕ
-behind_written b rest = if b == apostrophe then b ∷ rest else rest
-
-written_begins : (b : ℕ) (rest : List ℕ) → written b ++ rest ≡ b ∷ behind_written b rest
-written_begins b rest = by_case (b == apostrophe)
-  where
-    by_case : (twice : Bool) → cond twice (b ∷ b ∷ []) (b ∷ []) ++ rest
-        ≡ b ∷ cond twice (b ∷ rest) rest
-    by_case true = refl
-    by_case false = refl
+empty_is_none b s same =
+    let begins : [] ≡ b ∷ behind_written b (doubled s) = same ∙ written_begins b (doubled s) in
+    absurd (cc)
 
 -- two texts that are doubled alike are one
 pub doubled_once : (s t : List ℕ) → doubled s ≡ doubled t → s ≡ t

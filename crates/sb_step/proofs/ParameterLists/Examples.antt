@@ -1,12 +1,8 @@
 -- A small parameter list, what it says, and what it does not say. Each is found by computing.
-use Rattle.std.proofs.Common.{List, [], ◌∷◌, length, refl, ap}
-use Rattle.std.specs.Prelude.{codes}
+use Rattle.sb_step.proofs.Names.{List, [], ◌∷◌, length, refl, ap, codes, Param, Lexeme, doubled, Encloses, AreParameters}
 use Rattle.sb_lex.specs.declared.kinds.Kind.TheVariants as kind
 use Rattle.sb_lex.specs.declared.kinds.Mark.TheVariants as mark
-use Rattle.sb_step.specs.declared.parameters.param.Param.{Param}
 use Rattle.sb_step.specs.declared.parameters.param.Param.TheVariants as param
-use Rattle.sb_step.specs.Lexemes.{Lexeme}
-use Rattle.sb_step.specs.Params.Parameters.{doubled, Encloses, AreParameters}
 use Rattle.sb_step.specs.Params.Parameters.IsParameter.{value, list, typed}
 use Rattle.sb_step.specs.Params.Parameters.AreParameters.{empty, some}
 use Rattle.sb_step.specs.Params.Parameters.AreFurther.{last, more}

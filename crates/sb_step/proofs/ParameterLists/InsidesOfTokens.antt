@@ -1,19 +1,11 @@
 -- What the inside of a string, an enumeration or a binary says is what its token says.
-use Rattle.std.proofs.Common.{◌≡◌, ℕ, ◌≤◌, List, [], ◌∷◌, ◌++◌, length, refl, sym, ap, ◌∙◌, subst, length-append, arith}
-use Rattle.std.specs.Prelude.{slice_range}
+use Rattle.sb_step.proofs.Names.{◌≡◌, ℕ, ◌≤◌, List, [], ◌∷◌, ◌++◌, length, refl, sym, ap, ◌∙◌, subst, length-append, arith, slice_range, Token, Kind, Text, Repeated, StringPiece, Letters, HexDigits, IsOf, IsToken, inside-between, around, Param, doubled, Encloses}
 use Rattle.sb_lex.specs.Bytes as byte
-use Rattle.sb_lex.specs.declared.kinds.Token.{Token}
-use Rattle.sb_lex.specs.declared.kinds.Kind.{Kind}
 use Rattle.sb_lex.specs.declared.kinds.Kind.TheVariants as kind
-use Rattle.theory_bytes.specs.Sets.{Text, ◌⋅◌, Repeated}
-use Rattle.sb_lex.specs.Kinds.{StringPiece, Letters, HexDigits, IsOf}
-use Rattle.sb_lex.specs.Tokens.{IsToken}
+use Rattle.theory_bytes.specs.Sets.{◌⋅◌}
 use Rattle.theory_bytes.specs.Insides.{inside_of}
-use Rattle.theory_bytes.proofs.InsidesAreBetween.{inside-between}
-use Rattle.theory_bytes.proofs.JoinedHasParts.{around}
-use Rattle.sb_step.specs.declared.parameters.param.Param.{Param}
 use Rattle.sb_step.specs.declared.parameters.param.Param.TheVariants as param
-use Rattle.sb_step.specs.Params.Parameters.{doubled, Encloses, Says}
+use Rattle.sb_step.specs.Params.Parameters.{Says}
 use Rattle.sb_step.proofs.ParameterLists.DoubledApostrophes.{IsWritten, inside_is_written}
 
 -- the bytes of a token
@@ -39,7 +31,7 @@ enclosed q P text t =
       is = subst P same a.is;
     }
 
-module _ (input : List ℕ) (t : Token) (token : IsToken input t) where
+module _ {input : List ℕ} {t : Token} (token : IsToken input t) where
   -- a token that stands between two equal marks
   enclosed_is : (k : Kind) (q : ℕ) (P : List ℕ → Type 0)
       → ((xs : List ℕ) → IsOf k xs → (Text (q ∷ []) ⋅ P ⋅ Text (q ∷ [])) xs) → t.kind ≡ k
@@ -62,9 +54,9 @@ module _ (input : List ℕ) (t : Token) (token : IsToken input t) where
   binary_is is = enclosed_is kind.Binary byte.quote HexDigits (λ xs of. of) is
 
   -- the inside of a string is some text with its apostrophes doubled
-  pub string_is_written : (inside : List ℕ) → t.kind ≡ kind.Str
+  pub string_is_written : {inside : List ℕ} → t.kind ≡ kind.Str
       → inside ≡ inside_of (text_of input t) → IsWritten inside
-  string_is_written inside is same =
+  string_is_written is same =
       subst IsWritten (sym same) (inside_is_written _ (string_is is).is)
 
   -- a token says what its inside says
@@ -78,25 +70,25 @@ module _ (input : List ℕ) (t : Token) (token : IsToken input t) where
       enclosed.whole))
 
   -- a string says its inside with each doubled apostrophe once
-  pub says_string : (s inside : List ℕ) → t.kind ≡ kind.Str
+  pub says_string : (s : List ℕ) {inside : List ℕ} → t.kind ≡ kind.Str
       → inside ≡ inside_of (text_of input t) → inside ≡ doubled s
       → Says t.kind (text_of input t) (param.Str s)
-  says_string s inside is same single =
+  says_string s {inside = inside} is same single =
       says_inside kind.Str byte.apostrophe (Repeated StringPiece) (param.Str s) (doubled s) inside
       (λ e. (s, e, refl)) is (string_is is) same single
 
   -- an enumeration says its inside
-  pub says_enumeration : (s inside : List ℕ) → t.kind ≡ kind.Enumeration
+  pub says_enumeration : (s : List ℕ) {inside : List ℕ} → t.kind ≡ kind.Enumeration
       → inside ≡ inside_of (text_of input t) → s ≡ inside
       → Says t.kind (text_of input t) (param.Enumeration s)
-  says_enumeration s inside is same copied =
+  says_enumeration s {inside = inside} is same copied =
       says_inside kind.Enumeration byte.point Letters (param.Enumeration s) s inside
       (λ e. (s, e, refl)) is (enumeration_is is) same (sym copied)
 
   -- a binary says its inside
-  pub says_binary : (s inside : List ℕ) → t.kind ≡ kind.Binary
+  pub says_binary : (s : List ℕ) {inside : List ℕ} → t.kind ≡ kind.Binary
       → inside ≡ inside_of (text_of input t) → s ≡ inside
       → Says t.kind (text_of input t) (param.Binary s)
-  says_binary s inside is same copied =
+  says_binary s {inside = inside} is same copied =
       says_inside kind.Binary byte.quote HexDigits (param.Binary s) s inside
       (λ e. (s, e, refl)) is (binary_is is) same (sym copied)

@@ -1,35 +1,20 @@
 -- Each parameter list of an input says some parameters.
-use Rattle.std.proofs.Common.{◌≡◌, ℕ, true, List, [], ◌∷◌, ◌++◌, Some, refl, sym, ap, subst}
-use Rattle.std.specs.Prelude.{codes, nat_eq}
-use Rattle.std.specs.Map.{lookup}
-use Rattle.std.proofs.lemmas.Bool.{false≢true}
+use Rattle.sb_step.proofs.Names.{◌≡◌, ℕ, true, List, [], ◌∷◌, ◌++◌, Some, None, refl, sym, ap, subst, codes, nat_eq, lookup, false≢true, Kind, Token, IsToken, AreTokensFrom, Reading, Form, Record, Param, Lexeme, lexemes, is_value, Rule, File, Parameter, ParameterList, MoreParameters, IsFile, Encloses, IsParameter, AreParameters, AreFurther, HoldsParameters, HoldsByForm, EachInstanceHasParameters, behind, AreAhead, reader_at}
 use Rattle.theory_bytes.specs.Insides.{inside_of}
-use Rattle.sb_lex.specs.declared.kinds.Kind.{Kind}
 use Rattle.sb_lex.specs.declared.kinds.Kind.TheVariants as kind
 use Rattle.sb_lex.specs.declared.kinds.Mark.TheVariants as mark
-use Rattle.sb_lex.specs.declared.kinds.Token.{Token}
-use Rattle.sb_lex.specs.Tokens.{IsToken, Reading}
-use Rattle.sb_step.specs.declared.step_file.records.Form.{Form}
 use Rattle.sb_step.specs.declared.step_file.records.Form.TheVariants as form
-use Rattle.sb_step.specs.declared.step_file.records.Record.{Record}
-use Rattle.sb_step.specs.declared.parameters.param.Param.{Param}
 use Rattle.sb_step.specs.declared.parameters.param.Param.TheVariants as param
-use Rattle.sb_step.specs.Lexemes.{Lexeme, is_value}
-use Rattle.sb_step.specs.Grammar.{File, Parameter, ParameterList, MoreParameters}
 use Rattle.sb_step.specs.Grammar.Parameter.{value as one, list as nested, typed as named}
 use Rattle.sb_step.specs.Grammar.ParameterList.{empty as none, some as few}
 use Rattle.sb_step.specs.Grammar.MoreParameters.{last as ends_here, more as further}
-use Rattle.sb_step.specs.Faults.{IsFile}
-use Rattle.sb_step.specs.Params.Parameters.{Encloses, Says, IsParameter, AreParameters, AreFurther, HoldsByForm, EachInstanceHasParameters}
+use Rattle.sb_step.specs.Params.Parameters.{Says}
 use Rattle.sb_step.specs.Params.Parameters.IsParameter.{value, list, typed}
 use Rattle.sb_step.specs.Params.Parameters.AreParameters.{empty, some}
 use Rattle.sb_step.specs.Params.Parameters.AreFurther.{last, more}
-use Rattle.sb_step.specs.Params.Readers.{behind, AreAhead}
-use Rattle.sb_step.specs.Params.ParamsAnswers.{reader_at}
 use Rattle.sb_step.proofs.ParameterLists.DoubledApostrophes.{inside_is_written}
 use Rattle.sb_step.proofs.ParameterLists.InsidesOfTokens.{text_of, string_is, enumeration_is, binary_is}
-use Rattle.sb_step.proofs.Records.RecordsStand.{instance_stands, reads_on}
-use Rattle.sb_step.proofs.ParameterLists.ParametersOfAnInstance.{tokens_ahead, holds_said}
+use Rattle.sb_step.proofs.Records.RecordsStand.{SimpleStands, instance_stands, reads_on}
 
 -- one token
 
@@ -38,94 +23,95 @@ value_says : (input : List ℕ) (t : Token) → IsToken input t → (k : Kind) �
 value_says input t token kind.Integer is v = (param.Int (text_of input t), refl)
 value_says input t token kind.Real is v = (param.Real (text_of input t), refl)
 value_says input t token kind.Str is v =
-    let e = string_is input t token is in
+    let e = string_is token is in
     let w = inside_is_written (inside_of (text_of input t)) e.is in (
       param.Str w.0,
       (w.0, subst (λ i. Encloses (codes "'") i (text_of input t)) w.1 e.whole, refl),
     )
 value_says input t token kind.Enumeration is v =
-    let e = enumeration_is input t token is in
+    let e = enumeration_is token is in
     (param.Enumeration (inside_of (text_of input t)), (inside_of (text_of input t), e.whole, refl))
 value_says input t token kind.Binary is v =
-    let e = binary_is input t token is in
+    let e = binary_is token is in
     (param.Binary (inside_of (text_of input t)), (inside_of (text_of input t), e.whole, refl))
 value_says input t token (kind.Name n) is v = (param.Reference n, refl)
 value_says input t token (kind.Mark mark.Dollar) is v = (param.Null, refl)
 value_says input t token (kind.Mark mark.Asterisk) is v = (param.Derived, refl)
 value_says input t token _ is v = absurd (false≢true v)
 
--- a parameter, and a reader that stands behind it
-record SomeParameter (xs rest : List Lexeme) : Type 0 where
-  p : Param
-  is : IsParameter p xs rest
-  at : Reading
-  ahead : AreAhead at rest
-
--- parameters of a list, and a reader behind it
-pub record SomeParameters (xs rest : List Lexeme) : Type 0 where
-  pub ps : List Param
-  pub are : AreParameters ps xs rest
-  pub at : Reading
-  pub ahead : AreAhead at rest
-
-record SomeFurther (xs rest : List Lexeme) : Type 0 where
-  ps : List Param
-  are : AreFurther ps xs rest
+-- the rule describes the list for some value, and a reader stands behind it
+record Said {A : Type 0} (P : A → Rule) (xs rest : List Lexeme) : Type 0 where
+  says : A
+  is : P says xs rest
   at : Reading
   ahead : AreAhead at rest
 
 mutual
   parameter_says : {xs rest : List Lexeme} → Parameter xs rest → (at : Reading) → AreAhead at xs
-      → SomeParameter xs rest
+      → Said IsParameter xs rest
   parameter_says (one {x = x} v) at ahead =
       let s = value_says at.input x.token ahead.0.token x.token.kind refl v in
-      record {
-        p = s.0;
-        is = value
-            (subst (λ text. Says x.token.kind text s.0) (sym (ap (λ y. y.text) ahead.1)) s.1);
-        at = behind at.input x.token;
-        ahead = ahead.2;
-      }
+      let is = subst (λ text. Says x.token.kind text s.0) (sym (ap (λ y. y.text) ahead.1)) s.1 in
+      record { says = s.0; is = value is; at = behind at.input x.token; ahead = ahead.2 }
   parameter_says (nested l) at ahead =
       let s = list_says l at ahead in
-      record { p = param.List s.ps; is = list s.are; at = s.at; ahead = s.ahead }
+      record { says = param.List s.says; is = list s.is; at = s.at; ahead = s.ahead }
   parameter_says (named {keyword = x} {open_mark = y} {close_mark = z} k o q c) at ahead =
       let s = parameter_says q (behind at.input y.token) ahead.2.2 in
       record {
-        p = param.Typed x.text s.p;
+        says = param.Typed x.text s.says;
         is = typed k o s.is c;
         at = behind s.at.input z.token;
         ahead = s.ahead.2;
       }
 
   -- each list says some
-  pub list_says : {xs rest : List Lexeme} → ParameterList xs rest → (at : Reading)
-      → AreAhead at xs → SomeParameters xs rest
-  list_says (none {close_mark = z} o c) at ahead = record {
-    ps = [];
-    are = empty o c;
-    at = behind at.input z.token;
-    ahead = ahead.2.2;
-  }
+  list_says : {xs rest : List Lexeme} → ParameterList xs rest → (at : Reading)
+      → AreAhead at xs → Said AreParameters xs rest
+  list_says (none {close_mark = z} o c) at ahead =
+      record { says = []; is = empty o c; at = behind at.input z.token; ahead = ahead.2.2 }
   list_says (few {open_mark = y} o q m) at ahead =
       let s = parameter_says q (behind at.input y.token) ahead.2 in
       let l = further_says m s.at s.ahead in
-      record { ps = s.p ∷ l.ps; are = some o s.is l.are; at = l.at; ahead = l.ahead }
+      record { says = s.says ∷ l.says; is = some o s.is l.is; at = l.at; ahead = l.ahead }
 
   further_says : {xs rest : List Lexeme} → MoreParameters xs rest → (at : Reading)
-      → AreAhead at xs → SomeFurther xs rest
-  further_says (ends_here {close_mark = z} c) at ahead = record {
-    ps = [];
-    are = last c;
-    at = behind at.input z.token;
-    ahead = ahead.2;
-  }
+      → AreAhead at xs → Said AreFurther xs rest
+  further_says (ends_here {close_mark = z} c) at ahead =
+      record { says = []; is = last c; at = behind at.input z.token; ahead = ahead.2 }
   further_says (further {comma = y} c q m) at ahead =
       let s = parameter_says q (behind at.input y.token) ahead.2 in
       let l = further_says m s.at s.ahead in
-      record { ps = s.p ∷ l.ps; are = more c s.is l.are; at = l.at; ahead = l.ahead }
+      record { says = s.says ∷ l.says; is = more c s.is l.is; at = l.at; ahead = l.ahead }
 
 -- an instance
+
+-- the lexemes of the tokens from a place on are those that a reader stands before there
+pub tokens_ahead : (input : List ℕ) (from : ℕ) (tokens : List Token)
+    → AreTokensFrom input from tokens None → AreAhead (reader_at input from) (lexemes input tokens)
+tokens_ahead input from [] are = are
+tokens_ahead input from (t ∷ tokens) are =
+    (are.0, refl, tokens_ahead input t.end tokens are.1)
+
+-- a record holds what its list says
+pub holds_said : (input : List ℕ) (r : Record) (s : SimpleStands input r) (ps : List Param)
+    → AreParameters ps (lexemes input (s.inside ++ s.semicolon ∷ s.after))
+    (lexemes input (s.semicolon ∷ s.after)) → HoldsParameters input r ps
+holds_said input r s ps says = record {
+  before = s.before;
+  from = s.keyword ∷ (s.inside ++ s.semicolon ∷ s.after);
+  are = s.are;
+  rest = lexemes input s.after;
+  says = record {
+    middle = lexemes input (s.inside ++ s.semicolon ∷ s.after);
+    first = (s.begins, refl);
+    second = record {
+      middle = lexemes input (s.semicolon ∷ s.after);
+      first = says;
+      second = ((s.closes, s.ends), refl);
+    };
+  };
+}
 
 parameters_by : (input : List ℕ) (f : File) (is : IsFile input f) (n : ℕ) (r : Record)
     (found : lookup (nat_eq n) f.instances ≡ Some r) (its : Form) → r.form ≡ its
@@ -135,7 +121,7 @@ parameters_by input f is n r found (form.Simple end) simple =
     let o = reads_on input r end simple s in
     let said = list_says s.list (reader_at input end)
     (tokens_ahead input end (s.inside ++ s.semicolon ∷ s.after) o.are) in
-    (said.ps, holds_said input r s said.ps said.are)
+    (said.says, holds_said input r s said.says said.is)
 parameters_by input f is n r found form.Complex complex = ([], refl)
 
 -- each instance of a file has parameters

@@ -1,15 +1,11 @@
 -- What says parameters is a parameter list of the grammar, and says no other parameters.
-use Rattle.std.proofs.Common.{◌≡◌, ℕ, true, List, refl}
-use Rattle.sb_lex.specs.declared.kinds.Kind.{Kind}
+use Rattle.sb_step.proofs.Names.{◌≡◌, ℕ, true, List, refl, Kind, Param, Lexeme, is_value, Parameter, ParameterList, MoreParameters, IsParameter, AreParameters, AreFurther}
 use Rattle.sb_lex.specs.declared.kinds.Kind.TheVariants as kind
 use Rattle.sb_lex.specs.declared.kinds.Mark.TheVariants as mark
-use Rattle.sb_step.specs.declared.parameters.param.Param.{Param}
-use Rattle.sb_step.specs.Lexemes.{Lexeme, is_value}
-use Rattle.sb_step.specs.Grammar.{Parameter, ParameterList, MoreParameters}
 use Rattle.sb_step.specs.Grammar.Parameter.{value as one, list as nested, typed as named}
 use Rattle.sb_step.specs.Grammar.ParameterList.{empty as none, some as few}
 use Rattle.sb_step.specs.Grammar.MoreParameters.{last as end, more as further}
-use Rattle.sb_step.specs.Params.Parameters.{Says, IsParameter, AreParameters, AreFurther}
+use Rattle.sb_step.specs.Params.Parameters.{Says}
 use Rattle.sb_step.specs.Params.Parameters.IsParameter.{value, list, typed}
 use Rattle.sb_step.specs.Params.Parameters.AreParameters.{empty, some}
 use Rattle.sb_step.specs.Params.Parameters.AreFurther.{last, more}

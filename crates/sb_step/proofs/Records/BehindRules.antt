@@ -1,11 +1,7 @@
 -- What holds of a list of lexemes and with it of each tail holds behind a rule too.
-use Rattle.std.proofs.Common.{ℕ, List, [], ◌∷◌, ◌++◌, sym, subst, inl, inr}
-use Rattle.std.specs.List.{AllByRecursion}
-use Rattle.sb_step.specs.declared.step_file.records.Record.{Record}
-use Rattle.sb_step.specs.Lexemes.{Lexeme}
-use Rattle.sb_step.specs.Rules.{Rule, One, ◌⋅◌, Many, Each, SomeOf}
-use Rattle.sb_step.specs.Rules.Many.{none, more}
-use Rattle.sb_step.specs.Grammar.{File, Parameter, ParameterList, MoreParameters, IsSimple, InnerRecord, IsComplex, IsRecord, IsInstance, Sections}
+use Rattle.sb_step.proofs.Names.{ℕ, List, [], ◌∷◌, sym, subst, inl, inr, Stands, Record, Lexeme, Rule, One, Many, Each, SomeOf, none, File, Parameter, ParameterList, MoreParameters, IsSimple, InnerRecord, IsComplex, IsRecord, IsInstance, Sections}
+use Rattle.sb_step.specs.Rules.{◌⋅◌}
+use Rattle.sb_step.specs.Rules.Many.{more}
 use Rattle.sb_step.specs.Grammar.Parameter.{value, list, typed}
 use Rattle.sb_step.specs.Grammar.ParameterList.{empty, some}
 use Rattle.sb_step.specs.Grammar.MoreParameters.{last, more as further}
@@ -19,8 +15,8 @@ abbrev pub Leaves : (List Lexeme → Type 0) → Rule → Type 0
 Leaves Holds P = (xs rest : List Lexeme) → P xs rest → Holds xs → Holds rest
 
 -- where an item of a list of records stands
-pub record ItemPlace {A : Type 0} (Holds : List Lexeme → Type 0) (P : A
-    → Rule) (a : A) : Type 0 where
+pub record ItemPlace {A : Type 0} (Holds : List Lexeme → Type 0) (P : A → Rule) (a : A)
+    : Type 0 where
   pub at : List Lexeme
   pub rest : List Lexeme
   pub is : P a at rest
@@ -90,86 +86,53 @@ module _ (Holds : List Lexeme → Type 0) (tail : HoldsOfTails Holds) where
   each_leaves P p (a ∷ items) xs rest each h =
       each_leaves P p items each.middle rest each.second (p a xs each.middle each.first h)
 
-  -- what follows for one item follows for each
-  pub each_gives : {A : Type 0} (P : A → Rule) → ((a : A) → Leaves Holds (P a))
-      → (Gives : A → Type 0)
-      → ((a : A) (xs rest : List Lexeme) → P a xs rest → Holds xs → Gives a) → (items : List A)
-      → (xs rest : List Lexeme) → Each P items xs rest → Holds xs → AllByRecursion Gives items
-  each_gives P p Gives gives [] xs rest each h = tt
-  each_gives P p Gives gives (a ∷ items) xs rest each h = (
-    gives a xs each.middle each.first h,
-    each_gives P p Gives gives items each.middle rest each.second
-        (p a xs each.middle each.first h),
-  )
+  -- each of the items stands somewhere
+  pub item_place : {A : Type 0} (P : A → Rule) → ((a : A) → Leaves Holds (P a)) → (items : List A)
+      → (a : A) → Stands a items → (xs rest : List Lexeme) → Each P items xs rest → Holds xs
+      → ItemPlace Holds P a
+  item_place P p [] a stands xs rest each h = absurd stands
+  item_place P p (b ∷ items) a (inl same) xs rest each h = record {
+    at = xs;
+    rest = each.middle;
+    is = subst (λ c. P c xs each.middle) (sym same) each.first;
+    holds = h;
+  }
+  item_place P p (b ∷ items) a (inr later) xs rest each h =
+      item_place P p items a later each.middle rest each.second
+      (p b xs each.middle each.first h)
 
-  -- the entities of a header are one of each
-  pub entities_each : (items : List Record) (xs rest : List Lexeme) → SomeOf IsSimple items xs rest
+  -- behind one lexeme, before the rule that follows it
+  next : {P : Lexeme → Type 0} {Q : Rule} {xs rest : List Lexeme} → (One P ⋅ Q) xs rest → Holds xs
+      → (ys : List Lexeme) × Q ys rest × Holds ys
+  next {P = P} {xs = xs} j h = (j.middle, j.second, one_leaves P xs j.middle j.first h)
+
+  entities_each : (items : List Record) (xs rest : List Lexeme) → SomeOf IsSimple items xs rest
       → Each IsSimple items xs rest
   entities_each [] xs rest each = absurd each
   entities_each (r ∷ items) xs rest each = each
 
-  -- where the item stands, behind those before it
-  pub item_place : {A : Type 0} (P : A → Rule) → ((a : A) → Leaves Holds (P a))
-      → (front back : List A) (a : A) (xs rest : List Lexeme) → Each P (front ++ a ∷ back) xs rest
-      → Holds xs → ItemPlace Holds P a
-  item_place P p [] back a xs rest each h = record {
-    at = xs;
-    rest = each.middle;
-    is = each.first;
-    holds = h;
-  }
-  item_place P p (b ∷ front) back a xs rest each h =
-      item_place P p front back a each.middle rest each.second
-      (p b xs each.middle each.first h)
+  module _ (f : File) (xs : List Lexeme) (s : Sections f xs []) (h : Holds xs) where
+    -- where an entity of a text stands
+    pub entity_place : (r : Record) → Stands r f.header → ItemPlace Holds IsSimple r
+    entity_place r stands =
+        let a = next s h in
+        let b = next a.1 a.2 in
+        let c = next b.1 b.2 in
+        let d = next c.1 c.2 in
+        item_place IsSimple simple_leaves f.header r stands d.0 d.1.middle
+        (entities_each f.header d.0 d.1.middle d.1.first) d.2
 
-  -- a text's entities and its instances, where they begin
-  pub record Parts (f : File) : Type 0 where
-    pub header_at : List Lexeme
-    pub header_rest : List Lexeme
-    pub header : Each IsSimple f.header header_at header_rest
-    pub header_holds : Holds header_at
-    pub instances_at : List Lexeme
-    pub instances_rest : List Lexeme
-    pub instances : Each IsInstance f.instances instances_at instances_rest
-    pub instances_hold : Holds instances_at
-
-  -- they begin so
-  pub parts_of : (f : File) (xs : List Lexeme) → Sections f xs [] → Holds xs → Parts f
-  parts_of f xs s h =
-      let begin_semicolon = s.second in
-      let header_word = begin_semicolon.second in
-      let header_semicolon = header_word.second in
-      let entities = header_semicolon.second in
-      let header_end = entities.second in
-      let end_semicolon = header_end.second in
-      let data_word = end_semicolon.second in
-      let data_semicolon = data_word.second in
-      let instances = data_semicolon.second in
-      let each_entity = entities_each f.header header_semicolon.middle entities.middle
-      entities.first in
-      let at_begin_semicolon = one_leaves _ xs s.middle s.first h in
-      let at_header_word = one_leaves _ s.middle begin_semicolon.middle begin_semicolon.first
-      at_begin_semicolon in
-      let at_header_semicolon = one_leaves _ begin_semicolon.middle header_word.middle
-      header_word.first at_header_word in
-      let at_entities = one_leaves _ header_word.middle header_semicolon.middle
-      header_semicolon.first at_header_semicolon in
-      let at_header_end = each_leaves IsSimple simple_leaves f.header header_semicolon.middle
-      entities.middle each_entity at_entities in
-      let at_end_semicolon = one_leaves _ entities.middle header_end.middle header_end.first
-      at_header_end in
-      let at_data_word = one_leaves _ header_end.middle end_semicolon.middle end_semicolon.first
-      at_end_semicolon in
-      let at_data_semicolon = one_leaves _ end_semicolon.middle data_word.middle data_word.first
-      at_data_word in
-      record {
-        header_at = header_semicolon.middle;
-        header_rest = entities.middle;
-        header = each_entity;
-        header_holds = at_entities;
-        instances_at = data_semicolon.middle;
-        instances_rest = instances.middle;
-        instances = instances.first;
-        instances_hold = one_leaves _ data_word.middle data_semicolon.middle data_semicolon.first
-            at_data_semicolon;
-      }
+    -- where one of its instances does
+    pub instance_place : (i : ℕ × Record) → Stands i f.instances → ItemPlace Holds IsInstance i
+    instance_place i stands =
+        let a = next s h in
+        let b = next a.1 a.2 in
+        let c = next b.1 b.2 in
+        let d = next c.1 c.2 in
+        let entities = each_leaves IsSimple simple_leaves f.header d.0 d.1.middle
+        (entities_each f.header d.0 d.1.middle d.1.first) d.2 in
+        let e = next d.1.second entities in
+        let k = next e.1 e.2 in
+        let l = next k.1 k.2 in
+        let m = next l.1 l.2 in
+        item_place IsInstance instance_leaves f.instances i stands m.0 m.1.middle m.1.first m.2

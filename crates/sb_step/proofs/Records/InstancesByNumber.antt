@@ -1,19 +1,7 @@
 -- The table finds each instance by its number, and no other; it has a number as often as the file.
-use Rattle.std.proofs.Common.{◌≡◌, ℕ, ◌+◌, ◌-◌, ◌%◌, ◌<◌, ◌≤◌, Bool, true, eqb, cond, List, [], ◌∷◌, ◌++◌, map, length, take, zero, suc, Some, None, refl, sym, ap, ◌∙◌, subst, ⊎_elim, get_or, arith}
-use Rattle.std.specs.Prelude.{◌≢◌, nat_eq, option_map}
-use Rattle.std.specs.List.{All, count_by}
-use Rattle.std.specs.Map.{lookup}
-use Rattle.std.proofs.Math.Nat.{mod-eq_of_lt}
-use Rattle.std.proofs.lemmas.Bool.{cases_Bool, eqb-true, eq-eqb, cases_lt, cond-true, cond-false}
-use Rattle.std.proofs.lemmas.List.{get_or-map, length-map}
-use Rattle.std.proofs.lemmas.List.Sorted.{sum_by-IsPermutation, length_permutation, All-permutation}
-use Rattle.sb_step.specs.declared.step_file.records.Record.{Record}
+use Rattle.sb_step.proofs.Names.{◌⊎◌, ◌≡◌, ℕ, ◌+◌, ◌-◌, ◌%◌, ◌<◌, ◌≤◌, Bool, eqb, cond, List, [], ◌∷◌, ◌++◌, map, length, take, zero, suc, Some, None, refl, sym, ap, ◌∙◌, subst, ⊎_elim, get_or, arith, ◌≢◌, nat_eq, option_map, All, count_by, lookup, mod-eq_of_lt, cases_Bool, eqb-true, eq-eqb, cases_lt, cond-true, cond-false, get_or-map, length-map, sum_by-IsPermutation, length_permutation, All-permutation, Record, Place, Row, numbers_of, uses, IsUsedTwice, AreApart, IsLeastTwice, IsGreatestUsed, IsGreatest, place_at, row_of, numbered_from, IsTable, AreUnlike, IsFirstTwice, IsLast, IsRowOf, true}
 use Rattle.sb_step.specs.declared.step_file.records.Form.TheVariants as form
-use Rattle.sb_step.specs.declared.step_file.table.Place.{Place}
-use Rattle.sb_step.specs.declared.step_file.table.Row.{Row}
-use Rattle.sb_step.specs.Numbers.{numbers_of, uses, IsUsedTwice, AreApart, IsLeastTwice, IsGreatestUsed, IsGreatest}
-use Rattle.sb_step.specs.Records.Table.{place_of, place_at}
-use Rattle.sb_step.specs.Records.Rows.{row_of, numbered_from, IsTable, AreUnlike, IsFirstTwice, IsLast, IsRowOf}
+use Rattle.sb_step.specs.Records.Table.{place_of}
 use Rattle.sb_step.proofs.Records.PlacesOfItems.{count_by-cons, passes_at, passes_at_two, place_counts, two_places_count}
 
 -- numbers and rows

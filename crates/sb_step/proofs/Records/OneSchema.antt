@@ -1,16 +1,8 @@
 -- What is known of the schema stays right with an entity more.
-use Rattle.std.proofs.Common.{◌≡◌, ℕ, ◌≤◌, true, false, cond, List, [], ◌∷◌, ◌++◌, length, refl, sym, ap, ◌∙◌, subst, ⊎_elim, arith, length-append, append-nil}
-use Rattle.std.specs.Prelude.{codes}
-use Rattle.std.specs.List.{filter}
-use Rattle.std.proofs.lemmas.Bool.{cases_Bool, cond-true, cond-false}
-use Rattle.std.proofs.lemmas.List.Elements.{filter-append}
-use Rattle.sb_step.specs.declared.step_file.records.Form.{Form}
+use Rattle.sb_step.proofs.Names.{◌≡◌, ℕ, true, false, cond, List, [], ◌∷◌, ◌++◌, length, refl, sym, ap, ◌∙◌, subst, ⊎_elim, arith, length-append, append-nil, codes, filter, cases_Bool, cond-true, cond-false, filter-append, Form, Record, Schema, is_spelled, is_schema, one_more, with_entity_by, with_entity, SchemaSays}
 use Rattle.sb_step.specs.declared.step_file.records.Form.TheVariants as form
-use Rattle.sb_step.specs.declared.step_file.records.Record.{Record}
-use Rattle.sb_step.specs.declared.step_file.schema.Schema.{Schema}
 use Rattle.sb_step.specs.declared.step_file.schema.Schema.TheVariants as schema
-use Rattle.sb_step.specs.Records.Schema.{is_spelled, is_schema}
-use Rattle.sb_step.specs.Records.SchemaReading.{one_more, with_entity_by, with_entity, Says, SchemaSays}
+use Rattle.sb_step.specs.Records.SchemaReading.{Says}
 
 -- one found more
 one_found_more : (found : List Record) (s : Schema) (r : Record) (end : ℕ)
@@ -66,15 +58,3 @@ module _ (input : List ℕ) (before : List Record) where
   pub says_more : (s : Schema) (r : Record) → SchemaSays input before s
       → SchemaSays input (before ++ r ∷ []) (with_entity input s r)
   says_more s r says = by_form s r r.form refl says
-
--- where there are none or several, none is the only one
-pub none_is_only : (input : List ℕ) (header : List Record) (r : Record)
-    → filter (is_schema input) header ≡ r ∷ []
-    → (SchemaSays input header schema.Missing → ⊥) × (SchemaSays input header schema.Several → ⊥)
-none_is_only input header r only =
-    let one : length (filter (is_schema input) header) ≡ 1 = ap length only in (
-      λ (missing : filter (is_schema input) header ≡ []).
-          let zero_ : length (filter (is_schema input) header) ≡ 0 = ap length missing in
-          omega (arith, one, zero_),
-      λ (several : 2 ≤ length (filter (is_schema input) header)). omega (arith, one, several),
-    )

@@ -1,8 +1,5 @@
 -- A test counts the places where it passes: one, or two of them.
-use Rattle.std.proofs.Common.{◌≡◌, ℕ, ◌+◌, ◌<◌, ◌≤◌, Bool, true, false, cond, List, [], ◌∷◌, length, zero, suc, ap, ◌∙◌, ⊎_elim, get_or, arith}
-use Rattle.std.specs.List.{count_by}
-use Rattle.std.proofs.lemmas.Bool.{cases_Bool}
-use Rattle.std.proofs.lemmas.List.Sums.{sum_by-cons}
+use Rattle.sb_step.proofs.Names.{◌≡◌, ℕ, ◌+◌, ◌<◌, ◌≤◌, Bool, true, false, cond, List, [], ◌∷◌, length, zero, suc, ap, ◌∙◌, ⊎_elim, get_or, arith, count_by, cases_Bool, sum_by-cons}
 
 module _ {X : Type 0} (p : X → Bool) where
   -- one more where the first item passes

@@ -1,15 +1,7 @@
 -- A place tells what its record does: the form, and the keyword.
-use Rattle.std.proofs.Common.{◌≡◌, ℕ, List, Option, Some, None, refl, ap, ◌∙◌, arith}
-use Rattle.std.specs.Prelude.{nat_lt, nat_eq, option_map}
-use Rattle.std.specs.Map.{lookup}
-use Rattle.std.proofs.lemmas.Bool.{cond-false, le-ltb}
-use Rattle.std.proofs.lemmas.Option.{same_Some, none-some}
-use Rattle.sb_step.specs.declared.step_file.records.Form.{Form}
+use Rattle.sb_step.proofs.Names.{◌≡◌, ℕ, List, Option, Some, None, refl, ap, ◌∙◌, arith, nat_lt, nat_eq, option_map, lookup, cond-false, le-ltb, same_Some, none-some, Form, Record, Place, place_by, form_of, place_at, PlaceLies, RecordLies, keyword_by}
 use Rattle.sb_step.specs.declared.step_file.records.Form.TheVariants as form
-use Rattle.sb_step.specs.declared.step_file.records.Record.{Record}
-use Rattle.sb_step.specs.declared.step_file.table.Place.{Place}
-use Rattle.sb_step.specs.Records.Table.{place_by, place_of, form_of, place_at, PlaceLies}
-use Rattle.sb_step.specs.Records.Spans.{RecordLies, keyword_by}
+use Rattle.sb_step.specs.Records.Table.{place_of}
 
 -- a place that is found is that of an instance
 pub record IsPlaceOf (instances : List (ℕ × Record)) (n : ℕ) (p : Place) : Type 0 where

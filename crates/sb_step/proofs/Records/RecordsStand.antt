@@ -1,20 +1,9 @@
 -- Where a simple record of a file stands among the tokens of its input.
-use Rattle.std.proofs.Common.{◌≡◌, ℕ, ◌≤◌, Bool, List, [], ◌∷◌, ◌++◌, length, Option, Some, None, refl, sym, ap, ◌∙◌, subst, inl, inr, ⊎_elim, append_assoc}
-use Rattle.std.specs.Map.{lookup}
-use Rattle.std.proofs.lemmas.Option.{same_Some, none-some}
+use Rattle.sb_step.proofs.Names.{◌≡◌, ℕ, ◌≤◌, Bool, List, [], ◌∷◌, ◌++◌, length, Option, Some, None, refl, sym, ap, ◌∙◌, subst, inl, inr, append_assoc, arith, lookup, Token, BadToken, IsNext, AreTokensFrom, AreTokens, Record, Lexeme, lexeme_at, lexemes, IsMark, File, ParameterList, IsSimple, IsRecord, BeginsSimple, SemicolonAt, IsFile, RecordLies, Stands}
 use Rattle.sb_lex.specs.declared.kinds.Mark.TheVariants as mark
-use Rattle.sb_lex.specs.declared.kinds.Token.{Token}
-use Rattle.sb_lex.specs.declared.kinds.BadToken.{BadToken}
-use Rattle.sb_lex.specs.Tokens.{IsNext, AreTokensFrom, AreTokens}
 use Rattle.sb_step.specs.declared.step_file.records.Form.TheVariants as form
-use Rattle.sb_step.specs.declared.step_file.records.Record.{Record}
-use Rattle.sb_step.specs.Lexemes.{Lexeme, lexeme_at, lexemes, IsMark}
-use Rattle.sb_step.specs.Rules.{Each}
-use Rattle.sb_step.specs.Grammar.{File, ParameterList, IsSimple, IsRecord, IsInstance, BeginsSimple, SemicolonAt}
-use Rattle.sb_step.specs.Faults.{IsFile}
-use Rattle.sb_step.proofs.KindsSay.{choice}
-use Rattle.sb_step.proofs.Records.OnlyOnePasses.{IsAmong}
-use Rattle.sb_step.proofs.Records.BehindRules.{HoldsOfTails, one_leaves, list_leaves, simple_leaves, instance_leaves, item_place, parts_of}
+use Rattle.sb_step.proofs.Records.WhatIsFoundStands.{found_among}
+use Rattle.sb_step.proofs.Records.BehindRules.{HoldsOfTails, one_leaves, list_leaves, entity_place, instance_place}
 
 -- the lexemes are those of the tokens from some token on
 pub record IsTail (input : List ℕ) (tokens : List Token) (xs : List Lexeme) : Type 0 where
@@ -122,45 +111,6 @@ simple_stands input tokens r are (x ∷ xs) rest is t =
 all_stand : (input : List ℕ) (tokens : List Token) → IsTail input tokens (lexemes input tokens)
 all_stand input tokens = record { before = []; from = tokens; joined = refl; are = refl }
 
--- an entity of the header stands among the tokens
-pub entity_stands : (input : List ℕ) (f : File) → IsFile input f → (front back : List Record)
-    → (r : Record) → f.header ≡ front ++ r ∷ back → SimpleStands input r
-entity_stands input f is front back r header =
-    let Holds = IsTail input is.tokens in
-    let tail = tail_passes input is.tokens in
-    let p = parts_of Holds tail f (lexemes input is.tokens) is.text.sections
-    (all_stand input is.tokens) in
-    let s = item_place Holds tail IsSimple (simple_leaves Holds tail) front back r p.header_at
-    p.header_rest
-    (subst (λ rs. Each IsSimple rs p.header_at p.header_rest) header p.header)
-    p.header_holds in
-    simple_stands input is.tokens r is.are s.at s.rest s.is s.holds
-
--- an instance that is found stands among them
-found_among : (test : ℕ → Bool) (instances : List (ℕ × Record)) (r : Record)
-    → lookup test instances ≡ Some r → (number : ℕ) × IsAmong instances (number, r)
-found_among test [] r found = absurd (none-some r found)
-found_among test (i ∷ later) r found =
-    ⊎_elim
-    (λ here. (
-      i.0,
-      record {
-        front = [];
-        back = later;
-        joined = ap (λ s. (i.0, s) ∷ later) (same_Some i.1 r here.1);
-      },
-    ))
-    (λ there.
-    let a = found_among test later r there.1 in (
-      a.0,
-      record {
-        front = i ∷ a.1.front;
-        back = a.1.back;
-        joined = ap (λ l. i ∷ l) a.1.joined;
-      },
-    ))
-    (choice (test i.0) (Some i.1) (lookup test later) r found)
-
 -- the record of an instance is simple by its form
 record_stands : (input : List ℕ) (tokens : List Token) (r : Record) → AreTokens input tokens None
     → (end : ℕ) → r.form ≡ form.Simple end → (xs rest : List Lexeme) → IsRecord r xs rest
@@ -172,24 +122,29 @@ record_stands input tokens r are end simple (x ∷ xs) rest (inr c) t =
     let apart : form.Complex ≡ form.Simple end = sym c.first.0.form ∙ simple in
     absurd (cc)
 
--- an instance that is found stands among the tokens, if its record is simple
-pub instance_stands : (input : List ℕ) (f : File) → IsFile input f → (test : ℕ → Bool)
-    → (r : Record) → lookup test f.instances ≡ Some r → (end : ℕ) → r.form ≡ form.Simple end
-    → SimpleStands input r
-instance_stands input f is test r found end simple =
-    let Holds = IsTail input is.tokens in
-    let tail = tail_passes input is.tokens in
-    let p = parts_of Holds tail f (lexemes input is.tokens) is.text.sections
-    (all_stand input is.tokens) in
-    let a = found_among test f.instances r found in
-    let s = item_place Holds tail IsInstance (instance_leaves Holds tail) a.1.front a.1.back
-    (a.0, r) p.instances_at p.instances_rest
-    (subst (λ each. Each IsInstance each p.instances_at p.instances_rest) a.1.joined p.instances)
-    p.instances_hold in
-    let named = one_leaves Holds tail _ s.at s.is.middle s.is.first s.holds in
-    record_stands input is.tokens r is.are end simple s.is.second.middle s.rest
-    s.is.second.second
-    (one_leaves Holds tail _ s.is.middle s.is.second.middle s.is.second.first named)
+module _ (input : List ℕ) (f : File) (is : IsFile input f) where
+  abbrev Among : List Lexeme → Type 0
+  Among = IsTail input is.tokens
+
+  -- an entity of the header stands among the tokens
+  pub entity_stands : (r : Record) → Stands r f.header → SimpleStands input r
+  entity_stands r stands =
+      let s = entity_place Among (tail_passes input is.tokens) f (lexemes input is.tokens)
+      is.text.sections (all_stand input is.tokens) r stands in
+      simple_stands input is.tokens r is.are s.at s.rest s.is s.holds
+
+  -- so does an instance that is found, if its record is simple
+  pub instance_stands : (test : ℕ → Bool) (r : Record) → lookup test f.instances ≡ Some r
+      → (end : ℕ) → r.form ≡ form.Simple end → SimpleStands input r
+  instance_stands test r found end simple =
+      let tail = tail_passes input is.tokens in
+      let a = found_among test f.instances r found in
+      let s = instance_place Among tail f (lexemes input is.tokens) is.text.sections
+      (all_stand input is.tokens) (a.0, r) a.1 in
+      let named = one_leaves Among tail _ s.at s.is.middle s.is.first s.holds in
+      record_stands input is.tokens r is.are end simple s.is.second.middle s.rest
+      s.is.second.second
+      (one_leaves Among tail _ s.is.middle s.is.second.middle s.is.second.first named)
 
 -- where one reads on behind the keyword
 
@@ -221,4 +176,17 @@ reads_on input r end simple s =
       within = subst (λ k. k ≤ length input) ends b.1.token.candidate.within;
       are = subst
           (λ k. AreTokensFrom input k (s.inside ++ s.semicolon ∷ s.after) None) ends b.2;
+    }
+
+-- the keyword of an instance that is found lies in the input
+pub found_lies : (input : List ℕ) (f : File) → IsFile input f → (test : ℕ → Bool) (r : Record)
+    → lookup test f.instances ≡ Some r → RecordLies (length input) r
+found_lies input f is test r found end simple =
+    let s = instance_stands input f is test r found end simple in
+    let o = reads_on input r end simple s in
+    let b = tokens_behind input 0 s.before (s.inside ++ s.semicolon ∷ s.after) s.keyword None
+    s.are in
+    record {
+      ordered = omega (arith, s.begins.start, o.is_end, b.1.token.candidate.ordered);
+      within = o.within;
     }

@@ -1,14 +1,6 @@
 -- What a search by halving answers: a row with the number, or that none has it.
-use Rattle.std.proofs.Common.{◌≡◌, ℕ, ◌<◌, ◌≤◌, List, length, Ok, Err, ap, ⊎_elim, get_or, arith}
-use Rattle.std.specs.Prelude.{◌≢◌}
-use Rattle.std.specs.Ordering.{nat_cmp, ordering_index}
-use Rattle.std.specs.List.{All}
-use Rattle.std.specs.List.Sorted.{IsBinarySearchResult}
+use Rattle.sb_step.proofs.Names.{◌≡◌, ℕ, ◌<◌, ◌≤◌, List, length, Ok, Err, ap, ⊎_elim, get_or, arith, ◌≢◌, nat_cmp, ordering_index, All, IsBinarySearchResult, cases_lt, get_or_default, Row, Rises, IsRowOf}
 use Rattle.std.specs.declared.cmp.Ordering.TheVariants as ordering
-use Rattle.std.proofs.lemmas.Bool.{cases_lt}
-use Rattle.std.proofs.lemmas.List.{get_or_default}
-use Rattle.sb_step.specs.declared.step_file.table.Row.{Row}
-use Rattle.sb_step.specs.Records.Rows.{Rises, IsRowOf}
 
 -- numbers that compare as equal are one
 equal_number : (a b : ℕ) → nat_cmp a b ≡ ordering.Equal → a ≡ b

@@ -1,27 +1,12 @@
 -- The text that is read behind the keyword of the one FILE_SCHEMA is the schema of the file.
-use Rattle.std.proofs.Common.{◌≡◌, ℕ, ◌+◌, ◌-◌, ◌≤◌, ◌↔◌, true, List, [], ◌∷◌, ◌++◌, Option, Some, None, length, refl, sym, ap, ◌∙◌, subst, ⊎_elim, cond}
-use Rattle.std.specs.Prelude.{◌&&◌, codes, slice_range}
-use Rattle.std.specs.List.{filter}
-use Rattle.std.proofs.lemmas.Bool.{false≢true, and_parts, and_from}
-use Rattle.theory_bytes.proofs.InsidesAreBetween.{slice_inside}
-use Rattle.std.proofs.lemmas.Option.{same_Some, none-some}
+use Rattle.sb_step.proofs.Names.{Mark, is_mark, marks, ◌≡◌, ℕ, ◌+◌, ◌-◌, ◌≤◌, ◌↔◌, true, List, [], ◌∷◌, ◌++◌, Option, Some, None, length, refl, sym, ap, ◌∙◌, subst, ⊎_elim, cond, ◌&&◌, codes, slice_range, filter, false≢true, and_parts, and_from, slice_inside, same_Some, none-some, Kind, Token, IsOf, IsCandidate, AreTokensFrom, AreTokens, Record, Lexeme, lexeme_at, lexemes, IsMark, Rule, One, File, Indexed, is_schema, IsString, OneString, HasOneString, IsSchema, HasNoSchema, first_of, behind_first, opens, closes, both_open, both_close, inside, text_in, IsFile}
 use Rattle.sb_lex.specs.Bytes as byte
-use Rattle.sb_lex.specs.declared.kinds.Kind.{Kind}
 use Rattle.sb_lex.specs.declared.kinds.Kind.TheVariants as kind
 use Rattle.sb_lex.specs.declared.kinds.Mark.TheVariants as mark
-use Rattle.sb_lex.specs.declared.kinds.Token.{Token}
-use Rattle.sb_lex.specs.Kinds.{IsOf}
-use Rattle.sb_lex.specs.Tokens.{IsCandidate, AreTokensFrom, AreTokens}
 use Rattle.sb_step.specs.declared.step_file.records.Form.TheVariants as form
-use Rattle.sb_step.specs.declared.step_file.records.Record.{Record}
-use Rattle.sb_step.specs.Lexemes.{Lexeme, lexeme_at, lexemes, IsMark, is_open, is_close}
-use Rattle.sb_step.specs.Rules.{One, ◌⋅◌}
-use Rattle.sb_step.specs.Grammar.{File}
-use Rattle.sb_step.specs.Indexed.{Indexed}
-use Rattle.sb_step.specs.Records.Schema.{is_schema, IsString, OneString, HasOneString, IsSchema, HasNoSchema}
-use Rattle.sb_step.specs.Records.SchemaReading.{first_of, behind_first, opens, closes, both_open, both_close, inside_of, inside, text_in}
-use Rattle.sb_step.specs.Faults.{IsFile}
-use Rattle.sb_step.proofs.Records.OnlyOnePasses.{passes_among}
+use Rattle.sb_step.specs.Rules.{◌⋅◌}
+use Rattle.sb_step.specs.Records.SchemaReading.{inside_of}
+use Rattle.sb_step.proofs.Records.WhatIsFoundStands.{passes_among}
 use Rattle.sb_step.proofs.KindsSay.{mark_says, choice}
 use Rattle.sb_step.proofs.Records.RecordsStand.{entity_stands, tokens_behind, reads_on}
 
@@ -65,117 +50,109 @@ module _ (input : List ℕ) where
   some_behind [] are = are
   some_behind (t ∷ later) are = (t.end, are.1.1)
 
-  -- what is read is so
+  -- the first of them is so
+  abbrev First : (Lexeme → Type 0) → List Token → Type 0
+  First P [] = ⊥
+  First P (t ∷ later) = P (lexeme_at input t)
 
-  opens_one : (tokens : List Token) → opens (first_of tokens) ≡ true
-      → One (IsMark mark.Open) (lexemes input tokens) (lexemes input (behind_first tokens))
-  opens_one [] e = absurd (false≢true e)
-  opens_one (t ∷ later) e = (mark_says mark.Open t.kind e, refl)
+  first_one : (P : Lexeme → Type 0) (tokens : List Token) → First P tokens
+      → One P (lexemes input tokens) (lexemes input (behind_first tokens))
+  first_one P [] is = absurd is
+  first_one P (t ∷ later) is = (is, refl)
 
-  closes_one : (tokens : List Token) → closes (first_of tokens) ≡ true
-      → One (IsMark mark.Close) (lexemes input tokens) (lexemes input (behind_first tokens))
-  closes_one [] e = absurd (false≢true e)
-  closes_one (t ∷ later) e = (mark_says mark.Close t.kind e, refl)
+  one_first : (P : Lexeme → Type 0) (tokens : List Token) (rest : List Lexeme)
+      → One P (lexemes input tokens) rest
+      → First P tokens × (rest ≡ lexemes input (behind_first tokens))
+  one_first P [] rest one = absurd one
+  one_first P (t ∷ later) rest one = (one.0, one.1)
 
-  string_one : (text : List ℕ) (tokens : List Token) → AreSome tokens
-      → inside input (first_of tokens) ≡ Some text
-      → One (IsString text) (lexemes input tokens) (lexemes input (behind_first tokens))
-  string_one text [] are read = absurd (none-some text read)
-  string_one text (t ∷ later) are read =
-      (string_says input t t.kind text are.1.0.token.candidate refl read, refl)
+  -- it stands before what follows the others
+  ahead : {P : Lexeme → Type 0} {Q : Rule} (tokens : List Token) {rest : List Lexeme}
+      → First P tokens → Q (lexemes input (behind_first tokens)) rest
+      → (One P ⋅ Q) (lexemes input tokens) rest
+  ahead {P = P} tokens is j = record { middle = _; first = first_one P tokens is; second = j }
 
-  -- what is so is read
+  behind : {P : Lexeme → Type 0} {Q : Rule} (tokens : List Token) {rest : List Lexeme}
+      → (One P ⋅ Q) (lexemes input tokens) rest
+      → First P tokens × Q (lexemes input (behind_first tokens)) rest
+  behind {P = P} {Q = Q} tokens {rest = rest} j =
+      let one = one_first P tokens j.middle j.first in
+      (one.0, subst (λ xs. Q xs rest) one.1 j.second)
 
-  one_opens : (tokens : List Token) (rest : List Lexeme)
-      → One (IsMark mark.Open) (lexemes input tokens) rest
-      → (opens (first_of tokens) ≡ true) × (rest ≡ lexemes input (behind_first tokens))
-  one_opens [] rest one = absurd one
-  one_opens (t ∷ later) rest one = (ap is_open one.0, one.1)
+  marks_first : (m : Mark) (tokens : List Token) → marks m (first_of tokens) ≡ true
+      → First (IsMark m) tokens
+  marks_first m [] e = absurd (false≢true e)
+  marks_first m (t ∷ later) e = mark_says m t.kind e
 
-  one_closes : (tokens : List Token) (rest : List Lexeme)
-      → One (IsMark mark.Close) (lexemes input tokens) rest
-      → (closes (first_of tokens) ≡ true) × (rest ≡ lexemes input (behind_first tokens))
-  one_closes [] rest one = absurd one
-  one_closes (t ∷ later) rest one = (ap is_close one.0, one.1)
+  first_marks : (m : Mark) (tokens : List Token) → First (IsMark m) tokens
+      → is_mark m (kind.Mark m) ≡ true → marks m (first_of tokens) ≡ true
+  first_marks m [] is same = absurd is
+  first_marks m (t ∷ later) is same = ap (is_mark m) is ∙ same
 
-  one_string : (text : List ℕ) (tokens : List Token) (rest : List Lexeme) → AreSome tokens
-      → One (IsString text) (lexemes input tokens) rest
-      → (inside input (first_of tokens) ≡ Some text)
-      × (rest ≡ lexemes input (behind_first tokens))
-  one_string text [] rest are one = absurd one
-  one_string text (t ∷ later) rest are one =
-      (said_string input t text are.1.0.token.candidate one.0, one.1)
+  string_first : (text : List ℕ) (tokens : List Token) → AreSome tokens
+      → inside input (first_of tokens) ≡ Some text → First (IsString text) tokens
+  string_first text [] are read = absurd (none-some text read)
+  string_first text (t ∷ later) are read =
+      string_says input t t.kind text are.1.0.token.candidate refl read
+
+  first_string : (text : List ℕ) (tokens : List Token) → AreSome tokens
+      → First (IsString text) tokens → inside input (first_of tokens) ≡ Some text
+  first_string text [] are is = absurd is
+  first_string text (t ∷ later) are is =
+      said_string input t text are.1.0.token.candidate is
 
   -- a list of one string
-  abbrev pub ListOfOne : List ℕ → List Lexeme → List Lexeme → Type 0
+  abbrev pub ListOfOne : List ℕ → Rule
   ListOfOne text =
       One (IsMark mark.Open) ⋅ One (IsMark mark.Open) ⋅ One (IsString text)
       ⋅ One (IsMark mark.Close) ⋅ One (IsMark mark.Close)
 
-  list_from_text : (text : List ℕ) (tokens : List Token) → AreSome tokens
-      → text_in input tokens ≡ Some text
-      → (rest : List Lexeme) × ListOfOne text (lexemes input tokens) rest
-  list_from_text text tokens are read =
-      let second = behind_first tokens in
-      let string = behind_first second in
-      let closing = behind_first string in
-      let last = behind_first closing in
-      ⊎_elim
-      (λ passed.
-      let both = and_parts (both_open tokens) (both_close closing) passed.0 in
-      let opened = and_parts (opens (first_of tokens)) (opens (first_of second)) both.0 in
-      let closed = and_parts (closes (first_of closing)) (closes (first_of last)) both.1 in (
-        lexemes input (behind_first last),
-        record {
-          middle = lexemes input second;
-          first = opens_one tokens opened.0;
-          second = record {
-            middle = lexemes input string;
-            first = opens_one second opened.1;
-            second = record {
-              middle = lexemes input closing;
-              first = string_one text string (some_behind second (some_behind tokens are)) passed.1;
-              second = record {
-                middle = lexemes input last;
-                first = closes_one closing closed.0;
-                second = closes_one last closed.1;
-              };
-            };
-          };
-        },
-      ))
-      (λ other. absurd (none-some text other.1))
-      (choice (both_open tokens && both_close closing) (inside input
-      (first_of string)) None text read)
+  module _ (text : List ℕ) (tokens : List Token) (are : AreSome tokens) where
+    abbrev second : List Token
+    second = behind_first tokens
 
-  text_from_list : (text : List ℕ) (tokens : List Token) (rest : List Lexeme) → AreSome tokens
-      → ListOfOne text (lexemes input tokens) rest → text_in input tokens ≡ Some text
-  text_from_list text tokens rest are l =
-      let second = behind_first tokens in
-      let string = behind_first second in
-      let closing = behind_first string in
-      let last = behind_first closing in
-      let from_second = l.second in
-      let from_string = from_second.second in
-      let from_closing = from_string.second in
-      let first_opens = one_opens tokens l.middle l.first in
-      let second_opens = one_opens second from_second.middle
-      (subst (λ xs. One (IsMark mark.Open) xs from_second.middle) first_opens.1
-      from_second.first) in
-      let string_is = one_string text string from_string.middle (some_behind second
-      (some_behind tokens are))
-      (subst (λ xs. One (IsString text) xs from_string.middle) second_opens.1 from_string.first) in
-      let first_closes = one_closes closing from_closing.middle
-      (subst (λ xs. One (IsMark mark.Close) xs from_closing.middle) string_is.1
-      from_closing.first) in
-      let second_closes = one_closes last rest
-      (subst (λ xs. One (IsMark mark.Close) xs rest) first_closes.1 from_closing.second) in
-      let passed : (both_open tokens && both_close closing) ≡ true =
-      and_from (both_open tokens) (both_close closing)
-      (and_from (opens (first_of tokens)) (opens (first_of second)) first_opens.0 second_opens.0)
-      (and_from (closes (first_of closing)) (closes
-      (first_of last)) first_closes.0 second_closes.0) in
-      ap (λ b. cond b (inside input (first_of string)) None) passed ∙ string_is.0
+    abbrev string : List Token
+    string = behind_first second
+
+    abbrev closing : List Token
+    closing = behind_first string
+
+    abbrev final : List Token
+    final = behind_first closing
+
+    list_from_text : text_in input tokens ≡ Some text
+        → ListOfOne text (lexemes input tokens) (lexemes input (behind_first final))
+    list_from_text read =
+        ⊎_elim
+        (λ passed.
+        let both = and_parts (both_open tokens) (both_close closing) passed.0 in
+        let opened = and_parts (opens (first_of tokens)) (opens (first_of second)) both.0 in
+        let closed = and_parts (closes (first_of closing)) (closes (first_of final)) both.1 in
+        ahead tokens (marks_first mark.Open tokens opened.0) (ahead second (marks_first mark.Open second opened.1)
+        (ahead string (string_first text string (some_behind second (some_behind tokens are))
+        passed.1)
+        (ahead closing (marks_first mark.Close closing closed.0)
+        (first_one _ final (marks_first mark.Close final closed.1))))))
+        (λ other. absurd (none-some text other.1))
+        (choice (both_open tokens && both_close closing) (inside input (first_of string)) None text
+        read)
+
+    text_from_list : (rest : List Lexeme) → ListOfOne text (lexemes input tokens) rest
+        → text_in input tokens ≡ Some text
+    text_from_list rest l =
+        let a = behind tokens l in
+        let b = behind second a.1 in
+        let c = behind string b.1 in
+        let d = behind closing c.1 in
+        let e = one_first _ final rest d.1 in
+        let passed : (both_open tokens && both_close closing) ≡ true =
+        and_from (both_open tokens) (both_close closing)
+        (and_from (opens (first_of tokens)) (opens (first_of second)) (first_marks mark.Open tokens a.0 refl)
+        (first_marks mark.Open second b.0 refl))
+        (and_from (closes (first_of closing)) (closes (first_of final)) (first_marks mark.Close closing d.0 refl)
+        (first_marks mark.Close final e.0 refl)) in
+        ap (λ b. cond b (inside input (first_of string)) None) passed
+        ∙ first_string text string (some_behind second (some_behind tokens are)) c.0
 
 -- the schema
 
@@ -184,8 +161,8 @@ pub entity_reads_on : (input : List ℕ) (file : File) → IsFile input file →
     → filter (is_schema input) file.header ≡ r ∷ [] → r.form ≡ form.Simple end
     → end ≤ length input
 entity_reads_on input file is r end only simple =
-    let a = passes_among (is_schema input) file.header r only in
-    (reads_on input r end simple (entity_stands input file is a.front a.back r a.joined)).within
+    let stands = passes_among (is_schema input) file.header r only in
+    (reads_on input r end simple (entity_stands input file is r stands)).within
 
 -- what is found behind the keyword is the schema of the file, if the entity is its only one
 module _ (indexed : Indexed) (is : IsFile indexed.input indexed.file) (r : Record) (end : ℕ)
@@ -196,8 +173,8 @@ module _ (indexed : Indexed) (is : IsFile indexed.input indexed.file) (r : Recor
   found_is_schema : found ≡ Some text → IsSchema indexed text
   found_is_schema read =
       let input = indexed.input in
-      let a = passes_among (is_schema input) indexed.file.header r only in
-      let s = entity_stands input indexed.file is a.front a.back r a.joined in
+      let s = entity_stands input indexed.file is r
+      (passes_among (is_schema input) indexed.file.header r only) in
       let o = reads_on input r end simple s in
       let behind = s.inside ++ s.semicolon ∷ s.after in
       let l = list_from_text input text behind (end, o.are) (sym (reads behind o.are) ∙ read) in
@@ -207,12 +184,12 @@ module _ (indexed : Indexed) (is : IsFile indexed.input indexed.file) (r : Recor
         string = record {
           before = s.before;
           from = s.keyword ∷ behind;
-          rest = l.0;
+          rest = _;
           are = s.are;
           stands = record {
             middle = lexemes input behind;
             first = (s.begins, refl);
-            second = l.1;
+            second = l;
           };
         };
       }
@@ -228,7 +205,7 @@ module _ (indexed : Indexed) (is : IsFile indexed.input indexed.file) (r : Recor
       let ends : k.end ≡ end = cc in
       let behind = subst (λ place. AreTokensFrom input place tokens None) ends b.2 in
       let l = subst (λ xs. ListOfOne input text xs rest) j.first.1 j.second in
-      reads tokens behind ∙ text_from_list input text tokens rest (end, behind) l
+      reads tokens behind ∙ text_from_list input text tokens (end, behind) rest l
 
   schema_is_found : IsSchema indexed text → found ≡ Some text
   schema_is_found h =

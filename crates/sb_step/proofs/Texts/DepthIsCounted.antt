@@ -1,26 +1,11 @@
 -- The machine keeps count of the parentheses that are open.
-use Rattle.std.proofs.Common.{◌≡◌, ◌-◌, ℕ, suc, ◌+◌, ◌≤◌, Bool, true, false, cond, List, [], ◌∷◌, length, Option, Some, None, refl, sym, subst, ⊎_elim, arith}
-use Rattle.std.specs.Prelude.{codes}
-use Rattle.std.proofs.lemmas.Bool.{false≢true, ltb-true}
-use Rattle.std.proofs.lemmas.Option.{same_Some, none-some, cond_some}
-use Rattle.sb_lex.specs.declared.kinds.Kind.{Kind}
+use Rattle.sb_step.proofs.Names.{◌≡◌, ◌-◌, ℕ, suc, ◌+◌, ◌≤◌, Bool, true, false, cond, List, [], ◌∷◌, length, Some, refl, ap, arith, nat_lt, false≢true, ltb-true, Kind, greatest_depth, Section, Bracket, Want, Move, Lexeme, is_value, is_open, is_close, Asked, Way, the_word, the, a_keyword, a_name, the_mark, a_value, section_ways, Nest, plain, begun, State, Turn, is_complex, room_of, next_turn, turn_of}
 use Rattle.sb_lex.specs.declared.kinds.Kind.TheVariants as kind
 use Rattle.sb_lex.specs.declared.kinds.Mark.TheVariants as mark
-use Rattle.sb_step.specs.Grammar.{greatest_depth}
-use Rattle.sb_step.specs.declared.indexing.states.Section.{Section}
 use Rattle.sb_step.specs.declared.indexing.states.Section.TheVariants as section
-use Rattle.sb_step.specs.declared.indexing.states.Bracket.{Bracket}
 use Rattle.sb_step.specs.declared.indexing.states.Bracket.TheVariants as bracket
-use Rattle.sb_step.specs.declared.indexing.states.Want.{Want}
 use Rattle.sb_step.specs.declared.indexing.states.Want.TheVariants as want
-use Rattle.sb_step.specs.declared.indexing.states.Move.{Move}
-use Rattle.sb_step.specs.Lexemes.{Lexeme, is_value, is_open, is_close}
-use Rattle.sb_step.specs.KindTests.{is_semicolon, is_comma, is_equals, is_first, is_last, is_keyword, number_of, is_the}
-use Rattle.sb_step.specs.Index.SectionMoves.{only, section_move}
-use Rattle.sb_step.specs.Index.ListMoves.{Nest, parameter, comma, shut, by_want}
-use Rattle.sb_step.specs.Index.Turns.{plain, begun, State, Turn, is_complex, room_of, turn_section, turn_list, next_turn, next_turn_at}
-use Rattle.sb_step.proofs.KindsSay.{mark_says, first_says, last_says, keyword_says, number_says, the_says, choice}
-use Rattle.sb_step.proofs.Texts.TurnsByTest.{turn_of, only_gives, either_gives, named_gives}
+use Rattle.sb_step.proofs.Texts.TurnsByWay.{IsAsked, EachWay, parameter_ways, list_ways, EachTurn, each_turned}
 
 -- one parenthesis more, or none
 abbrev pub opens : Kind → ℕ
@@ -46,7 +31,7 @@ depth_without o = cond (is_complex o) 1 0
 abbrev pub depth : State → ℕ
 depth s = depth_without s.section + depth_within s.nest.brackets s.nest.want
 
--- no more parentheses are open, or will be after the next one, than there may be
+-- no more are open, a typed parameter's among them before it is there, than there may be
 abbrev pub Fits : State → Type 0
 Fits s = length s.nest.brackets ≤ room_of s.section
 
@@ -54,252 +39,139 @@ Fits s = length s.nest.brackets ≤ room_of s.section
 abbrev pub Counts : ℕ → Kind → ℕ → Type 0
 Counts before k after = after + closes k ≡ before + opens k
 
-counts_at : (before after : ℕ) (k q : Kind) → k ≡ q → Counts before q after
-    → Counts before k after
-counts_at before after k q same counts = subst (λ r. Counts before r after) (sym same) counts
+-- the table counts
 
--- outside of parameter lists
+-- how many parentheses what is asked opens, and how many it closes
+abbrev opened_by : Asked → ℕ
+opened_by (the_mark m) = opens (kind.Mark m)
+opened_by _ = 0
 
--- the count goes on to that of the turn
-abbrev pub CountsTurn : Section → Kind → Turn → Type 0
-CountsTurn o k t = Counts (depth_without o + 0) k (depth t.state)
-
-name_counts : (n : ℕ) (k : Kind) → number_of k ≡ Some n → Counts 0 k 0
-name_counts n k named = counts_at 0 0 k (kind.Name n) (number_says k n named) refl
-
--- the count goes on by a kind that passes its test
-module _ (o : Section) (x : Lexeme) (turn : Turn) where
-  kind_counts : (test : Bool) (q : Kind) (m : Move) → (test ≡ true → x.token.kind ≡ q)
-      → Counts (depth_without o + 0) q (depth (turn_of m).state)
-      → turn_section (only test m) ≡ Some turn → CountsTurn o x.token.kind turn
-  kind_counts test q m says counts is =
-      only_gives (CountsTurn o x.token.kind) turn test m
-      (λ t. counts_at _ _ x.token.kind q (says t) counts) is
-
-  -- or in another way
-  either_counts : (test : Bool) (q : Kind) (m : Move) (other : Option Move)
-      → (test ≡ true → x.token.kind ≡ q)
-      → Counts (depth_without o + 0) q (depth (turn_of m).state)
-      → (turn_section other ≡ Some turn → CountsTurn o x.token.kind turn)
-      → turn_section (cond test (Some m) other) ≡ Some turn → CountsTurn o x.token.kind turn
-  either_counts test q m other says counts others is =
-      either_gives (CountsTurn o x.token.kind) turn test m other
-      (λ t. counts_at _ _ x.token.kind q (says t) counts) others is
-
-section_counts : (o : Section) (x : Lexeme) (turn : Turn)
-    → turn_section (section_move o x) ≡ Some turn → CountsTurn o x.token.kind turn
-section_counts section.Begin x turn is =
-    kind_counts section.Begin x turn (is_first x.token.kind) _ _ (first_says x.token.kind) refl is
-section_counts section.BeginSemicolon x turn is =
-    kind_counts section.BeginSemicolon x turn (is_semicolon x.token.kind) _ _
-    (mark_says mark.Semicolon x.token.kind) refl is
-section_counts section.Header x turn is =
-    kind_counts section.Header x turn (is_the (codes "HEADER") x) _ _
-    (λ t. (the_says (codes "HEADER") x t).keyword) refl is
-section_counts section.HeaderSemicolon x turn is =
-    kind_counts section.HeaderSemicolon x turn (is_semicolon x.token.kind) _ _
-    (mark_says mark.Semicolon x.token.kind) refl is
-section_counts section.FirstEntity x turn is =
-    kind_counts section.FirstEntity x turn (is_keyword x.token.kind) _ _
-    (keyword_says x.token.kind) refl is
-section_counts section.Entities x turn is =
-    either_counts section.Entities x turn (is_the (codes "ENDSEC") x) _ _ _
-    (λ t. (the_says (codes "ENDSEC") x t).keyword) refl
-    (kind_counts section.Entities x turn (is_keyword x.token.kind) _ _
-    (keyword_says x.token.kind) refl) is
-section_counts (section.EntityOrEnd s) x turn is =
-    either_counts (section.EntityOrEnd s) x turn (is_open x.token.kind) _ _ _
-    (mark_says mark.Open x.token.kind) refl
-    (kind_counts (section.EntityOrEnd s) x turn (is_semicolon x.token.kind) _ _
-    (mark_says mark.Semicolon x.token.kind) refl) is
-section_counts (section.EntityOpen s) x turn is =
-    kind_counts (section.EntityOpen s) x turn (is_open x.token.kind) _ _
-    (mark_says mark.Open x.token.kind) refl is
-section_counts (section.EntityEnd s) x turn is =
-    kind_counts (section.EntityEnd s) x turn (is_semicolon x.token.kind) _ _
-    (mark_says mark.Semicolon x.token.kind) refl is
-section_counts section.Data x turn is =
-    kind_counts section.Data x turn (is_the (codes "DATA") x) _ _
-    (λ t. (the_says (codes "DATA") x t).keyword) refl is
-section_counts section.DataSemicolon x turn is =
-    kind_counts section.DataSemicolon x turn (is_semicolon x.token.kind) _ _
-    (mark_says mark.Semicolon x.token.kind) refl is
-section_counts section.Instances x turn is =
-    either_counts section.Instances x turn (is_the (codes "ENDSEC") x) _ _ _
-    (λ t. (the_says (codes "ENDSEC") x t).keyword) refl
-    (named_gives (CountsTurn section.Instances x.token.kind) turn (number_of x.token.kind)
-    (λ n t. name_counts n x.token.kind t))
-    is
-section_counts (section.Equals n) x turn is =
-    kind_counts (section.Equals n) x turn (is_equals x.token.kind) _ _
-    (mark_says mark.Equals x.token.kind) refl is
-section_counts (section.Body n) x turn is =
-    either_counts (section.Body n) x turn (is_keyword x.token.kind) _ _ _
-    (keyword_says x.token.kind) refl
-    (kind_counts (section.Body n) x turn (is_open x.token.kind) _ _
-    (mark_says mark.Open x.token.kind) refl) is
-section_counts (section.SimpleOpen p) x turn is =
-    kind_counts (section.SimpleOpen p) x turn (is_open x.token.kind) _ _
-    (mark_says mark.Open x.token.kind) refl is
-section_counts (section.FirstRecord p) x turn is =
-    kind_counts (section.FirstRecord p) x turn (is_keyword x.token.kind) _ _
-    (keyword_says x.token.kind) refl is
-section_counts (section.RecordOpen p) x turn is =
-    kind_counts (section.RecordOpen p) x turn (is_open x.token.kind) _ _
-    (mark_says mark.Open x.token.kind) refl is
-section_counts (section.NextRecord p) x turn is =
-    either_counts (section.NextRecord p) x turn (is_keyword x.token.kind) _ _ _
-    (keyword_says x.token.kind) refl
-    (kind_counts (section.NextRecord p) x turn (is_close x.token.kind) _ _
-    (mark_says mark.Close x.token.kind) refl) is
-section_counts (section.InstanceEnd p) x turn is =
-    kind_counts (section.InstanceEnd p) x turn (is_semicolon x.token.kind) _ _
-    (mark_says mark.Semicolon x.token.kind) refl is
-section_counts (section.EndSemicolon k) x turn is =
-    kind_counts (section.EndSemicolon k) x turn (is_semicolon x.token.kind) _ _
-    (mark_says mark.Semicolon x.token.kind) refl is
-section_counts (section.LastWord k) x turn is =
-    kind_counts (section.LastWord k) x turn (is_last x.token.kind) _ _ (last_says x.token.kind)
-    refl is
-section_counts (section.LastSemicolon k) x turn is =
-    kind_counts (section.LastSemicolon k) x turn (is_semicolon x.token.kind) _ _
-    (mark_says mark.Semicolon x.token.kind) refl is
-section_counts (section.End k) x turn is = absurd (none-some turn is)
-
-one_fits : (complex begins : Bool) → length (cond begins begun plain).brackets ≤ cond complex
-    (greatest_depth - 1) greatest_depth
-one_fits true true = omega arith
-one_fits true false = omega arith
-one_fits false true = omega arith
-one_fits false false = omega arith
-
-section_fits : (found : Option Move) (turn : Turn) → turn_section found ≡ Some turn
-    → Fits turn.state
-section_fits None turn is = absurd (none-some turn is)
-section_fits (Some m) turn is =
-    subst (λ t. Fits t.state) (same_Some (turn_of m) turn is)
-    (one_fits (is_complex m.section) m.opens)
-
--- within them
-
--- the count within, and what fits
-pub record CountsNest (room before : ℕ) (k : Kind) (nest : Nest) : Type 0 where
-  pub counts : Counts before k (depth_within nest.brackets nest.want)
-  pub fits : length nest.brackets ≤ room
+abbrev closed_by : Asked → ℕ
+closed_by (the_mark m) = closes (kind.Mark m)
+closed_by _ = 0
 
 value_counts : (k : Kind) → is_value k ≡ true → (opens k ≡ 0) × (closes k ≡ 0)
 value_counts (kind.Mark mark.Open) v = absurd (false≢true v)
 value_counts (kind.Mark mark.Close) v = absurd (false≢true v)
 value_counts _ v = (refl, refl)
 
-module _ (room : ℕ) (f : Bracket) (fs : List Bracket) (k : Kind) (nest : Nest)
-    (fit : length (f ∷ fs) ≤ room) where
-  counted : (before : ℕ) (n : Nest) → n ≡ nest → CountsNest room before k n
-      → CountsNest room before k nest
-  counted before n same counts = subst (CountsNest room before k) same counts
+asked_counts : (asked : Asked) (x : Lexeme) → IsAsked asked x
+    → (opens x.token.kind ≡ opened_by asked) × (closes x.token.kind ≡ closed_by asked)
+asked_counts (the_word w) x is = (ap opens is, ap closes is)
+asked_counts (the letters) x is = (ap opens is.keyword, ap closes is.keyword)
+asked_counts a_keyword x is = (ap opens is, ap closes is)
+asked_counts a_name x is = (ap opens is, ap closes is)
+asked_counts (the_mark m) x is = (ap opens is, ap closes is)
+asked_counts a_value x is = value_counts x.token.kind is
 
-  parameter_counts : parameter room (f ∷ fs) k ≡ Some nest
-      → CountsNest room (suc (length fs)) k nest
-  parameter_counts is =
-      ⊎_elim
-      (λ v. counted (suc (length fs)) _ (same_Some _ nest v.1) (record {
-        counts = let both = value_counts k v.0 in omega (arith, both.0, both.1);
-        fits = fit;
-      }))
-      (λ others. ⊎_elim
-      (λ l. let both = cond_some _ _ nest l.1 in counted (suc (length fs)) _ both.1 (record {
-        counts = counts_at (suc (length fs)) (suc (suc (length fs))) k _ (mark_says mark.Open k l.0)
-            (omega arith);
-        fits = omega (arith, ltb-true (length (f ∷ fs)) room both.0);
-      }))
-      (λ last_way. ⊎_elim
-      (λ t. let both = cond_some _ _ nest t.1 in counted (suc (length fs)) _ both.1 (record {
-        counts = counts_at (suc (length fs)) (suc (length fs)) k _ (keyword_says k t.0) refl;
-        fits = omega (arith, ltb-true (length (f ∷ fs)) room both.0);
-      }))
-      (λ none. absurd (none-some nest none.1))
-      (choice (is_keyword k) _ None nest last_way.1))
-      (choice (is_open k) _ _ nest others.1))
-      (choice (is_value k) _ _ nest is)
+-- each of the ways counts what it asks
+abbrev WaysCount : {A : Type 0} → ℕ → (A → ℕ) → List (Way A) → Type 0
+WaysCount before after [] = Unit {0}
+WaysCount before after (way ∷ ways) =
+    (after way.to + closed_by way.asked ≡ before + opened_by way.asked)
+    × WaysCount before after ways
 
-shut_counts : (room : ℕ) (f : Bracket) (fs : List Bracket) (k : Kind) → k ≡ kind.Mark mark.Close
-    → length (f ∷ fs) ≤ room → CountsNest room (suc (length fs)) k (shut (f ∷ fs))
-shut_counts room f [] k closing fit = record {
-  counts = counts_at 1 0 k _ closing refl;
-  fits = omega arith;
-}
-shut_counts room f (g ∷ fs) k closing fit = record {
-  counts = counts_at (suc (suc (length fs))) (suc (length fs)) k _ closing (omega arith);
-  fits = omega arith;
-}
+-- so each of them counts, with what is open besides
+each_counts : {A : Type 0} (add before start : ℕ) (after end : A → ℕ) (x : Lexeme)
+    (ways : List (Way A)) → start ≡ add + before → ((a : A) → end a ≡ add + after a)
+    → WaysCount before after ways → EachWay (λ a. Counts start x.token.kind (end a)) x ways
+each_counts add before start after end x [] first last count = tt
+each_counts add before start after end x (way ∷ ways) first last count = (
+  λ is.
+      let both = asked_counts way.asked x is in
+      let there = last way.to in
+      omega (arith, count.0, both.0, both.1, there),
+  each_counts add before start after end x ways first last count.1,
+)
 
-comma_counts : (room : ℕ) (f : Bracket) (fs : List Bracket) (k : Kind) (nest : Nest)
-    → length (f ∷ fs) ≤ room → comma (f ∷ fs) k ≡ Some nest
-    → CountsNest room (suc (length fs)) k nest
-comma_counts room bracket.List fs k nest fit is =
-    let both = cond_some (is_comma k) _ nest is in
-    subst (CountsNest room (suc (length fs)) k) both.1 (record {
-      counts = counts_at (suc (length fs)) (suc (length fs)) k _
-          (mark_says mark.Comma k both.0) refl;
-      fits = fit;
-    })
-comma_counts room bracket.Typed fs k nest fit is = absurd (none-some nest is)
+section_counts : (o : Section) (x : Lexeme)
+    → WaysCount (depth_without o + 0) (λ m. depth (turn_of m).state) (section_ways o x)
+section_counts section.Entities x = (refl, (refl, tt))
+section_counts (section.EntityOrEnd s) x = (refl, (refl, tt))
+section_counts section.Instances x = (refl, (refl, tt))
+section_counts (section.Body n) x = (refl, (refl, tt))
+section_counts (section.NextRecord p) x = (refl, (refl, tt))
+section_counts (section.End k) x = tt
+section_counts _ x = (refl, tt)
 
-inside_counts : (room : ℕ) (f : Bracket) (fs : List Bracket) (w : Want) (k : Kind) (nest : Nest)
-    → length (f ∷ fs) ≤ room → by_want w room (f ∷ fs) k ≡ Some nest
-    → CountsNest room (depth_within (f ∷ fs) w) k nest
-inside_counts room f fs want.First k nest fit is =
-    ⊎_elim
-    (λ c. counted room f fs k nest fit (suc (length fs)) _ (same_Some _ nest c.1)
-    (shut_counts room f fs k (mark_says mark.Close k c.0) fit))
-    (λ p. parameter_counts room f fs k nest fit p.1)
-    (choice (is_close k) _ _ nest is)
-inside_counts room f fs want.Parameter k nest fit is = parameter_counts room f fs k nest fit is
-inside_counts room f fs want.Next k nest fit is =
-    ⊎_elim
-    (λ c. counted room f fs k nest fit (suc (length fs)) _ (same_Some _ nest c.1)
-    (shut_counts room f fs k (mark_says mark.Close k c.0) fit))
-    (λ p. comma_counts room f fs k nest fit p.1)
-    (choice (is_close k) _ _ nest is)
-inside_counts room f fs want.Open k nest fit is =
-    let both = cond_some (is_open k) _ nest is in
-    subst (CountsNest room (length fs) k) both.1 (record {
-      counts = counts_at (length fs) (suc (length fs)) k _ (mark_says mark.Open k both.0)
-          (omega arith);
-      fits = fit;
-    })
+-- the count within a nest
+abbrev within : Nest → ℕ
+within n = depth_within n.brackets n.want
 
--- one lexeme more
+shut_counts : (fs : List Bracket) → depth_within fs want.Next + 1 ≡ suc (length fs) + 0
+shut_counts [] = refl
+shut_counts (f ∷ fs) = omega arith
 
--- the count and what fits behind a turn
-pub record CountsStep (s : State) (k : Kind) (t : Turn) : Type 0 where
-  pub counts : Counts (depth s) k (depth t.state)
-  pub fits : Fits t.state
+parameters_count : (room : Bool) (f : Bracket) (fs : List Bracket)
+    → WaysCount (suc (length fs)) within (parameter_ways room (f ∷ fs))
+parameters_count true f fs = (refl, (omega arith, (refl, tt)))
+parameters_count false f fs = (refl, tt)
 
-next_turn_at_counts : (o : Section) (fs : List Bracket) (w : Want) (x : Lexeme) (turn : Turn)
-    → length fs ≤ room_of o → next_turn_at o fs w x ≡ Some turn
-    → CountsStep (record { section = o; nest = record { brackets = fs; want = w } }) x.token.kind
-    turn
-next_turn_at_counts o [] w x turn fit is = record {
-  counts = section_counts o x turn is;
-  fits = section_fits (section_move o x) turn is;
-}
-next_turn_at_counts o (f ∷ fs) w x turn fit is =
-    inside_turn (by_want w (room_of o) (f ∷ fs) x.token.kind) refl is
-  where
-    inside_turn : (found : Option Nest) → by_want w (room_of o) (f ∷ fs) x.token.kind ≡ found
-        → turn_list o found ≡ Some turn
-        → CountsStep (record { section = o; nest = record { brackets = f ∷ fs; want = w } })
-        x.token.kind turn
-    inside_turn None was is_turn = absurd (none-some turn is_turn)
-    inside_turn (Some nest) was is_turn =
-        let c = inside_counts (room_of o) f fs w x.token.kind nest fit was in
-        subst (CountsStep (record
-        { section = o; nest = record { brackets = f ∷ fs; want = w } }) x.token.kind)
-        (same_Some _ turn is_turn) (record { counts = omega (arith, c.counts); fits = c.fits })
+lists_count : (w : Want) (room : Bool) (f : Bracket) (fs : List Bracket)
+    → WaysCount (depth_within (f ∷ fs) w) within (list_ways w room f fs)
+lists_count want.First room f fs = (shut_counts fs, parameters_count room f fs)
+lists_count want.Parameter room f fs = parameters_count room f fs
+lists_count want.Next room bracket.List fs = (shut_counts fs, (refl, tt))
+lists_count want.Next room bracket.Typed fs = (shut_counts fs, tt)
+lists_count want.Open room f fs = (omega arith, tt)
+
+turns_count : (o : Section) (fs : List Bracket) (w : Want) (x : Lexeme)
+    → EachTurn (λ t. Counts (depth_without o + depth_within fs w) x.token.kind (depth t.state))
+    o fs w x
+turns_count o [] w x =
+    each_counts 0 (depth_without o + 0) _ (λ m. depth (turn_of m).state) _ x (section_ways o x)
+    (omega arith) (λ m. omega arith) (section_counts o x)
+turns_count o (f ∷ fs) w x =
+    each_counts (depth_without o) (depth_within (f ∷ fs) w) _ within _ x _ refl (λ n. refl)
+    (lists_count w (nat_lt (length (f ∷ fs)) (room_of o)) f fs)
 
 -- each step of the machine counts
-pub turn_counts : (s : State) (x : Lexeme) (turn : Turn) → Fits s → next_turn s x ≡ Some turn
-    → CountsStep s x.token.kind turn
-turn_counts s x turn fit is =
-    next_turn_at_counts s.section s.nest.brackets s.nest.want x turn fit is
+pub turn_counts : (s : State) (x : Lexeme) (turn : Turn) → next_turn s x ≡ Some turn
+    → Counts (depth s) x.token.kind (depth turn.state)
+turn_counts s x turn is =
+    each_turned (λ t. Counts (depth s) x.token.kind (depth t.state)) s.section s.nest.brackets
+    s.nest.want x (turns_count s.section s.nest.brackets s.nest.want x) turn is
+
+-- and keeps to the room that there is
+
+begun_fits : (complex begins : Bool)
+    → length (cond begins begun plain).brackets ≤ cond complex (greatest_depth - 1) greatest_depth
+begun_fits true true = omega arith
+begun_fits true false = omega arith
+begun_fits false true = omega arith
+begun_fits false false = omega arith
+
+sections_fit : (x : Lexeme) (ways : List (Way Move)) → EachWay (λ m. Fits (turn_of m).state) x ways
+sections_fit x [] = tt
+sections_fit x (way ∷ ways) =
+    (λ is. begun_fits (is_complex way.to.section) way.to.opens, sections_fit x ways)
+
+module _ (limit : ℕ) (x : Lexeme) (fs : List Bracket) (fit : suc (length fs) ≤ limit) where
+  abbrev FitsIn : Nest → Type 0
+  FitsIn n = length n.brackets ≤ limit
+
+  parameters_fit : (room : Bool) → nat_lt (suc (length fs)) limit ≡ room → (f : Bracket)
+      → EachWay FitsIn x (parameter_ways room (f ∷ fs))
+  parameters_fit true some f =
+      let less = ltb-true (suc (length fs)) limit some in
+      (λ is. fit, (λ is. omega (arith, less), (λ is. omega (arith, less), tt)))
+  parameters_fit false none f = (λ is. fit, tt)
+
+  lists_fit : (w : Want) (room : Bool) → nat_lt (suc (length fs)) limit ≡ room → (f : Bracket)
+      → EachWay FitsIn x (list_ways w room f fs)
+  lists_fit want.First room is f = (λ is. omega arith, parameters_fit room is f)
+  lists_fit want.Parameter room is f = parameters_fit room is f
+  lists_fit want.Next room is bracket.List = (λ is. omega arith, (λ is. fit, tt))
+  lists_fit want.Next room is bracket.Typed = (λ is. omega arith, tt)
+  lists_fit want.Open room is f = (λ is. fit, tt)
+
+turns_fit : (o : Section) (fs : List Bracket) (w : Want) (x : Lexeme) → length fs ≤ room_of o
+    → EachTurn (λ t. Fits t.state) o fs w x
+turns_fit o [] w x fit = sections_fit x (section_ways o x)
+turns_fit o (f ∷ fs) w x fit = lists_fit (room_of o) x fs fit w _ refl f
+
+pub turn_fits : (s : State) (x : Lexeme) (turn : Turn) → Fits s → next_turn s x ≡ Some turn
+    → Fits turn.state
+turn_fits s x turn fit is =
+    each_turned (λ t. Fits t.state) s.section s.nest.brackets s.nest.want x
+    (turns_fit s.section s.nest.brackets s.nest.want x fit) turn is

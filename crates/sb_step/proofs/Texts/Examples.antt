@@ -1,24 +1,15 @@
 -- Single lists of lexemes: texts that the grammar has, and places where it goes on no further. Each
 -- is found by computing.
-use Rattle.std.proofs.Common.{◌≡◌, ℕ, ◌+◌, List, [], ◌∷◌, ◌++◌, Some, None, refl, ap, ◌∙◌, subst, ⊎_elim, cond, eqb, arith}
-use Rattle.std.specs.Prelude.{codes, replicate}
-use Rattle.std.proofs.lemmas.Bool.{cases_Bool, eqb-true}
+use Rattle.sb_step.proofs.Names.{◌≡◌, ℕ, ◌+◌, List, [], ◌∷◌, ◌++◌, Some, None, refl, ap, ◌∙◌, subst, ⊎_elim, cond, eqb, arith, codes, replicate, cases_Bool, eqb-true, Record, Lexeme, IsText, BeginsText, uses, IsGreatest, Rule, One, OneString, next_turn, start, Ran, run}
 use Rattle.sb_lex.specs.declared.kinds.Kind.TheVariants as kind
 use Rattle.sb_lex.specs.declared.kinds.Mark.TheVariants as mark
 use Rattle.sb_lex.specs.declared.kinds.Word.TheVariants as word
 use Rattle.sb_step.specs.declared.step_file.records.Form.TheVariants as form
-use Rattle.sb_step.specs.declared.step_file.records.Record.{Record}
-use Rattle.sb_step.specs.Lexemes.{Lexeme}
-use Rattle.sb_step.specs.Grammar.{IsText}
-use Rattle.sb_step.specs.Faults.{BeginsText}
-use Rattle.sb_step.specs.Numbers.{uses, IsGreatest}
-use Rattle.sb_step.specs.Rules.{Rule, One, ◌⋅◌}
-use Rattle.sb_step.specs.Records.Schema.{OneString}
-use Rattle.sb_step.specs.Index.Turns.{next_turn, start, Ran, run}
+use Rattle.sb_step.specs.Rules.{◌⋅◌}
 use Rattle.sb_step.proofs.Records.PlacesOfItems.{count_by-cons}
 use Rattle.sb_step.proofs.Texts.SomeTextGoesOn.{lexeme_of, mark_of, keyword_of}
-use Rattle.sb_step.proofs.Texts.TextsEnd.{ends_text, runs_begin}
-use Rattle.sb_step.proofs.Texts.OneFileOrOneFault.{stops}
+use Rattle.sb_step.proofs.Texts.WhatIsReadIsText.{before}
+use Rattle.sb_step.proofs.Texts.TextsEnd.{ends_text, runs_begin, stops}
 
 -- a text begins with the lexemes, and none with one more
 record StopsAt (xs : List Lexeme) (x : Lexeme) : Type 0 where
@@ -29,7 +20,7 @@ stops_at : (xs : List Lexeme) (x : Lexeme) (ran : Ran) → run xs start ≡ Some
     → next_turn ran.state x ≡ None → StopsAt xs x
 stops_at xs x ran is none = record {
   begins = runs_begin xs ran is;
-  refused = stops xs ran x is none;
+  refused = stops xs ran is x none;
 }
 
 -- lexemes
@@ -185,23 +176,10 @@ begins_here = record { start = 0; end = 0; form = form.Simple 0 }
 -- `A(('IFC4'))`
 in_a_list : OneString begins_here (codes "IFC4")
     (keyword ∷ opening ∷ opening ∷ ifc4 ∷ closing ∷ closing ∷ []) []
-in_a_list = record {
-  middle = _;
-  first = (record { keyword = refl; start = refl; form = refl }, refl);
-  second = record {
-    middle = _;
-    first = (refl, refl);
-    second = record {
-      middle = _;
-      first = (refl, refl);
-      second = record {
-        middle = _;
-        first = (record { string = refl; spelled = refl }, refl);
-        second = record { middle = _; first = (refl, refl); second = (refl, refl) };
-      };
-    };
-  };
-}
+in_a_list =
+    before (record { keyword = refl; start = refl; form = refl })
+    (before refl (before refl (before (record { string = refl; spelled = refl })
+    (before refl (refl, refl)))))
 
 behind : {P : Lexeme → Type 0} (Q : Rule) {x : Lexeme} {xs rest : List Lexeme}
     → (One P ⋅ Q) (x ∷ xs) rest → Q xs rest

@@ -1,79 +1,7 @@
 -- Each input is one file or has one fault.
-use Rattle.std.proofs.Common.{◌≡◌, ℕ, ◌⊎◌, List, [], ◌∷◌, ◌++◌, Option, Some, None, refl, sym, ap, ap₂, ◌∙◌, subst, inl, inr, append_assoc, append-nil}
-use Rattle.std.specs.Prelude.{option_and_then}
-use Rattle.std.proofs.lemmas.Option.{same_Some, none-some}
-use Rattle.std.proofs.lemmas.List.{map-append}
-use Rattle.sb_lex.specs.declared.kinds.Token.{Token}
-use Rattle.sb_lex.specs.declared.kinds.BadToken.{BadToken}
-use Rattle.sb_lex.specs.Tokens.{AreTokens, EachInputHasTokens, TokensAreUnique}
-use Rattle.sb_step.specs.Lexemes.{Lexeme, lexeme_at, lexemes}
-use Rattle.sb_step.specs.Grammar.{File, IsText}
-use Rattle.sb_step.specs.Faults.{IsFile, BeginsText, place_of, GoesOn, IsFaultAt, EachIsFileOrFault, FilesAreUnique, FaultsAreUnique, NoFileHasAFault}
-use Rattle.sb_step.specs.Index.Turns.{State, Turn, next_turn, start, end_of, file_of, Ran, and_ran, run}
-use Rattle.sb_step.proofs.Texts.TextsEnd.{text_ends, ends_text, begun_runs, runs_begin}
-
--- runs, one lexeme further
-
--- a run, and one lexeme more
-abbrev pub ran_then : Ran → Option Turn → Option Ran
-ran_then r None = None
-ran_then r (Some t) = Some (record { state = t.state; events = r.events ++ t.event ∷ [] })
-
--- and after a run that there may be
-abbrev pub then_turn : Option Ran → Lexeme → Option Ran
-then_turn None x = None
-then_turn (Some r) x = ran_then r (next_turn r.state x)
-
-one_turn : (s : State) (x : Lexeme) (found : Option Turn)
-    → option_and_then (λ t. and_ran t.event (Some (record { state = t.state; events = [] }))) found
-    ≡ ran_then (record { state = s; events = [] }) found
-one_turn s x None = refl
-one_turn s x (Some t) = refl
-
-and_then_turn : (t : Turn) (found : Option Ran) (x : Lexeme)
-    → and_ran t.event (then_turn found x) ≡ then_turn (and_ran t.event found) x
-and_then_turn t None x = refl
-and_then_turn t (Some r) x = and_ran_then (next_turn r.state x)
-  where
-    and_ran_then : (found : Option Turn) → and_ran t.event (ran_then r found)
-        ≡ ran_then (record { state = r.state; events = t.event ∷ r.events }) found
-    and_ran_then None = refl
-    and_ran_then (Some u) = refl
-
--- a run over one lexeme more
-pub run-more : (ts : List Lexeme) (s : State) (x : Lexeme) → run (ts ++ x ∷ []) s
-    ≡ then_turn (run ts s) x
-run-more [] s x = one_turn s x (next_turn s x)
-run-more (t ∷ ts) s x = by (λ u. run-more ts u x) (next_turn s t)
-  where
-    by : ((u : State) → run (ts ++ x ∷ []) u ≡ then_turn (run ts u) x) → (found : Option Turn)
-        → option_and_then (λ u. and_ran u.event (run (ts ++ x ∷ []) u.state)) found
-        ≡ then_turn (option_and_then (λ u. and_ran u.event (run ts u.state)) found) x
-    by later None = refl
-    by later (Some u) = ap (and_ran u.event) (later u.state) ∙ and_then_turn u (run ts u.state) x
-
--- where the machine stops, no text goes on
-pub stops : (ts : List Lexeme) (ran : Ran) (x : Lexeme) → run ts start ≡ Some ran
-    → next_turn ran.state x ≡ None → BeginsText (ts ++ x ∷ []) → ⊥
-stops ts ran x is none begins =
-    let r = begun_runs (ts ++ x ∷ []) begins in
-    none-some r.0 (sym (run-more ts start x ∙ ap (λ o. then_turn o x) is
-    ∙ ap (ran_then ran) none) ∙ r.1)
-
--- where it goes on, some text does
-pub goes_on : (ts : List Lexeme) (ran : Ran) (x : Lexeme) (turn : Turn) → run ts start ≡ Some ran
-    → next_turn ran.state x ≡ Some turn → run (ts ++ x ∷ []) start
-    ≡ Some (record { state = turn.state; events = ran.events ++ turn.event ∷ [] })
-goes_on ts ran x turn is on =
-    run-more ts start x ∙ ap (λ o. then_turn o x) is ∙ ap (ran_then ran) on
-
--- where it has not come to its end, no text has ended
-pub no_end : (ts : List Lexeme) (ran : Ran) → run ts start ≡ Some ran → end_of ran.state ≡ None
-    → (file : File) × IsText ts file → ⊥
-no_end ts ran is none text =
-    let e = text_ends ts text.0 text.1 in
-    none-some e.place (sym none ∙ ap (λ r. end_of r.state) (same_Some ran e.ran (sym is ∙ e.is))
-    ∙ e.ends)
+use Rattle.sb_step.proofs.Names.{◌≡◌, ℕ, ◌⊎◌, List, [], ◌∷◌, ◌++◌, Option, Some, None, refl, sym, ap, ap₂, ◌∙◌, subst, inl, inr, ⊎_elim, append_assoc, append-nil, map-append, Token, BadToken, AreTokens, EachInputHasTokens, TokensAreUnique, Lexeme, lexeme_at, lexemes, File, IsText, IsFile, BeginsText, GoesOn, IsFaultAt, EachIsFileOrFault, FilesAreUnique, FaultsAreUnique, NoFileHasAFault, Turn, next_turn, start, end_of, file_of, Ran, run}
+use Rattle.sb_step.specs.Faults.{place_of}
+use Rattle.sb_step.proofs.Texts.TextsEnd.{goes_on, ends_text, no_end, runs_begin, stops, one_file}
 
 -- the lexemes of one token more
 pub lexemes-more : (input : List ℕ) (before : List Token) (t : Token)
@@ -86,45 +14,45 @@ lexemes-more input before t = map-append (lexeme_at input) before (t ∷ [])
 abbrev pub FileOrFault : List ℕ → Type 0
 FileOrFault input = ((file : File) × IsFile input file) ⊎ ((place : ℕ) × IsFaultAt input place)
 
+-- the fault behind tokens that were read
+pub fault_behind : (input : List ℕ) (before after : List Token) (bad : Option BadToken) (ran : Ran)
+    → AreTokens input (before ++ after) bad → run (lexemes input before) start ≡ Some ran
+    → (GoesOn input before after bad → ⊥) → IsFaultAt input (place_of input after bad)
+fault_behind input before after bad ran are is refused = record {
+  before = before;
+  after = after;
+  bad = bad;
+  are = are;
+  at = refl;
+  begins = runs_begin (lexemes input before) ran is;
+  refused = refused;
+}
+
+-- and the file that they are
+pub file_behind : (input : List ℕ) (tokens : List Token) (ran : Ran) (k : ℕ)
+    → AreTokens input (tokens ++ []) None → run (lexemes input tokens) start ≡ Some ran
+    → end_of ran.state ≡ Some k → IsFile input (file_of ran.events k)
+file_behind input tokens ran k are is ends = record {
+  tokens = tokens;
+  are = subst (λ ts. AreTokens input ts None) (append-nil tokens) are;
+  text = ends_text (lexemes input tokens) ran k is ends;
+}
+
 decide : (input : List ℕ) (before after : List Token) (bad : Option BadToken) (ran : Ran)
     → AreTokens input (before ++ after) bad → run (lexemes input before) start ≡ Some ran
     → FileOrFault input
 decide input before [] (Some bad) ran are is =
-    inr (
-      bad.0,
-      record {
-        before = before;
-        after = [];
-        bad = Some bad;
-        are = are;
-        at = refl;
-        begins = runs_begin (lexemes input before) ran is;
-        refused = λ goes. goes;
-      },
-    )
+    inr (bad.0, fault_behind input before [] (Some bad) ran are is (λ goes. goes))
 decide input before [] None ran are is = at_end (end_of ran.state) refl
   where
     at_end : (ends : Option ℕ) → end_of ran.state ≡ ends → FileOrFault input
-    at_end None none = inr (
-      _,
-      record {
-        before = before;
-        after = [];
-        bad = None;
-        are = are;
-        at = refl;
-        begins = runs_begin (lexemes input before) ran is;
-        refused = no_end (lexemes input before) ran is none;
-      },
-    )
-    at_end (Some k) ends = inl (
-      file_of ran.events k,
-      record {
-        tokens = before;
-        are = subst (λ ts. AreTokens input ts None) (append-nil before) are;
-        text = ends_text (lexemes input before) ran k is ends;
-      },
-    )
+    at_end None none =
+        inr (
+          _,
+          fault_behind input before [] None ran are is
+              (no_end (lexemes input before) ran is none),
+        )
+    at_end (Some k) ends = inl (file_of ran.events k, file_behind input before ran k are is ends)
 decide input before (t ∷ after) bad ran are is =
     at_token (λ r reads. decide input (before ++ t ∷ []) after bad r
     (subst (λ ts. AreTokens input ts bad) (sym (append_assoc before (t ∷ []) after)) are) reads)
@@ -134,22 +62,16 @@ decide input before (t ∷ after) bad ran are is =
         → FileOrFault input) → (found : Option Turn)
         → next_turn ran.state (lexeme_at input t) ≡ found
         → FileOrFault input
-    at_token further None none = inr (
-      t.start,
-      record {
-        before = before;
-        after = t ∷ after;
-        bad = bad;
-        are = are;
-        at = refl;
-        begins = runs_begin (lexemes input before) ran is;
-        refused = stops (lexemes input before) ran (lexeme_at input t) is none;
-      },
-    )
+    at_token further None none =
+        inr (
+          t.start,
+          fault_behind input before (t ∷ after) bad ran are is
+              (stops (lexemes input before) ran is (lexeme_at input t) none),
+        )
     at_token further (Some turn) on =
         further (record { state = turn.state; events = ran.events ++ turn.event ∷ [] })
         (ap (λ l. run l start) (lexemes-more input before t)
-        ∙ goes_on (lexemes input before) ran (lexeme_at input t) turn is on)
+        ∙ goes_on (lexeme_at input t) turn (lexemes input before) start ran is on)
 
 -- each input is a file or has a fault
 pub each_is_file_or_fault : EachInputHasTokens → EachIsFileOrFault
@@ -163,13 +85,8 @@ each_is_file_or_fault has_tokens input =
 pub files_are_unique : TokensAreUnique → FilesAreUnique
 files_are_unique one_list input file other is also =
     let same = one_list input is.tokens also.tokens None None is.are also.are in
-    let e = text_ends (lexemes input is.tokens) file is.text in
-    let o = text_ends (lexemes input is.tokens) other
-    (subst (λ ts. IsText (lexemes input ts) other) (sym same.0) also.text) in
-    let ran : e.ran ≡ o.ran = same_Some e.ran o.ran (sym e.is ∙ o.is) in
-    let place : e.place ≡ o.place =
-    same_Some e.place o.place (sym e.ends ∙ ap (λ r. end_of r.state) ran ∙ o.ends) in
-    e.whole ∙ ap₂ (λ r k. file_of r.events k) ran place ∙ sym o.whole
+    one_file (lexemes input is.tokens) file other is.text
+    (subst (λ ts. IsText (lexemes input ts) other) (sym same.0) also.text)
 
 -- one list ends where another goes on
 pub record GoesFurther (front back longer : List Token) : Type 0 where
@@ -179,38 +96,31 @@ pub record GoesFurther (front back longer : List Token) : Type 0 where
   pub joined : longer ≡ front ++ next ∷ middle
   pub behind : back ≡ next ∷ rest
 
--- two ways to cut one list
-pub data TwoCuts (b a c d : List Token) : Type 0 where
-  same : b ≡ c → a ≡ d → TwoCuts b a c d
-  earlier : GoesFurther b a c → TwoCuts b a c d
-  later : GoesFurther c d b → TwoCuts b a c d
-
-further : (t : Token) (b a c : List Token) → GoesFurther b a c → GoesFurther (t ∷ b) a (t ∷ c)
-further t b a c g = record {
+further : (t u : Token) (b a c : List Token) → t ≡ u → GoesFurther b a c
+    → GoesFurther (t ∷ b) a (u ∷ c)
+further t u b a c heads g = record {
   next = g.next;
   middle = g.middle;
   rest = g.rest;
-  joined = ap (λ l. t ∷ l) g.joined;
+  joined = λ i. sym heads i ∷ g.joined i;
   behind = g.behind;
 }
 
-cuts : (b a c d : List Token) → b ++ a ≡ c ++ d → TwoCuts b a c d
-cuts [] a [] d e = same refl e
-cuts [] a (t ∷ c) d e = earlier (record
-    { next = t; middle = c; rest = c ++ d; joined = refl; behind = e })
-cuts (t ∷ b) a [] d e = later (record
-    { next = t; middle = b; rest = b ++ a; joined = refl; behind = sym e })
+-- two ways to cut one list: at one place, or one of them further on
+cuts : (b a c d : List Token) → b ++ a ≡ c ++ d
+    → ((b ≡ c) × (a ≡ d)) ⊎ (GoesFurther b a c ⊎ GoesFurther c d b)
+cuts [] a [] d e = inl (refl, e)
+cuts [] a (t ∷ c) d e =
+    inr (inl (record { next = t; middle = c; rest = c ++ d; joined = refl; behind = e }))
+cuts (t ∷ b) a [] d e =
+    inr (inr (record { next = t; middle = b; rest = b ++ a; joined = refl; behind = sym e }))
 cuts (t ∷ b) a (u ∷ c) d e =
     let heads : t ≡ u = cc in
     let tails : b ++ a ≡ c ++ d = cc in
-    more heads (cuts b a c d tails)
-  where
-    more : t ≡ u → TwoCuts b a c d → TwoCuts (t ∷ b) a (u ∷ c) d
-    more heads (same front back) = same (ap₂ (λ v l. v ∷ l) heads front) back
-    more heads (earlier g) =
-        subst (λ v. TwoCuts (t ∷ b) a (v ∷ c) d) heads (earlier (further t b a c g))
-    more heads (later g) =
-        subst (λ v. TwoCuts (t ∷ b) a (v ∷ c) d) heads (later (further t c d b g))
+    ⊎_elim (λ same. inl ((λ i. heads i ∷ same.0 i), same.1))
+    (λ others. inr (⊎_elim (λ g. inl (further t u b a c heads g))
+    (λ g. inr (further u t c d b (sym heads) g)) others))
+    (cuts b a c d tails)
 
 -- what a text begins with begins with less
 begins_less : (xs : List Lexeme) (x : Lexeme) (ys : List Lexeme) → BeginsText (xs ++ x ∷ ys)
@@ -244,15 +154,11 @@ pub faults_are_unique : TokensAreUnique → FaultsAreUnique
 faults_are_unique one_list input place other one two =
     let tokens = one_list input (one.before ++ one.after) (two.before ++ two.after)
     one.bad two.bad one.are two.are in
-    by (cuts one.before one.after two.before two.after tokens.0) tokens.1
-  where
-    by : TwoCuts one.before one.after two.before two.after → one.bad ≡ two.bad → place ≡ other
-    by (same front back) bad =
-        sym one.at ∙ ap₂ (place_of input) back bad ∙ two.at
-    by (earlier g) bad =
-        absurd (no_earlier input one.before one.after two.before one.bad one.refused two.begins g)
-    by (later g) bad =
-        absurd (no_earlier input two.before two.after one.before two.bad two.refused one.begins g)
+    ⊎_elim (λ same. sym one.at ∙ ap₂ (place_of input) same.1 tokens.1 ∙ two.at)
+    (λ apart. absurd (⊎_elim
+    (no_earlier input one.before one.after two.before one.bad one.refused two.begins)
+    (no_earlier input two.before two.after one.before two.bad two.refused one.begins) apart))
+    (cuts one.before one.after two.before two.after tokens.0)
 
 -- a text goes on to its end
 goes_to_end : (input : List ℕ) (before after : List Token) (bad : Option BadToken)

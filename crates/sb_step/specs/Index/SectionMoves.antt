@@ -1,7 +1,8 @@
 -- What may stand next outside of parameter lists.
-use Rattle.std.specs.Prelude.{ℕ, Bool, true, false, if◌then◌else◌, codes, Option, Some, None}
-use Rattle.sb_lex.specs.declared.kinds.Kind.{Kind}
+use Rattle.std.specs.Prelude.{ℕ, true, false, codes, List, [], ◌∷◌, Option}
+use Rattle.sb_lex.specs.declared.kinds.Mark.TheVariants as mark
 use Rattle.sb_lex.specs.declared.kinds.Token.{Token}
+use Rattle.sb_lex.specs.declared.kinds.Word.TheVariants as word
 use Rattle.sb_step.specs.declared.step_file.records.Form.TheVariants as form
 use Rattle.sb_step.specs.declared.step_file.records.Record.{Record}
 use Rattle.sb_step.specs.declared.indexing.states.Span.{Span}
@@ -11,8 +12,10 @@ use Rattle.sb_step.specs.declared.indexing.states.Section.TheVariants as section
 use Rattle.sb_step.specs.declared.indexing.states.Event.{Event}
 use Rattle.sb_step.specs.declared.indexing.states.Event.TheVariants as event
 use Rattle.sb_step.specs.declared.indexing.states.Move.{Move}
-use Rattle.sb_step.specs.Lexemes.{Lexeme, is_open, is_close}
-use Rattle.sb_step.specs.KindTests.{is_semicolon, is_equals, is_first, is_last, is_keyword, number_of, is_the}
+use Rattle.sb_step.specs.Lexemes.{Lexeme}
+use Rattle.sb_step.specs.KindTests.{number_of}
+use Rattle.sb_step.specs.Index.Ways.{Asked, Way, pick, ◌⇢◌}
+use Rattle.sb_step.specs.Index.Ways.Asked.{the_word, the, a_keyword, a_name, the_mark}
 
 -- the next lexeme, where nothing was found
 abbrev pub moves : Section → Move
@@ -25,10 +28,6 @@ enters o = record { section = o; opens = true; event = event.Nothing }
 -- a record ends
 abbrev pub finds : Section → Event → Move
 finds o x = record { section = o; opens = false; event = x }
-
--- so, if the test holds
-abbrev pub only : Bool → Move → Option Move
-only b m = if b then Some m else None
 
 -- where the keyword stands
 abbrev pub span_of : Lexeme → Span
@@ -50,63 +49,52 @@ simple_part n t = record { number = n; start = t.start; form = form.Simple t.end
 abbrev pub complex_part : ℕ → Token → Part
 complex_part n t = record { number = n; start = t.start; form = form.Complex }
 
--- a name of an instance, where one is wanted
-abbrev pub names : Option ℕ → Option Move
-names None = None
-names (Some n) = Some (moves (section.Equals n))
+-- a semicolon is asked
+abbrev pub semicolon : Asked
+semicolon = the_mark mark.Semicolon
 
--- an entity's list or the semicolon of the header's end
-abbrev pub list_or_end : Span → Kind → Option Move
-list_or_end s k =
-    if is_open k then Some (enters (section.EntityEnd s))
-    else only (is_semicolon k) (moves section.Data)
+-- a parenthesis that opens
+abbrev pub open_mark : Asked
+open_mark = the_mark mark.Open
 
--- a further record of a complex one, or its end
-abbrev pub record_or_end : Part → Kind → Option Move
-record_or_end p k =
-    if is_keyword k then Some (moves (section.RecordOpen p))
-    else only (is_close k) (moves (section.InstanceEnd p))
+-- the ways on outside of parameter lists; the first leads to the end of the text
+abbrev pub section_ways : Section → Lexeme → List (Way Move)
+section_ways section.Begin x = the_word word.First ⇢ moves section.BeginSemicolon ∷ []
+section_ways section.BeginSemicolon x = semicolon ⇢ moves section.Header ∷ []
+section_ways section.Header x = the (codes "HEADER") ⇢ moves section.HeaderSemicolon ∷ []
+section_ways section.HeaderSemicolon x = semicolon ⇢ moves section.FirstEntity ∷ []
+section_ways section.FirstEntity x = a_keyword ⇢ moves (section.EntityOpen (span_of x)) ∷ []
+section_ways section.Entities x =
+    the (codes "ENDSEC") ⇢ moves (section.EntityOrEnd (span_of x))
+    ∷ a_keyword ⇢ moves (section.EntityOpen (span_of x)) ∷ []
+section_ways (section.EntityOrEnd s) x =
+    semicolon ⇢ moves section.Data ∷ open_mark ⇢ enters (section.EntityEnd s) ∷ []
+section_ways (section.EntityOpen s) x = open_mark ⇢ enters (section.EntityEnd s) ∷ []
+section_ways (section.EntityEnd s) x =
+    semicolon ⇢ finds section.Entities (event.Entity (entity_of s x.token.start)) ∷ []
+section_ways section.Data x = the (codes "DATA") ⇢ moves section.DataSemicolon ∷ []
+section_ways section.DataSemicolon x = semicolon ⇢ moves section.Instances ∷ []
+section_ways section.Instances x =
+    the (codes "ENDSEC") ⇢ moves (section.EndSemicolon x.token.start)
+    ∷ a_name ⇢ moves (section.Equals (number_of x.token.kind)) ∷ []
+section_ways (section.Equals n) x = the_mark mark.Equals ⇢ moves (section.Body n) ∷ []
+section_ways (section.Body n) x =
+    a_keyword ⇢ moves (section.SimpleOpen (simple_part n x.token))
+    ∷ open_mark ⇢ moves (section.FirstRecord (complex_part n x.token)) ∷ []
+section_ways (section.SimpleOpen p) x = open_mark ⇢ enters (section.InstanceEnd p) ∷ []
+section_ways (section.FirstRecord p) x = a_keyword ⇢ moves (section.RecordOpen p) ∷ []
+section_ways (section.RecordOpen p) x = open_mark ⇢ enters (section.NextRecord p) ∷ []
+section_ways (section.NextRecord p) x =
+    the_mark mark.Close ⇢ moves (section.InstanceEnd p)
+    ∷ a_keyword ⇢ moves (section.RecordOpen p) ∷ []
+section_ways (section.InstanceEnd p) x =
+    semicolon ⇢ finds section.Instances
+    (event.Instance p.number (record_of p x.token.start)) ∷ []
+section_ways (section.EndSemicolon k) x = semicolon ⇢ moves (section.LastWord k) ∷ []
+section_ways (section.LastWord k) x = the_word word.Last ⇢ moves (section.LastSemicolon k) ∷ []
+section_ways (section.LastSemicolon k) x = semicolon ⇢ moves (section.End k) ∷ []
+section_ways (section.End k) x = []
 
--- a simple record or a complex one
-abbrev pub body : ℕ → Token → Option Move
-body n t =
-    if is_keyword t.kind then Some (moves (section.SimpleOpen (simple_part n t)))
-    else only (is_open t.kind) (moves (section.FirstRecord (complex_part n t)))
-
--- what may stand next outside of parameter lists
+-- what may stand next there
 abbrev pub section_move : Section → Lexeme → Option Move
-section_move section.Begin x = only (is_first x.token.kind) (moves section.BeginSemicolon)
-section_move section.BeginSemicolon x = only (is_semicolon x.token.kind) (moves section.Header)
-section_move section.Header x = only (is_the (codes "HEADER") x) (moves section.HeaderSemicolon)
-section_move section.HeaderSemicolon x = only (is_semicolon x.token.kind)
-    (moves section.FirstEntity)
-section_move section.FirstEntity x = only (is_keyword x.token.kind)
-    (moves (section.EntityOpen (span_of x)))
-section_move section.Entities x =
-    if is_the (codes "ENDSEC") x then Some (moves (section.EntityOrEnd (span_of x)))
-    else only (is_keyword x.token.kind) (moves (section.EntityOpen (span_of x)))
-section_move (section.EntityOrEnd s) x = list_or_end s x.token.kind
-section_move (section.EntityOpen k) x = only (is_open x.token.kind) (enters (section.EntityEnd k))
-section_move (section.EntityEnd k) x = only (is_semicolon x.token.kind)
-    (finds section.Entities (event.Entity (entity_of k x.token.start)))
-section_move section.Data x = only (is_the (codes "DATA") x) (moves section.DataSemicolon)
-section_move section.DataSemicolon x = only (is_semicolon x.token.kind) (moves section.Instances)
-section_move section.Instances x =
-    if is_the (codes "ENDSEC") x then Some (moves (section.EndSemicolon x.token.start))
-    else names (number_of x.token.kind)
-section_move (section.Equals n) x = only (is_equals x.token.kind) (moves (section.Body n))
-section_move (section.Body n) x = body n x.token
-section_move (section.SimpleOpen p) x = only (is_open x.token.kind)
-    (enters (section.InstanceEnd p))
-section_move (section.FirstRecord p) x = only (is_keyword x.token.kind)
-    (moves (section.RecordOpen p))
-section_move (section.RecordOpen p) x = only (is_open x.token.kind) (enters (section.NextRecord p))
-section_move (section.NextRecord p) x = record_or_end p x.token.kind
-section_move (section.InstanceEnd p) x = only (is_semicolon x.token.kind)
-    (finds section.Instances (event.Instance p.number (record_of p x.token.start)))
-section_move (section.EndSemicolon k) x = only (is_semicolon x.token.kind)
-    (moves (section.LastWord k))
-section_move (section.LastWord k) x = only (is_last x.token.kind) (moves (section.LastSemicolon k))
-section_move (section.LastSemicolon k) x = only (is_semicolon x.token.kind)
-    (moves (section.End k))
-section_move (section.End k) x = None
+section_move o x = pick (section_ways o x) x

@@ -1,6 +1,6 @@
 -- The grammar as a machine that reads one lexeme after another. The proofs join this to the
 -- grammar: the machine goes on exactly where some text does.
-use Rattle.std.specs.Prelude.{◌≡◌, ◌-◌, ℕ, Bool, true, false, if◌then◌else◌, List, [], ◌∷◌, Option, Some, None, option_and_then}
+use Rattle.std.specs.Prelude.{◌≡◌, ◌-◌, ℕ, Bool, true, false, if◌then◌else◌, List, [], ◌∷◌, Option, Some, None, option_map, option_and_then}
 use Rattle.sb_lex.specs.declared.kinds.Kind.{Kind}
 use Rattle.sb_step.specs.declared.step_file.records.Record.{Record}
 use Rattle.sb_step.specs.declared.indexing.states.Section.{Section}
@@ -46,24 +46,22 @@ is_complex _ = false
 abbrev pub room_of : Section → ℕ
 room_of o = if is_complex o then (greatest_depth - 1) else greatest_depth
 
--- where no parameter list was open
-abbrev pub turn_section : Option Move → Option Turn
-turn_section None = None
-turn_section (Some m) = Some (record {
+-- the turn where no parameter list was open
+abbrev pub turn_of : Move → Turn
+turn_of m = record {
   state = record { section = m.section; nest = if m.opens then begun else plain };
   event = m.event;
-})
+}
 
--- where one was
-abbrev pub turn_list : Section → Option Nest → Option Turn
-turn_list o None = None
-turn_list o (Some n) =
-    Some (record { state = record { section = o; nest = n }; event = event.Nothing })
+-- the turn where one was
+abbrev pub turn_within : Section → Nest → Turn
+turn_within o n = record { state = record { section = o; nest = n }; event = event.Nothing }
 
 -- one lexeme more
 abbrev pub next_turn_at : Section → List Bracket → Want → Lexeme → Option Turn
-next_turn_at o [] w x = turn_section (section_move o x)
-next_turn_at o (f ∷ fs) w x = turn_list o (by_want w (room_of o) (f ∷ fs) x.token.kind)
+next_turn_at o [] w x = option_map turn_of (section_move o x)
+next_turn_at o (f ∷ fs) w x =
+    option_map (turn_within o) (by_want w (room_of o) (f ∷ fs) x.token.kind)
 
 -- the same from a state
 abbrev pub next_turn : State → Lexeme → Option Turn
@@ -76,9 +74,9 @@ Advances s x (Some g) t = next_turn s x ≡ Some (record { state = t; event = g 
 
 -- the same where a parameter list is open, for which the kind is enough
 abbrev pub AdvancesList : State → Kind → Option Event → State → Type 0
-AdvancesList s k None t = turn_list s.section
+AdvancesList s k None t = option_map (turn_within s.section)
     (by_want s.nest.want (room_of s.section) s.nest.brackets k) ≡ None
-AdvancesList s k (Some g) t = turn_list s.section
+AdvancesList s k (Some g) t = option_map (turn_within s.section)
     (by_want s.nest.want (room_of s.section) s.nest.brackets k)
     ≡ Some (record { state = t; event = g })
 
@@ -121,8 +119,7 @@ pub record Ran : Type 0 where
 
 -- a run with one event before it
 abbrev pub and_ran : Event → Option Ran → Option Ran
-and_ran x None = None
-and_ran x (Some r) = Some (record { state = r.state; events = x ∷ r.events })
+and_ran x found = option_map (λ r. record { state = r.state; events = x ∷ r.events }) found
 
 -- a run over the lexemes
 abbrev pub run : List Lexeme → State → Option Ran

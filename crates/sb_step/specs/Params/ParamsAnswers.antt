@@ -8,7 +8,6 @@ use Rattle.sb_step.specs.declared.step_file.records.Form.{Form}
 use Rattle.sb_step.specs.declared.step_file.records.Form.TheVariants as form
 use Rattle.sb_step.specs.declared.parameters.param.Param.{Param}
 use Rattle.sb_step.specs.Lexemes.{Lexeme}
-use Rattle.sb_step.specs.Grammar.{ParameterList}
 use Rattle.sb_step.specs.Indexed.{Indexed}
 use Rattle.sb_step.specs.Params.Parameters.{AreParameters, HasParameters}
 use Rattle.sb_step.specs.Params.Readers.{AreAhead, Awaits}
@@ -31,13 +30,13 @@ reader_at input place = record { input = input; place = place }
 -- a parameter list stands behind this byte
 pub record AwaitsList (input : List ℕ) (place : ℕ) : Type 0 where
   pub within : place ≤ length input
-  pub awaits : Awaits ParameterList (reader_at input place)
+  pub awaits : Awaits AreParameters (reader_at input place)
 
--- what it says
+-- it says these parameters and no others
 abbrev pub ListSays : List ℕ → ℕ → List Param → Type 0
 ListSays input place ps =
-    (xs rest : List Lexeme) → AreAhead (reader_at input place) xs → ParameterList xs rest
-    → AreParameters ps xs rest
+    (qs : List Param) (xs rest : List Lexeme) → AreAhead (reader_at input place) xs
+    → AreParameters qs xs rest → qs ≡ ps
 
 -- where a record is simple, its list stands behind its keyword
 abbrev pub AwaitsByForm : List ℕ → Form → Type 0

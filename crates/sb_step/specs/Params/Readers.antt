@@ -1,12 +1,11 @@
 -- What a reader of tokens passes over, and what the steps that read parameters promise of it.
-use Rattle.std.specs.Prelude.{◌≡◌, ℕ, ◌<◌, ◌≤◌, ◌⊎◌, List, [], ◌∷◌, length}
+use Rattle.std.specs.Prelude.{◌≡◌, ℕ, ◌<◌, ◌≤◌, List, [], ◌∷◌, length}
 use Rattle.sb_lex.specs.declared.kinds.Mark.TheVariants as mark
 use Rattle.sb_lex.specs.declared.kinds.Token.{Token}
 use Rattle.sb_lex.specs.Tokens.{IsNext, IsEnd, IsToken, LiesBehind, Reading}
 use Rattle.sb_step.specs.declared.parameters.param.Param.{Param}
 use Rattle.sb_step.specs.Lexemes.{Lexeme, lexeme_at, IsMark}
 use Rattle.sb_step.specs.Rules.{Rule, One, Joined}
-use Rattle.sb_step.specs.Grammar.{Parameter, MoreParameters}
 use Rattle.sb_step.specs.Params.Parameters.{IsParameter, AreFurther}
 
 -- the reader behind this token
@@ -31,43 +30,40 @@ pub record ReadsToken (old new : Reading) (t : Token) : Type 0 where
   pub moved : new ≡ behind old.input t
   pub lies : LiesBehind old t
 
--- it stands before what the rule describes
-pub record Awaits (P : Rule) (at : Reading) : Type 0 where
+-- it stands before what the rule describes, for some value
+pub record Awaits {A : Type 0} (P : A → Rule) (at : Reading) : Type 0 where
+  pub value : A
   pub xs : List Lexeme
   pub rest : List Lexeme
   pub ahead : AreAhead at xs
-  pub is : P xs rest
+  pub is : P value xs rest
 
 -- it has moved on in its input
 pub record Onward (old new : Reading) : Type 0 where
   pub input_is : new.input ≡ old.input
   pub place : old.place ≤ new.place
 
--- where it stood before what the first rule describes, the second describes that too, and it stands
--- behind it now
-pub record CarriesOver (P Q : Rule) (old new : Reading) : Type 0 where
+-- the value was read: the rule describes no other where the reader stood, and it stands behind it
+pub record Reads {A : Type 0} (P : A → Rule) (old new : Reading) (value : A) : Type 0 where
   pub onward : Onward old new
-  pub leads : (xs rest : List Lexeme) → AreAhead old xs → P xs rest → Q xs rest × AreAhead new rest
+  pub leads : (a : A) (xs rest : List Lexeme) → AreAhead old xs → P a xs rest
+      → (a ≡ value) × AreAhead new rest
 
 -- the rule, where this lexeme was read already
-abbrev pub Behind : Lexeme → Rule → Rule
-Behind x P xs rest = P (x ∷ xs) rest
+abbrev pub Behind : {A : Type 0} → Lexeme → (A → Rule) → A → Rule
+Behind x P a xs rest = P a (x ∷ xs) rest
 
--- behind the parenthesis of a list: its end, or parameters
-abbrev pub InList : Rule
-InList xs rest = One (IsMark mark.Close) xs rest ⊎ Joined Parameter MoreParameters xs rest
-
--- the same, and what the parameters say
+-- behind the parenthesis of a list: its end, or what its parameters say
 abbrev pub AreInList : List Param → Rule
 AreInList [] xs rest = One (IsMark mark.Close) xs rest
 AreInList (p ∷ ps) xs rest = Joined (IsParameter p) (AreFurther ps) xs rest
 
 -- behind a parameter of a list, the token was read with which its list goes on or ends
-pub record NextItem (x : Lexeme) (new : Reading) (xs rest : List Lexeme) : Type 0 where
+pub record NextItem (x : Lexeme) (new : Reading) (ps : List Param) (rest : List Lexeme)
+    : Type 0 where
   pub ys : List Lexeme
   pub ahead : AreAhead new ys
-  pub in_list : InList (x ∷ ys) rest
-  pub says : (ps : List Param) → AreInList ps (x ∷ ys) rest → AreFurther ps xs rest
+  pub in_list : AreInList ps (x ∷ ys) rest
 
 -- behind a parameter of a list, the next token was read, or two of them
 pub record ReadsItem (old new : Reading) (t : Token) : Type 0 where
@@ -75,5 +71,5 @@ pub record ReadsItem (old new : Reading) (t : Token) : Type 0 where
   pub further : old.place < new.place
   pub within : new.place ≤ length old.input
   pub token : IsToken old.input t
-  pub leads : (xs rest : List Lexeme) → AreAhead old xs → MoreParameters xs rest
-      → NextItem (lexeme_at old.input t) new xs rest
+  pub leads : (ps : List Param) (xs rest : List Lexeme) → AreAhead old xs → AreFurther ps xs rest
+      → NextItem (lexeme_at old.input t) new ps rest

@@ -11,7 +11,9 @@ use Rattle.sb_step.specs.declared.step_file.records.Record.{Record}
 use Rattle.sb_step.specs.declared.step_file.schema.Schema.{Schema}
 use Rattle.sb_step.specs.declared.step_file.schema.Schema.TheVariants as schema
 use Rattle.sb_step.specs.Records.Schema.{is_spelled, is_schema}
-use Rattle.sb_step.specs.Lexemes.{is_open, is_close}
+use Rattle.sb_lex.specs.declared.kinds.Mark.{Mark}
+use Rattle.sb_lex.specs.declared.kinds.Mark.TheVariants as mark
+use Rattle.sb_step.specs.Lexemes.{is_mark}
 
 -- one FILE_SCHEMA more, whose keyword ends at this byte
 abbrev pub one_more : Schema → ℕ → Schema
@@ -62,15 +64,18 @@ pub record TokenLies (size : ℕ) (t : Token) : Type 0 where
   pub long : t.start + least_length t.kind ≤ t.end
   pub within : t.end ≤ size
 
+-- the mark
+abbrev pub marks : Mark → Option Token → Bool
+marks m None = false
+marks m (Some t) = is_mark m t.kind
+
 -- a parenthesis that opens
 abbrev pub opens : Option Token → Bool
-opens None = false
-opens (Some t) = is_open t.kind
+opens = marks mark.Open
 
 -- one that closes
 abbrev pub closes : Option Token → Bool
-closes None = false
-closes (Some t) = is_close t.kind
+closes = marks mark.Close
 
 -- the first two open
 abbrev pub both_open : List Token → Bool

@@ -1,6 +1,7 @@
 // What may stand next outside of parameter lists.
 ghost use Rattle.std.specs.Prelude.{◌≡◌, Some, None, if◌then◌else◌};
-ghost use Rattle.sb_step.specs.KindTests.{number_of};
+ghost use Rattle.sb_step.specs.Lexemes.{is_open as is_open_of, is_close as is_close_of};
+ghost use Rattle.sb_step.specs.KindTests as test;
 ghost use Rattle.sb_step.specs.Index.SectionMoves as spec;
 
 use crate::indexing::states::{Event, Move, Part, Section, Span};
@@ -111,12 +112,13 @@ fn entity_or_end(token: Token, text: &[u8]) -> Option<Move>
 }
 
 fn list_or_end(kind: Kind, keyword: Span) -> Option<Move>
-    ensures { result ≡ spec.list_or_end keyword kind }
+    ensures { result ≡ (if test.is_semicolon kind then Some (spec.moves Section.Data)
+        else if is_open_of kind then Some (spec.enters (Section.EntityEnd keyword)) else None) }
 {
-    if is_open(kind) {
-        enters(Section::EntityEnd(keyword))
+    if is_semicolon(kind) {
+        moves(Section::Data)
     } else {
-        only(is_semicolon(kind), moves(Section::Data))
+        only(is_open(kind), enters(Section::EntityEnd(keyword)))
     }
 }
 
@@ -144,7 +146,8 @@ fn instance_or_end(token: Token, text: &[u8]) -> Option<Move>
 }
 
 fn name(kind: Kind) -> Option<Move>
-    ensures { result ≡ spec.names (number_of kind) }
+    ensures { result ≡ (if test.is_name kind
+        then Some (spec.moves (Section.Equals (test.number_of kind))) else None) }
 {
     match kind {
         Kind::Name(number) => moves(Section::Equals(number)),
@@ -153,7 +156,10 @@ fn name(kind: Kind) -> Option<Move>
 }
 
 fn body(number: u32, token: Token) -> Option<Move>
-    ensures { result ≡ spec.body number token }
+    ensures { result ≡ (if test.is_keyword token.kind
+        then Some (spec.moves (Section.SimpleOpen (spec.simple_part number token)))
+        else if is_open_of token.kind
+        then Some (spec.moves (Section.FirstRecord (spec.complex_part number token))) else None) }
 {
     if is_keyword(token.kind) {
         moves(Section::SimpleOpen(Part {
@@ -178,12 +184,13 @@ fn complex(number: u32, start: usize) -> Option<Move>
 }
 
 fn record_or_end(kind: Kind, part: Part) -> Option<Move>
-    ensures { result ≡ spec.record_or_end part kind }
+    ensures { result ≡ (if is_close_of kind then Some (spec.moves (Section.InstanceEnd part))
+        else if test.is_keyword kind then Some (spec.moves (Section.RecordOpen part)) else None) }
 {
-    if is_keyword(kind) {
-        moves(Section::RecordOpen(part))
+    if is_close(kind) {
+        moves(Section::InstanceEnd(part))
     } else {
-        only(is_close(kind), moves(Section::InstanceEnd(part)))
+        only(is_keyword(kind), moves(Section::RecordOpen(part)))
     }
 }
 

@@ -2,9 +2,8 @@
 ghost use Rattle.std.specs.Prelude.{◌≡◌, IfOk};
 ghost use Rattle.sb_lex.specs.Tokens.{IsToken};
 ghost use Rattle.sb_step.specs.Lexemes.{lexeme_at, IsKeyword};
-ghost use Rattle.sb_step.specs.Grammar.{Parameter, MoreParameters};
-ghost use Rattle.sb_step.specs.Params.Parameters.{IsParameter};
-ghost use Rattle.sb_step.specs.Params.Readers.{HasNext, ReadsToken, Awaits, CarriesOver, Behind, InList, AreInList, ReadsItem};
+ghost use Rattle.sb_step.specs.Params.Parameters.{IsParameter, AreFurther};
+ghost use Rattle.sb_step.specs.Params.Readers.{HasNext, ReadsToken, Awaits, Reads, Behind, AreInList, ReadsItem};
 
 use crate::kinds::{is_close, is_comma, is_keyword, is_open};
 use crate::parameters::param::{Param, Params};
@@ -27,7 +26,7 @@ pub(crate) fn next(lexer: &mut Lexer<'_>) -> Token
 
 /// Behind a parameter of a list: the first token of the next one, or the end of the list.
 fn next_item(lexer: &mut Lexer<'_>) -> Token
-    requires { Awaits MoreParameters lexer.old }
+    requires { Awaits AreFurther lexer.old }
     ensures { ReadsItem lexer.old lexer.new result }
 {
     let mark = next(lexer);
@@ -48,9 +47,9 @@ fn parameter(
 ) -> Result<Param, AllocError>
     requires input { lexer.old.input ≡ bytes.now }
     requires token { IsToken bytes.now first }
-    requires awaits { Awaits (Behind (lexeme_at bytes.now first) Parameter) lexer.old }
-    ensures { IfOk result (λ p. CarriesOver (Behind (lexeme_at bytes.now first) Parameter)
-        (Behind (lexeme_at bytes.now first) (IsParameter p)) lexer.old lexer.new) }
+    requires awaits { Awaits (Behind (lexeme_at bytes.now first) IsParameter) lexer.old }
+    ensures { IfOk result (Reads (Behind (lexeme_at bytes.now first) IsParameter)
+        lexer.old lexer.new) }
 {
     if is_keyword(first.kind) {
         typed(alloc, bytes, lexer, first)
@@ -72,9 +71,9 @@ fn typed(
     requires input { lexer.old.input ≡ bytes.now }
     requires token { IsToken bytes.now keyword }
     requires keyword { IsKeyword (lexeme_at bytes.now keyword) }
-    requires awaits { Awaits (Behind (lexeme_at bytes.now keyword) Parameter) lexer.old }
-    ensures { IfOk result (λ p. CarriesOver (Behind (lexeme_at bytes.now keyword) Parameter)
-        (Behind (lexeme_at bytes.now keyword) (IsParameter p)) lexer.old lexer.new) }
+    requires awaits { Awaits (Behind (lexeme_at bytes.now keyword) IsParameter) lexer.old }
+    ensures { IfOk result (Reads (Behind (lexeme_at bytes.now keyword) IsParameter)
+        lexer.old lexer.new) }
 {
     let _opens = next(lexer);
     let first = next(lexer);
@@ -88,8 +87,8 @@ fn typed(
 #[cycle(reading)]
 pub(crate) fn list(alloc: Global, bytes: &[u8], lexer: &mut Lexer<'_>) -> Result<Params, AllocError>
     requires input { lexer.old.input ≡ bytes.now }
-    requires awaits { Awaits InList lexer.old }
-    ensures { IfOk result (λ ps. CarriesOver InList (AreInList ps) lexer.old lexer.new) }
+    requires awaits { Awaits AreInList lexer.old }
+    ensures { IfOk result (Reads AreInList lexer.old lexer.new) }
 {
     let mut items = Items::new(alloc);
     let mut token = next(lexer);

@@ -1,5 +1,5 @@
 use Rattle.std.proofs.Common.{sym, subst}
-use Rattle.sb_step.specs.Grammar.{ParameterList}
+use Rattle.sb_step.specs.Params.Parameters.{AreParameters}
 use Rattle.sb_step.specs.Params.Readers.{Awaits}
 use Rattle.sb_step.proofs.ParameterLists.ListsAreRead.{list_has_next}
 use Rattle.sb_step.proofs.ParameterLists.ParametersOfAnInstance.{behind_parenthesis}
@@ -9,9 +9,8 @@ use Rattle.sb_step.proofs.cursor.at_list.Goals as goal
 pub next-first-requires : goal.next-first-requires
 next-first-requires c =
     list_has_next c.next-opens.new.lexer
-    (behind_parenthesis c.at-lexer.result c.next-opens.new.lexer c.next-opens.result
-    c.next-opens.ensures
-    (subst (Awaits ParameterList) (sym c.at-lexer.ensures) c.requires.awaits))
+    (behind_parenthesis c.next-opens.ensures
+    (subst (Awaits AreParameters) (sym c.at-lexer.ensures) c.requires.awaits))
 
 pub standing_at-requires : goal.standing_at-requires
 standing_at-requires c =

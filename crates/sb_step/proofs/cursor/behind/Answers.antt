@@ -1,13 +1,13 @@
 use Rattle.std.proofs.Common.{drop, sym, subst}
 use Rattle.sb_step.specs.Lexemes.{lexeme_at}
-use Rattle.sb_step.specs.Grammar.{Parameter}
+use Rattle.sb_step.specs.Params.Parameters.{IsParameter}
 use Rattle.sb_step.specs.Params.Readers.{Awaits, Behind}
 use Rattle.sb_step.proofs.Cursors.ParametersArePassed.{first_awaited, passed_from, further_awaited, others_left}
 use Rattle.sb_step.proofs.cursor.behind.Goals as goal
 
 pub pass-requires : goal.pass-requires
 pass-requires c =
-    subst (λ r. Awaits (Behind (lexeme_at r.input c.args.first) Parameter) r)
+    subst (λ r. Awaits (Behind (lexeme_at r.input c.args.first) IsParameter) r)
     (sym c.at-lexer.ensures)
     (first_awaited c.args.bytes.now c.args.first c.requires.0 c.requires.1)
 

@@ -1,4 +1,4 @@
-use Rattle.std.proofs.Common.{Ok, Err}
+use Rattle.sb_step.proofs.Names.{Ok, Err}
 use Rattle.sb_step.specs.declared.error.StepError.TheVariants as step_error
 use Rattle.sb_step.proofs.Collecting.OneAnswerToAnInput.{answer_pins}
 use Rattle.sb_step.proofs.indexing.index.Goals as goal

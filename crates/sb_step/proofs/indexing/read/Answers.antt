@@ -1,9 +1,4 @@
-use Rattle.std.proofs.Common.{◌≡◌, ℕ, List, Option, Ok, Err, Some, None, sym, ap, ◌∙◌, subst}
-use Rattle.sb_lex.specs.declared.kinds.Token.{Token}
-use Rattle.sb_lex.specs.Tokens.{IsTokenAnswer, IsNext, Reading, moved}
-use Rattle.sb_step.specs.Index.Turns.{start}
-use Rattle.sb_step.specs.Index.Machines.{state_of}
-use Rattle.sb_step.specs.Index.Progress.{Progress, IsRead}
+use Rattle.sb_step.proofs.Names.{◌≡◌, ℕ, List, Option, Ok, Err, Some, None, sym, ap, ◌∙◌, subst, Token, IsTokenAnswer, IsNext, Reading, moved, start, state_of, Progress, IsRead}
 use Rattle.sb_step.proofs.Collecting.ReadingGoesOn.{nothing_read, one_more, fault_at_bad, read_at_end, error_answers}
 use Rattle.sb_step.proofs.indexing.read.Goals as goal
 
@@ -29,7 +24,6 @@ tokens-init c = record {
 pub tokens-preserved : goal.tokens-preserved
 tokens-preserved c =
     let input = c.args.bytes.now in
-    let place = c.tokens.lexer.place in
     let invariant = c.tokens.invariant in
     let next = next_is input c.tokens.lexer _ c.in-Ok-Some.token c.in-Ok-Some.field-0-is
     invariant.input_is c.in-Ok-Some.ensures.answer in
@@ -41,9 +35,7 @@ tokens-preserved c =
       progress = subst
           (λ k. Progress input k (state_of c.accept.new.machine) c.accept.new.collected)
           (sym (ap (λ r. r.place) behind))
-          (one_more input place c.in-Ok-Some.token (state_of c.tokens.machine)
-          (state_of c.accept.new.machine) c.tokens.collected c.accept.new.collected
-          invariant.progress next c.in-Ok.ensures);
+          (one_more invariant.progress next c.in-Ok.ensures);
     }
 
 pub returns-in-Err-accept : goal.returns-in-Err-accept

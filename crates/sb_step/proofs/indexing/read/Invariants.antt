@@ -1,6 +1,4 @@
-use Rattle.std.proofs.Common.{◌≡◌, ◌-◌, length}
-use Rattle.sb_step.specs.Index.Machines.{state_of}
-use Rattle.sb_step.specs.Index.Progress.{Progress}
+use Rattle.sb_step.proofs.Names.{◌≡◌, ◌-◌, length, state_of, Progress}
 use Rattle.sb_step.proofs.indexing.read.Given as goal
 
 abbrev pub invariant-tokens : goal.invariant-tokens

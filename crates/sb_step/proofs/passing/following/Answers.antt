@@ -5,8 +5,7 @@ use Rattle.sb_step.proofs.passing.following.Goals as goal
 
 pub next-requires : goal.next-requires
 next-requires c =
-    comma_has_next c.args.lexer.now c.next-mark.new.lexer c.next-mark.result c.next-mark.ensures
-    (sym c.if-is_comma.ensures) c.requires
+    comma_has_next c.next-mark.ensures (sym c.if-is_comma.ensures) c.requires
 
 pub returns-then-is_comma : goal.returns-then-is_comma
 returns-then-is_comma c = λ ps xs rest ahead further.

@@ -10,7 +10,7 @@ enumeration_of-requires c = λ is.
     let place = c.self.inside.place in
     let stands = subst (λ n. AreLeft place.bytes.now n place.left.0) c.in-Some.is
     c.self.invariant in
-    (enumeration_is place.bytes.now c.in-Some.token stands.token is).long
+    (enumeration_is stands.token is).long
 
 pub returns-in-Some : goal.returns-in-Some
 returns-in-Some c =

@@ -1,7 +1,5 @@
-use Rattle.std.proofs.Common.{sym, arith}
-use Rattle.std.proofs.lemmas.Result.{IfOk-weaker}
+use Rattle.sb_step.proofs.Names.{sym, arith, IfOk-weaker, lexeme_at}
 use Rattle.sb_lex.specs.declared.kinds.Mark.TheVariants as mark
-use Rattle.sb_step.specs.Lexemes.{lexeme_at}
 use Rattle.sb_step.proofs.KindsSay.{mark_says}
 use Rattle.sb_step.proofs.ParameterLists.ListsAreRead.{list_has_next, list_begins, item_awaited, item_less, next_awaited, list_goes_on, list_ends}
 use Rattle.sb_step.proofs.ParameterLists.ParametersByToken.{list_awaited, reads_list, is_a_value, reads_value, opens_next, first_next, c_is, first_is, less_left, inner_awaited, closes_next, reads_typed}
@@ -12,44 +10,26 @@ list-next-token-requires t c = list_has_next c.args.lexer.now c.requires.awaits
 
 pub list-items-init : goal.list-items-init
 list-items-init t c =
-    list_begins c.args.bytes.now c.args.lexer.now c.next-token.new.lexer c.next-token.result
-    c.next-token.ensures c.requires.input c.new-items.result c.new-items.ensures
+    list_begins c.next-token.ensures c.requires.input c.new-items.result c.new-items.ensures
 
 pub list-parameter-requires : goal.list-parameter-requires
 list-parameter-requires t c =
-    let read = c.items.invariant in (
-      omega (
-        arith,
-        c.decreases,
-        item_less c.args.bytes.now c.args.lexer.now c.items.lexer c.items.items c.items.token read,
-      ),
-      (
-        read.input_is,
-        (
-          read.token,
-          item_awaited c.args.bytes.now c.args.lexer.now c.items.lexer c.items.items
-              c.items.token read (sym c.items-test.ensures) c.requires.awaits,
-        ),
-      ),
-    )
+    let read = c.items.invariant in
+    let awaited = item_awaited read (sym c.items-test.ensures) c.requires.awaits in
+    (omega (arith, c.decreases, item_less read), (read.input_is, (read.token, awaited)))
 
 pub list-next_item-token-requires : goal.list-next_item-token-requires
 list-next_item-token-requires t c =
-    next_awaited c.args.bytes.now c.args.lexer.now c.items.lexer c.items.items c.items.token
-    c.items.invariant c.parameter.new.lexer c.in_ok-parameter.field-0 c.in_ok-parameter.ensures
-    (sym c.items-test.ensures) c.requires.awaits
+    next_awaited c.items.invariant c.in_ok-parameter.ensures (sym c.items-test.ensures)
+    c.requires.awaits
 
 pub list-items-preserved : goal.list-items-preserved
 list-items-preserved t c =
-    list_goes_on c.args.bytes.now c.args.lexer.now c.items.lexer c.items.items c.items.token
-    c.items.invariant c.parameter.new.lexer c.in_ok-parameter.field-0 c.in_ok-parameter.ensures
-    c.next_item-token.new.lexer c.next_item-token.result c.next_item-token.ensures
+    list_goes_on c.items.invariant c.in_ok-parameter.ensures c.next_item-token.ensures
     c.push.new.self c.in_ok-push.ensures.ok (sym c.items-test.ensures)
 
 pub list-returns : goal.list-returns
-list-returns t c =
-    list_ends c.args.bytes.now c.args.lexer.now c.items.lexer c.items.items c.items.token
-    c.items.invariant (sym c.items-test.ensures)
+list-returns t c = list_ends c.items.invariant (sym c.items-test.ensures)
 
 pub parameter-list-requires : goal.parameter-list-requires
 parameter-list-requires t c = (
@@ -75,8 +55,8 @@ parameter-returns-in_ok-list t c =
 pub parameter-returns-else-is_open : goal.parameter-returns-else-is_open
 parameter-returns-else-is_open t c =
     IfOk-weaker c.value.result _ _
-    (λ p says. reads_value c.args.lexer.now (lexeme_at c.args.bytes.now c.args.first) p
-    (sym c.if-is_keyword.ensures) (sym c.if-is_open.ensures) says)
+    (λ p says. reads_value c.args.lexer.now (lexeme_at c.args.bytes.now c.args.first)
+    (sym c.if-is_keyword.ensures) (sym c.if-is_open.ensures) p says)
     c.value.ensures
 
 pub typed-next-opens-requires : goal.typed-next-opens-requires
@@ -87,28 +67,22 @@ typed-next-opens-requires t c =
 pub typed-next-first-requires : goal.typed-next-first-requires
 typed-next-first-requires t c =
     first_next c.args.bytes.now (lexeme_at c.args.bytes.now c.args.keyword) c.requires.keyword
-    c.args.lexer.now c.requires.input c.next-opens.new.lexer c.next-opens.result
-    c.next-opens.ensures c.requires.awaits
+    c.args.lexer.now c.requires.input c.next-opens.ensures c.requires.awaits
 
 pub typed-parameter-requires : goal.typed-parameter-requires
 typed-parameter-requires t c =
     let bytes = c.args.bytes.now in
     let x = lexeme_at bytes c.args.keyword in
-    let less = less_left bytes x c.requires.keyword c.args.lexer.now c.requires.input
-    c.next-opens.new.lexer c.next-opens.result c.next-opens.ensures c.next-first.new.lexer
-    c.next-first.result c.next-first.ensures in (
+    let a = c.args.lexer.now in
+    let opens = c.next-opens.ensures in
+    let first = c.next-first.ensures in
+    let less = less_left bytes x c.requires.keyword a c.requires.input opens first in (
       omega (arith, c.decreases, less),
       (
-        c_is bytes x c.requires.keyword c.args.lexer.now c.requires.input c.next-opens.new.lexer
-            c.next-opens.result c.next-opens.ensures c.next-first.new.lexer c.next-first.result
-            c.next-first.ensures,
+        c_is bytes x c.requires.keyword a c.requires.input opens first,
         (
-          first_is bytes x c.requires.keyword c.args.lexer.now c.requires.input
-              c.next-opens.new.lexer c.next-opens.result c.next-opens.ensures
-              c.next-first.new.lexer c.next-first.result c.next-first.ensures,
-          inner_awaited bytes x c.requires.keyword c.args.lexer.now c.requires.input
-              c.next-opens.new.lexer c.next-opens.result c.next-opens.ensures
-              c.next-first.new.lexer c.next-first.result c.next-first.ensures
+          first_is bytes x c.requires.keyword a c.requires.input opens first,
+          inner_awaited bytes x c.requires.keyword a c.requires.input opens first
               c.requires.awaits,
         ),
       ),
@@ -117,15 +91,12 @@ typed-parameter-requires t c =
 pub typed-next-closes-requires : goal.typed-next-closes-requires
 typed-next-closes-requires t c =
     closes_next c.args.bytes.now (lexeme_at c.args.bytes.now c.args.keyword) c.requires.keyword
-    c.args.lexer.now c.requires.input c.next-opens.new.lexer c.next-opens.result
-    c.next-opens.ensures c.next-first.new.lexer c.next-first.result c.next-first.ensures
-    c.parameter.new.lexer c.in_ok-inner.inner c.in_ok-inner.ensures c.requires.awaits
+    c.args.lexer.now c.requires.input c.next-opens.ensures c.next-first.ensures
+    c.in_ok-inner.ensures c.requires.awaits
 
 pub typed-returns : goal.typed-returns
 typed-returns t c =
     reads_typed c.args.bytes.now (lexeme_at c.args.bytes.now c.args.keyword) c.requires.keyword
-    c.args.lexer.now c.requires.input c.next-opens.new.lexer c.next-opens.result
-    c.next-opens.ensures c.next-first.new.lexer c.next-first.result c.next-first.ensures
-    c.parameter.new.lexer c.in_ok-inner.inner c.in_ok-inner.ensures c.next-closes.new.lexer
-    c.next-closes.result c.next-closes.ensures c.in_ok-name.name c.in_ok-new.field-0
+    c.args.lexer.now c.requires.input c.next-opens.ensures c.next-first.ensures
+    c.in_ok-inner.ensures c.next-closes.ensures c.in_ok-name.name c.in_ok-new.field-0
     c.in_ok-name.ensures c.in_ok-new.ensures

@@ -1,4 +1,4 @@
-use Rattle.std.proofs.Common.{◌+◌, ◌-◌, ◌*◌, length}
+use Rattle.sb_step.proofs.Names.{◌+◌, ◌-◌, ◌*◌, length}
 use Rattle.sb_step.proofs.ParameterLists.ListsAreRead.{ReadSoFar}
 use Rattle.sb_step.proofs.parameters.reading.+reading.Given as goal
 

@@ -1,4 +1,4 @@
-use Rattle.std.proofs.Common.{◌-◌, length}
+use Rattle.sb_step.proofs.Names.{◌-◌, length}
 use Rattle.sb_step.proofs.ParameterLists.DoubledApostrophes.{HalfRead}
 use Rattle.sb_step.proofs.parameters.values.undoubled.Given as goal
 

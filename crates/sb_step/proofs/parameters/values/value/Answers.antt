@@ -2,34 +2,28 @@ use Rattle.sb_step.proofs.ParameterLists.InsidesOfTokens.{string_is, enumeration
 use Rattle.sb_step.proofs.parameters.values.value.Goals as goal
 
 pub inside-requires : goal.inside-requires
-inside-requires c = (string_is c.args.bytes.now c.args.token c.requires.token c.in-Str.is).long
+inside-requires c = (string_is c.requires.token c.in-Str.is).long
 
 pub undoubled-requires : goal.undoubled-requires
-undoubled-requires c =
-    string_is_written c.args.bytes.now c.args.token c.requires.token c.inside.result.now
-    c.in-Str.is c.inside.ensures
+undoubled-requires c = string_is_written c.requires.token c.in-Str.is c.inside.ensures
 
 pub inside-requires-in-Enumeration : goal.inside-requires-in-Enumeration
-inside-requires-in-Enumeration c =
-    (enumeration_is c.args.bytes.now c.args.token c.requires.token c.in-Enumeration.is).long
+inside-requires-in-Enumeration c = (enumeration_is c.requires.token c.in-Enumeration.is).long
 
 pub inside-requires-in-Binary : goal.inside-requires-in-Binary
-inside-requires-in-Binary c =
-    (binary_is c.args.bytes.now c.args.token c.requires.token c.in-Binary.is).long
+inside-requires-in-Binary c = (binary_is c.requires.token c.in-Binary.is).long
 
 pub returns-in_ok-undoubled-in-Str : goal.returns-in_ok-undoubled-in-Str
 returns-in_ok-undoubled-in-Str c =
-    says_string c.args.bytes.now c.args.token c.requires.token c.in_ok-undoubled-in-Str.field-0
-    c.inside.result.now c.in-Str.is c.inside.ensures c.in_ok-undoubled-in-Str.ensures
+    says_string c.requires.token c.in_ok-undoubled-in-Str.field-0 c.in-Str.is c.inside.ensures
+    c.in_ok-undoubled-in-Str.ensures
 
 pub returns-in_ok-of-in-Enumeration : goal.returns-in_ok-of-in-Enumeration
 returns-in_ok-of-in-Enumeration c =
-    says_enumeration c.args.bytes.now c.args.token c.requires.token
-    c.in_ok-of-in-Enumeration.field-0 c.inside-in-Enumeration.result.now c.in-Enumeration.is
+    says_enumeration c.requires.token c.in_ok-of-in-Enumeration.field-0 c.in-Enumeration.is
     c.inside-in-Enumeration.ensures c.in_ok-of-in-Enumeration.ensures
 
 pub returns-in_ok-of-in-Binary : goal.returns-in_ok-of-in-Binary
 returns-in_ok-of-in-Binary c =
-    says_binary c.args.bytes.now c.args.token c.requires.token c.in_ok-of-in-Binary.field-0
-    c.inside-in-Binary.result.now c.in-Binary.is c.inside-in-Binary.ensures
-    c.in_ok-of-in-Binary.ensures
+    says_binary c.requires.token c.in_ok-of-in-Binary.field-0 c.in-Binary.is
+    c.inside-in-Binary.ensures c.in_ok-of-in-Binary.ensures

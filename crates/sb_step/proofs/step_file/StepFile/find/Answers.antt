@@ -1,6 +1,4 @@
-use Rattle.std.proofs.Common.{None, Some, sym, ap, ◌∙◌, subst, arith}
-use Rattle.sb_step.specs.Records.Rows.{Finds}
-use Rattle.sb_step.specs.Records.Table.{place_at}
+use Rattle.sb_step.proofs.Names.{None, Some, sym, ap, ◌∙◌, subst, arith, Finds, place_at}
 use Rattle.sb_step.proofs.Records.InstancesByNumber.{found_place, missing_place}
 use Rattle.sb_step.proofs.step_file.StepFile.find.Goals as goal
 

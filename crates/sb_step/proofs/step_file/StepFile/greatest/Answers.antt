@@ -1,6 +1,4 @@
-use Rattle.std.proofs.Common.{subst}
-use Rattle.sb_step.specs.Numbers.{IsGreatest}
-use Rattle.sb_step.specs.Records.Rows.{IsLast}
+use Rattle.sb_step.proofs.Names.{subst, IsGreatest, IsLast}
 use Rattle.sb_step.proofs.Records.InstancesByNumber.{greatest_from}
 use Rattle.sb_step.proofs.step_file.StepFile.greatest.Goals as goal
 

@@ -1,7 +1,4 @@
-use Rattle.std.proofs.Common.{◌≡◌, ◌↔◌, Some, subst}
-use Rattle.std.specs.Option.{option_copied}
-use Rattle.sb_step.specs.Records.Schema.{IsSchema}
-use Rattle.sb_step.specs.Records.SchemaReading.{SchemaSays}
+use Rattle.sb_step.proofs.Names.{◌≡◌, ◌↔◌, Some, subst, option_copied, IsSchema, SchemaSays}
 use Rattle.sb_step.proofs.Records.SchemaIsRead.{entity_reads_on, found_exactly}
 use Rattle.sb_step.proofs.step_file.StepFile.read_schema.Goals as goal
 

@@ -1,4 +1,4 @@
-use Rattle.std.specs.Option.{option_copied}
+use Rattle.sb_step.proofs.Names.{option_copied}
 use Rattle.sb_step.proofs.Records.SchemaIsRead.{none_exactly}
 use Rattle.sb_step.proofs.step_file.StepFile.schema.Goals as goal
 

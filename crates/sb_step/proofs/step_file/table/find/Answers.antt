@@ -1,5 +1,4 @@
-use Rattle.std.proofs.Common.{rules}
-use Rattle.std.proofs.lemmas.List.Sorted.{answers_always}
+use Rattle.sb_step.proofs.Names.{rules, answers_always}
 use Rattle.sb_step.proofs.Records.RowsAreSearched.{equal_is, none_equal}
 use Rattle.sb_step.proofs.step_file.table.find.Goals as goal
 

@@ -1,4 +1,4 @@
-use Rattle.std.proofs.Common.{◌++◌, ◌∷◌, [], ap, ◌∙◌}
+use Rattle.sb_step.proofs.Names.{◌++◌, ◌∷◌, [], ap, ◌∙◌}
 use Rattle.sb_step.proofs.Records.InstancesByNumber.{numbered_more}
 use Rattle.sb_step.proofs.step_file.table.numbered.Goals as goal
 

@@ -1,5 +1,4 @@
-use Rattle.std.proofs.Common.{◌≡◌, take}
-use Rattle.sb_step.specs.Records.Rows.{numbered_from}
+use Rattle.sb_step.proofs.Names.{◌≡◌, take, numbered_from}
 use Rattle.sb_step.proofs.step_file.table.numbered.Given as goal
 
 abbrev pub invariant-numbers : goal.invariant-numbers

@@ -1,7 +1,4 @@
-use Rattle.std.proofs.Common.{rules, subst}
-use Rattle.std.specs.List.Sorted.{IsPermutation}
-use Rattle.std.proofs.lemmas.List.Sorted.{IsNonDecreasingBy-from_sort, answers_always}
-use Rattle.sb_step.specs.declared.step_file.table.Row.{Row}
+use Rattle.sb_step.proofs.Names.{rules, subst, IsPermutation, IsNonDecreasingBy-from_sort, answers_always, Row}
 use Rattle.sb_step.proofs.step_file.table.table.Goals as goal
 
 pub returns : goal.returns

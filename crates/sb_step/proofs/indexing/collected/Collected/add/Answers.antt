@@ -1,7 +1,5 @@
-use Rattle.std.proofs.Common.{[], ◌∷◌, ◌++◌, refl, sym, subst}
+use Rattle.sb_step.proofs.Names.{[], ◌∷◌, ◌++◌, refl, sym, subst, AreCollected, instances_of}
 use Rattle.sb_step.specs.declared.indexing.states.Event.TheVariants as event
-use Rattle.sb_step.specs.Index.Collects.{AreCollected}
-use Rattle.sb_step.specs.Index.Turns.{instances_of}
 use Rattle.sb_step.proofs.Collecting.EventsAreCollected.{collected_nothing, collected_entity, collected_instance}
 use Rattle.sb_step.proofs.indexing.collected.Collected.add.Goals as goal
 

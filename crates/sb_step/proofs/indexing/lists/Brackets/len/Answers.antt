@@ -1,4 +1,4 @@
-use Rattle.std.proofs.Common.{length, sym, ap, ◌∙◌}
+use Rattle.sb_step.proofs.Names.{length, sym, ap, ◌∙◌}
 use Rattle.sb_step.proofs.Collecting.BracketsAreBits.{length-brackets_of}
 use Rattle.sb_step.proofs.indexing.lists.Brackets.len.Goals as goal
 
