@@ -1,5 +1,5 @@
 -- The table finds each instance by its number, and no other; it has a number as often as the file.
-use Rattle.sb_step.proofs.Names.{◌⊎◌, ◌≡◌, ℕ, ◌+◌, ◌-◌, ◌%◌, ◌<◌, ◌≤◌, Bool, eqb, cond, List, [], ◌∷◌, ◌++◌, map, length, take, zero, suc, Some, None, refl, sym, ap, ◌∙◌, subst, ⊎_elim, get_or, arith, ◌≢◌, nat_eq, option_map, All, count_by, lookup, mod-eq_of_lt, cases_Bool, eqb-true, eq-eqb, cases_lt, cond-true, cond-false, get_or-map, length-map, sum_by-IsPermutation, length_permutation, All-permutation, Record, Place, Row, numbers_of, uses, IsUsedTwice, AreApart, IsLeastTwice, IsGreatestUsed, IsGreatest, place_at, row_of, numbered_from, IsTable, AreUnlike, IsFirstTwice, IsLast, IsRowOf, true}
+use Rattle.sb_step.proofs.Names.{◌≡◌, ℕ, ◌+◌, ◌-◌, ◌%◌, ◌<◌, ◌≤◌, Bool, eqb, cond, List, [], ◌∷◌, ◌++◌, map, length, take, zero, suc, Some, None, refl, sym, ap, ◌∙◌, subst, ⊎_elim, get_or, arith, ◌≢◌, nat_eq, option_map, All, count_by, lookup, mod-eq_of_lt, cases_Bool, eqb-true, eq-eqb, cases_lt, cond-true, cond-false, get_or-map, length-map, sum_by-IsPermutation, length_permutation, All-permutation, Record, Place, Row, numbers_of, uses, IsUsedTwice, AreApart, IsLeastTwice, IsGreatestUsed, IsGreatest, place_at, row_of, numbered_from, IsTable, AreUnlike, IsFirstTwice, IsLast, IsRowOf, true}
 use Rattle.sb_step.specs.declared.step_file.records.Form.TheVariants as form
 use Rattle.sb_step.specs.Records.Table.{place_of}
 use Rattle.sb_step.proofs.Records.PlacesOfItems.{count_by-cons, passes_at, passes_at_two, place_counts, two_places_count}

@@ -1,10 +1,9 @@
 -- Each turn of the machine is by one of the ways of its state.
-use Rattle.sb_step.proofs.Names.{◌≡◌, ℕ, Bool, true, false, cond, List, [], ◌∷◌, length, Option, Some, None, refl, sym, ap, ◌∙◌, subst, ⊎_elim, nat_lt, same_Some, none-some, Section, Bracket, Want, Move, Lexeme, IsWord, IsKeyword, IsThe, IsName, IsMark, IsValue, is_value, is_open, is_close, is_keyword, number_of, Asked, passes, Way, pick, ◌⇢◌, the_word, the, a_keyword, a_name, the_mark, a_value, section_ways, section_move, Nest, parameter, by_want, Turn, plain, begun, room_of, next_turn_at, turn_of, turn_within, option_map}
+use Rattle.sb_step.proofs.Names.{◌≡◌, ℕ, Bool, true, false, cond, List, [], ◌∷◌, length, Option, Some, None, refl, sym, ap, ◌∙◌, subst, ⊎_elim, nat_lt, same_Some, none-some, Section, Bracket, Want, Lexeme, IsWord, IsKeyword, IsThe, IsName, IsMark, IsValue, is_value, is_open, is_close, is_keyword, number_of, Asked, passes, Way, pick, ◌⇢◌, the_word, the, a_keyword, a_name, the_mark, a_value, section_ways, section_move, Nest, parameter, by_want, Turn, room_of, next_turn_at, turn_of, turn_within, option_map}
 use Rattle.sb_lex.specs.declared.kinds.Mark.TheVariants as mark
 use Rattle.sb_lex.specs.declared.kinds.Word.TheVariants as word
 use Rattle.sb_step.specs.declared.indexing.states.Bracket.TheVariants as bracket
 use Rattle.sb_step.specs.declared.indexing.states.Want.TheVariants as want
-use Rattle.sb_step.specs.declared.indexing.states.Event.TheVariants as event
 use Rattle.sb_step.proofs.KindsSay.{mark_says, first_says, last_says, keyword_says, name_says, the_says, choice}
 
 -- the lexeme is what is asked

@@ -1,5 +1,5 @@
 -- What the machine reads to its end is a text, and describes what was found.
-use Rattle.sb_step.proofs.Names.{◌≡◌, ◌-◌, ℕ, ◌+◌, ◌≤◌, ◌⊎◌, Bool, true, false, cond, List, [], ◌∷◌, ◌++◌, length, Option, Some, None, refl, sym, ap, subst, inl, inr, ⊎_elim, arith, codes, nat_lt, option_map, same_Some, none-some, option_and_then_some, Record, Span, Part, Section, Bracket, Want, Event, Lexeme, IsWord, IsKeyword, IsThe, IsName, IsMark, opened, closed, Rule, One, Many, Each, SomeOf, none, File, IsText, greatest_depth, Semicolon, SemicolonAt, Parameter, ParameterList, MoreParameters, BeginsSimple, IsSimple, InnerRecord, IsRecord, IsInstance, Sections, span_of, entity_of, record_of, section_ways, State, is_complex, room_of, next_turn, start, end_at, turn_of}
+use Rattle.sb_step.proofs.Names.{◌≡◌, ◌-◌, ℕ, ◌+◌, ◌≤◌, ◌⊎◌, Bool, true, false, cond, List, [], ◌∷◌, ◌++◌, length, Some, refl, sym, ap, subst, inl, inr, ⊎_elim, arith, codes, nat_lt, option_map, same_Some, none-some, option_and_then_some, Record, Span, Part, Section, Bracket, Want, Event, Lexeme, IsWord, IsKeyword, IsThe, IsName, IsMark, opened, closed, Rule, One, Many, Each, SomeOf, none, File, IsText, greatest_depth, Semicolon, SemicolonAt, Parameter, ParameterList, MoreParameters, BeginsSimple, IsSimple, InnerRecord, IsRecord, IsInstance, Sections, span_of, entity_of, record_of, section_ways, State, is_complex, room_of, next_turn, start, end_at, turn_of}
 use Rattle.sb_lex.specs.declared.kinds.Mark.TheVariants as mark
 use Rattle.sb_lex.specs.declared.kinds.Word.TheVariants as word
 use Rattle.sb_step.specs.declared.indexing.states.Section.TheVariants as section
