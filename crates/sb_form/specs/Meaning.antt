@@ -6,7 +6,7 @@ use Rattle.sb_fraction.specs.declared.unit.Unit.TheVariants.{Millimetre}
 use Rattle.sb_model.specs.Building.{Building, building}
 use Rattle.sb_fraction.specs.Plane.{greatest_coordinate}
 use Rattle.sb_fraction.specs.Spots.{vector}
-use Rattle.sb_model.specs.Turns.{Quarter}
+use Rattle.theory_turns.specs.Turns.{Quarter}
 use Rattle.sb_model.specs.declared.frame.Frame.{Frame}
 use Rattle.sb_model.specs.declared.products.Space.{Space}
 use Rattle.sb_box.specs.BoxModel.{prism_of, prism_is_solid}

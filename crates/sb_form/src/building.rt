@@ -3,7 +3,7 @@ ghost use Rattle.std.specs.Prelude.{◌≡◌, ◌≤◌, ◌<◌, ◌*ℤ◌, [
 ghost use Rattle.sb_form.specs.FirstForm.{AreShort};
 ghost use Rattle.sb_form.specs.Meaning.{IsExtentOf, model_of, space_of, frame_of, nanometres, unturned};
 ghost use Rattle.theory_plans.specs.Rectangles.{rectangle};
-ghost use Rattle.sb_model.specs.Turns.{Quarter};
+ghost use Rattle.theory_turns.specs.Turns.{Quarter};
 
 use crate::matcher::FirstForm;
 use sb_box::Extent;

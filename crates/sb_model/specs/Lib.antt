@@ -1,5 +1,5 @@
 -- What is true of models, points, walks, patches and lists of boundaries, in reading order.
-pub mod Turns
+pub mod Frames
 pub mod Solids
 pub mod Sides
 pub mod Building

@@ -1,0 +1,2 @@
+-- Turns of space by quarters.
+pub mod Turns
