@@ -1,7 +1,7 @@
 -- The laws that the calls cite.
 mod Passing
+mod NumbersInOrder
 mod TurnsInCode
-mod OneSpaceIsNumbered
 mod StraightCorners
 -- and what the ranges are
 mod ExampleRanges

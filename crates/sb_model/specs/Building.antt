@@ -2,7 +2,7 @@
 
 use Rattle.std.specs.Prelude.{ℕ, ℤ, Bool, true, false, not, ◌&&◌, ◌||◌, ◌==◌, ◌^◌, List, [], ◌∷◌}
 use Rattle.std.specs.Prelude.{length, nat_le, nat_lt, nat_eq, unsigned_abs, pos, if◌then◌else◌}
-use Rattle.std.specs.Prelude.{Option, Some, None, is_none}
+use Rattle.std.specs.Prelude.{Option, Some, None, is_none, Result, Err, ◌≢◌}
 use Rattle.std.specs.Ordering.{int_eq}
 use Rattle.std.specs.List.{list_all, list_any, find}
 use Rattle.theory_numbers.specs.Divisors.{are_coprime}
@@ -11,6 +11,8 @@ use Rattle.sb_model.specs.declared.layers.Axis.{Axis}
 use Rattle.sb_model.specs.declared.layers.Layer.{Layer}
 use Rattle.sb_model.specs.declared.layers.Layering.{Layering}
 use Rattle.sb_model.specs.declared.layers.Layering.TheVariants.{Plain, Single, Layered}
+use Rattle.sb_model.specs.declared.building.ModelError.{ModelError}
+use Rattle.sb_model.specs.declared.building.ModelError.TheVariants as error
 use Rattle.sb_model.specs.declared.products.Space.{Space}
 use Rattle.sb_model.specs.declared.products.Element.{Element}
 use Rattle.sb_model.specs.declared.products.Opening.{Opening}
@@ -137,38 +139,32 @@ or_else None other = other
 -- the first number that is 0, is not above the number before it in its list, stands in two lists,
 -- or is of an opening or a filling that names what is not there; spaces are looked at first, then
 -- elements, openings and fillings
+abbrev pub first_bad_of : List Space → List Element → List Opening → List Filling → Option ℕ
+first_bad_of spaces elements openings fillings =
+    let of_space = has_number (λ (s : Space). s.number) spaces in
+    let of_element = has_number (λ (e : Element). e.number) elements in
+    let of_opening = has_number (λ (o : Opening). o.number) openings in
+    let of_filling = has_number (λ (f : Filling). f.number) fillings in
+    or_else
+    (first_wrong (λ s. s.number)
+    (λ s. of_element s.number || of_opening s.number || of_filling s.number) 0 spaces)
+    (or_else
+    (first_wrong (λ e. e.number)
+    (λ e. of_space e.number || of_opening e.number || of_filling e.number) 0 elements)
+    (or_else
+    (first_wrong (λ o. o.number)
+    (λ o. of_space o.number || of_element o.number || of_filling o.number
+    || not (of_element o.element)) 0 openings)
+    (first_wrong (λ f. f.number)
+    (λ f. of_space f.number || of_element f.number || of_opening f.number
+    || not (of_opening f.opening)) 0 fillings)))
+
 abbrev pub first_bad : Building → Option ℕ
-first_bad m =
-    let spaces = first_wrong (λ s. s.number)
-    (λ s. is_element m s.number || is_opening m s.number || is_filling m s.number) 0 m.spaces in
-    let elements = first_wrong (λ e. e.number)
-    (λ e. is_space m e.number || is_opening m e.number || is_filling m e.number) 0 m.elements in
-    let openings = first_wrong (λ o. o.number)
-    (λ o. is_space m o.number || is_element m o.number || is_filling m o.number
-    || not (is_element m o.element)) 0 m.openings in
-    let fillings = first_wrong (λ f. f.number)
-    (λ f. is_space m f.number || is_element m f.number || is_opening m f.number
-    || not (is_opening m f.opening)) 0 m.fillings in
-    or_else spaces (or_else elements (or_else openings fillings))
+first_bad m = first_bad_of m.spaces m.elements m.openings m.fillings
 
 -- what holds of every model: the ranges, and no number is bad
 abbrev pub is_building : Building → Bool
 is_building m = is_in_range m && is_none (first_bad m)
-
--- the list has one item
-abbrev pub is_single : {X : Type 0} → List X → Bool
-is_single (x ∷ []) = true
-is_single _ = false
-
--- the list has no item
-abbrev pub is_bare : {X : Type 0} → List X → Bool
-is_bare [] = true
-is_bare (x ∷ xs) = false
-
--- one space and no other product
-abbrev pub is_one_space : Building → Bool
-is_one_space m =
-    is_single m.spaces && is_bare m.elements && is_bare m.openings && is_bare m.fillings
 
 -- the name of this layer's material
 abbrev pub material_at : Option Layer → List ℕ
@@ -189,3 +185,7 @@ material_through (Some e) layer = material_in e.layering layer
 -- the name of the material of this layer of this element; empty where there is none
 abbrev pub material_of : Building → ℕ → ℕ → List ℕ
 material_of m element layer = material_through (find (λ e. e.number == element) m.elements) layer
+
+-- there was memory enough for an answer
+abbrev pub IsMade : Result Building ModelError → Type 0
+IsMade answer = answer ≢ Err error.NoMemory

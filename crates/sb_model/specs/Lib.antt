@@ -3,6 +3,7 @@ pub mod Frames
 pub mod Solids
 pub mod Sides
 pub mod Building
+pub mod Numbering
 pub mod Labels
 pub mod PlanEdges
 pub mod Faces

@@ -4,12 +4,13 @@ ghost use Rattle.std.specs.Prelude.{◌≡◌, ◌↔◌, ◌==◌, ℕ, IsTrue,
 ghost use Rattle.std.specs.List.{list_any, find};
 ghost use Rattle.std.specs.Option.{option_copied};
 ghost use Rattle.std.specs.Result.{IsErrOf};
-ghost use Rattle.sb_model.specs.Building.{building, is_building, is_in_range, is_one_space};
+ghost use Rattle.sb_model.specs.Building.{building, is_building, is_in_range, IsMade};
 ghost use Rattle.sb_model.specs.Building.{first_bad};
 ghost use Rattle.sb_model.specs.Building.{material_of, material_in as material_name};
 ghost use Rattle.sb_model.specs.Building.{material_at as name_at};
 ghost use Rattle.sb_model.specs.Faces.{space_numbered};
 
+use crate::numbering::first_bad_number;
 use crate::layers::{Layer, Layering, Layers};
 use crate::products::{Element, Elements, Fillings, Openings, Space, Spaces};
 use sb_fraction::Unit;
@@ -62,8 +63,11 @@ impl Model {
     ///
     /// - `Ok(model)`: it has exactly these products.
     /// - `Err(BadNumber(n))`: exactly where n is the first bad number.
+    /// - `Err(NoMemory)`: at any time. The other yields to it.
+    ///
+    /// It takes the time of sorting the numbers.
     pub fn new(
-        _alloc: Global,
+        alloc: Global,
         unit: Unit,
         ground_height: i32,
         reach: u32,
@@ -73,13 +77,14 @@ impl Model {
         fillings: Fillings,
     ) -> Result<Model, ModelError>
         requires in_range { IsTrue (is_in_range (building unit ground_height reach spaces elements openings fillings)) }
-        requires one_space { IsTrue (is_one_space (building unit ground_height reach spaces elements openings fillings)) }
         ensures value { IfOk result (λ m. m ≡ building unit ground_height reach spaces elements openings fillings) }
-        ensures bad_number { (n : ℕ) → IsErrOf result (ModelError.BadNumber n)
+        ensures bad_number { (n : ℕ) → IsMade result → IsErrOf result (ModelError.BadNumber n)
             ↔ (first_bad (building unit ground_height reach spaces elements openings fillings) ≡ Some n) }
     {
-        if has_unnumbered(&spaces) {
-            return Err(ModelError::BadNumber(0));
+        match first_bad_number(alloc, &spaces, &elements, &openings, &fillings) {
+            Err(_) => return Err(ModelError::NoMemory),
+            Ok(Some(n)) => return Err(ModelError::BadNumber(n)),
+            Ok(None) => {}
         }
         Ok(Model {
             unit,
@@ -164,13 +169,6 @@ impl Model {
             None => &[],
         }
     }
-}
-
-/// Whether a space has the number 0.
-fn has_unnumbered(spaces: &Spaces) -> bool
-    ensures { result ≡ list_any (λ s. s.number == 0) spaces.now }
-{
-    spaces.as_slice().iter().any(|s| s.number == 0)
 }
 
 /// The element with this number.

@@ -13,6 +13,7 @@ mod frame;
 mod label;
 mod layers;
 mod loops;
+mod numbering;
 mod outline;
 mod patch;
 mod prism;
