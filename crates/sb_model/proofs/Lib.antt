@@ -1,5 +1,6 @@
 -- The laws that the calls cite.
 mod Passing
+mod FoundByNumber
 mod NumbersInOrder
 mod TurnsInCode
 mod StraightCorners

@@ -1,6 +1,6 @@
 -- Numbers in order say which products have them, and the first bad number is found one by one.
 
-use Rattle.std.proofs.Common.{ℕ, zero, suc, ◌+◌, ◌<◌, ◌≤◌, ◌≡◌, ◌==◌, Bool, true, false, not, ◌||◌, List, [], ◌∷◌}
+use Rattle.std.proofs.Common.{ℕ, ℤ, zero, suc, ◌+◌, ◌<◌, ◌≤◌, ◌≡◌, ◌==◌, Bool, true, false, not, ◌||◌, List, [], ◌∷◌}
 use Rattle.std.proofs.Common.{◌++◌, length, map, take, drop, Option, Some, None, if◌then◌else◌, refl, ap, sym, ◌∙◌}
 use Rattle.std.proofs.Common.{Result, Ok, Err, nat_lt, arith, get_or, is_ok, ⊎_elim, inl, inr, ◌⊎◌}
 use Rattle.std.specs.List.{list_any}
@@ -16,7 +16,8 @@ use Rattle.sb_model.specs.declared.products.Space.{Space}
 use Rattle.sb_model.specs.declared.products.Element.{Element}
 use Rattle.sb_model.specs.declared.products.Opening.{Opening}
 use Rattle.sb_model.specs.declared.products.Filling.{Filling}
-use Rattle.sb_model.specs.Building.{has_number, first_wrong, or_else, first_bad_of}
+use Rattle.sb_model.specs.Building.{has_number, first_wrong, or_else, building, first_bad}
+use Rattle.sb_fraction.specs.declared.unit.Unit as unit
 use Rattle.sb_model.specs.Numbering.{has, is_taken, HasNumbersOf, Rises}
 
 any-map : {X : Type 0} (number : X → ℕ) (n : ℕ) (xs : List X)
@@ -100,7 +101,7 @@ four_alike {a} {b} {c} {d} {e} {f} {g} {h} first second third fourth =
 
 -- the products and, list by list, their numbers
 module _ (spaces : List Space) (elements : List Element) (openings : List Opening)
-    (fillings : List Filling) (of_space of_element of_opening of_filling : List ℕ)
+    (fillings : List Filling) (u : unit.Unit) (ground_height : ℤ) (reach : ℕ) (of_space of_element of_opening of_filling : List ℕ)
     (spaces_are : HasNumbersOf (λ (s : Space). s.number) spaces of_space)
     (elements_are : HasNumbersOf (λ (e : Element). e.number) elements of_element)
     (openings_are : HasNumbersOf (λ (o : Opening). o.number) openings of_opening)
@@ -111,7 +112,7 @@ module _ (spaces : List Space) (elements : List Element) (openings : List Openin
       → element ≡ first_wrong (λ (e : Element). e.number) (λ e. is_taken of_space of_opening of_filling e.number) 0 elements
       → opening ≡ first_wrong (λ (o : Opening). o.number) (λ o. is_taken of_space of_element of_filling o.number || not (has of_element o.element)) 0 openings
       → filling ≡ first_wrong (λ (f : Filling). f.number) (λ f. is_taken of_space of_element of_opening f.number || not (has of_opening f.opening)) 0 fillings
-      → or_else space (or_else element (or_else opening filling)) ≡ first_bad_of spaces elements openings fillings
+      → or_else space (or_else element (or_else opening filling)) ≡ first_bad (building u ground_height reach spaces elements openings fillings)
   first_bad-found space element opening filling first second third fourth =
       four_alike
       (first ∙ wrong-same (λ (s : Space). s.number) _ _ (λ s. in_elements s.number) 0 spaces)

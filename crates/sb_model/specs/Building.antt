@@ -136,31 +136,37 @@ abbrev pub or_else : Option ℕ → Option ℕ → Option ℕ
 or_else (Some n) other = Some n
 or_else None other = other
 
+-- the first wrong number of the spaces, of which none stands in another list
+abbrev pub bad_space : Building → Option ℕ
+bad_space m =
+    first_wrong (λ s. s.number)
+    (λ s. is_element m s.number || is_opening m s.number || is_filling m s.number) 0 m.spaces
+
+-- of the elements
+abbrev pub bad_element : Building → Option ℕ
+bad_element m =
+    first_wrong (λ e. e.number)
+    (λ e. is_space m e.number || is_opening m e.number || is_filling m e.number) 0 m.elements
+
+-- of the openings, which are each of an element that is there
+abbrev pub bad_opening : Building → Option ℕ
+bad_opening m =
+    first_wrong (λ o. o.number)
+    (λ o. is_space m o.number || is_element m o.number || is_filling m o.number
+    || not (is_element m o.element)) 0 m.openings
+
+-- and of the fillings, which each fill an opening that is there
+abbrev pub bad_filling : Building → Option ℕ
+bad_filling m =
+    first_wrong (λ f. f.number)
+    (λ f. is_space m f.number || is_element m f.number || is_opening m f.number
+    || not (is_opening m f.opening)) 0 m.fillings
+
 -- the first number that is 0, is not above the number before it in its list, stands in two lists,
 -- or is of an opening or a filling that names what is not there; spaces are looked at first, then
 -- elements, openings and fillings
-abbrev pub first_bad_of : List Space → List Element → List Opening → List Filling → Option ℕ
-first_bad_of spaces elements openings fillings =
-    let of_space = has_number (λ (s : Space). s.number) spaces in
-    let of_element = has_number (λ (e : Element). e.number) elements in
-    let of_opening = has_number (λ (o : Opening). o.number) openings in
-    let of_filling = has_number (λ (f : Filling). f.number) fillings in
-    or_else
-    (first_wrong (λ s. s.number)
-    (λ s. of_element s.number || of_opening s.number || of_filling s.number) 0 spaces)
-    (or_else
-    (first_wrong (λ e. e.number)
-    (λ e. of_space e.number || of_opening e.number || of_filling e.number) 0 elements)
-    (or_else
-    (first_wrong (λ o. o.number)
-    (λ o. of_space o.number || of_element o.number || of_filling o.number
-    || not (of_element o.element)) 0 openings)
-    (first_wrong (λ f. f.number)
-    (λ f. of_space f.number || of_element f.number || of_opening f.number
-    || not (of_opening f.opening)) 0 fillings)))
-
 abbrev pub first_bad : Building → Option ℕ
-first_bad m = first_bad_of m.spaces m.elements m.openings m.fillings
+first_bad m = or_else (bad_space m) (or_else (bad_element m) (or_else (bad_opening m) (bad_filling m)))
 
 -- what holds of every model: the ranges, and no number is bad
 abbrev pub is_building : Building → Bool
@@ -182,9 +188,21 @@ abbrev pub material_through : Option Element → ℕ → List ℕ
 material_through None layer = []
 material_through (Some e) layer = material_in e.layering layer
 
+-- the element with this number
+abbrev pub element_numbered : Building → ℕ → Option Element
+element_numbered m n = find (λ e. e.number == n) m.elements
+
+-- the opening with this number
+abbrev pub opening_numbered : Building → ℕ → Option Opening
+opening_numbered m n = find (λ o. o.number == n) m.openings
+
+-- the filling with this number
+abbrev pub filling_numbered : Building → ℕ → Option Filling
+filling_numbered m n = find (λ f. f.number == n) m.fillings
+
 -- the name of the material of this layer of this element; empty where there is none
 abbrev pub material_of : Building → ℕ → ℕ → List ℕ
-material_of m element layer = material_through (find (λ e. e.number == element) m.elements) layer
+material_of m element layer = material_through (element_numbered m element) layer
 
 -- there was memory enough for an answer
 abbrev pub IsMade : Result Building ModelError → Type 0

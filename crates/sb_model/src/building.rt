@@ -9,10 +9,13 @@ ghost use Rattle.sb_model.specs.Building.{first_bad};
 ghost use Rattle.sb_model.specs.Building.{material_of, material_in as material_name};
 ghost use Rattle.sb_model.specs.Building.{material_at as name_at};
 ghost use Rattle.sb_model.specs.Faces.{space_numbered};
+ghost use Rattle.sb_model.specs.Building.{element_numbered, opening_numbered, filling_numbered};
 
 use crate::numbering::first_bad_number;
 use crate::layers::{Layer, Layering, Layers};
-use crate::products::{Element, Elements, Fillings, Openings, Space, Spaces};
+use crate::products::{
+    Element, Elements, Filling, Fillings, Opening, Openings, Space, Spaces,
+};
 use sb_fraction::Unit;
 use std::alloc::Global;
 use std::marker;
@@ -128,11 +131,16 @@ impl Model {
         &self.spaces
     }
 
-    /// The space with this number; `None` where there is none. Its lengths are in millimetres (mm).
+    /// The space with this number; `None` where there is none. It is found by halving. Its lengths are in
+    /// millimetres (mm).
     pub fn space(&self, number: u32) -> Option<&Space>
         ensures { option_copied result ≡ space_numbered self.now number }
     {
-        self.spaces.as_slice().iter().find(|s| s.number == number)
+        let spaces = self.spaces.as_slice();
+        match spaces.binary_search_by_key(&number, |s| s.number) {
+            Ok(at) => Some(&spaces[at]),
+            Err(_) => None,
+        }
     }
 
     /// The elements.
@@ -143,12 +151,34 @@ impl Model {
         &self.elements
     }
 
+    /// The element with this number; `None` where there is none. It is found by halving.
+    pub fn element(&self, number: u32) -> Option<&Element>
+        ensures { option_copied result ≡ element_numbered self.now number }
+    {
+        let elements = self.elements.as_slice();
+        match elements.binary_search_by_key(&number, |e| e.number) {
+            Ok(at) => Some(&elements[at]),
+            Err(_) => None,
+        }
+    }
+
     /// The openings.
     pub fn openings(&self) -> &Openings
         ensures value { result.now ≡ self.now.openings }
         ensures is_building { IsTrue (is_building self.now) }
     {
         &self.openings
+    }
+
+    /// The opening with this number; `None` where there is none. It is found by halving.
+    pub fn opening(&self, number: u32) -> Option<&Opening>
+        ensures { option_copied result ≡ opening_numbered self.now number }
+    {
+        let openings = self.openings.as_slice();
+        match openings.binary_search_by_key(&number, |o| o.number) {
+            Ok(at) => Some(&openings[at]),
+            Err(_) => None,
+        }
     }
 
     /// The fillings.
@@ -159,23 +189,27 @@ impl Model {
         &self.fillings
     }
 
+    /// The filling with this number; `None` where there is none. It is found by halving.
+    pub fn filling(&self, number: u32) -> Option<&Filling>
+        ensures { option_copied result ≡ filling_numbered self.now number }
+    {
+        let fillings = self.fillings.as_slice();
+        match fillings.binary_search_by_key(&number, |f| f.number) {
+            Ok(at) => Some(&fillings[at]),
+            Err(_) => None,
+        }
+    }
+
     /// The name of the material of a layer of an element, or no bytes where there is none. One
     /// material through and through is that of layer 0.
     pub fn material(&self, element: u32, layer: u32) -> &[u8]
         ensures { result.now ≡ material_of self.now element layer }
     {
-        match find_element(&self.elements, element) {
+        match self.element(element) {
             Some(element) => material_in(&element.layering, layer),
             None => &[],
         }
     }
-}
-
-/// The element with this number.
-fn find_element(elements: &Elements, number: u32) -> Option<&Element>
-    ensures { option_copied result ≡ find (λ e. e.number == number) elements.now }
-{
-    elements.as_slice().iter().find(|e| e.number == number)
 }
 
 /// The layer with this index.

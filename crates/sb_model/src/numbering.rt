@@ -1,8 +1,9 @@
 //! The numbers of products, and the first that is bad.
 
-ghost use Rattle.std.specs.Prelude.{◌≡◌, ◌||◌, not, ℕ, IfOk};
+ghost use Rattle.std.specs.Prelude.{◌≡◌, ◌||◌, not, ℕ, ℤ, IfOk};
 ghost use Rattle.std.specs.List.Sorted.{IsPermutation};
-ghost use Rattle.sb_model.specs.Building.{first_bad_of, first_wrong, or_else};
+ghost use Rattle.sb_model.specs.Building.{building, first_bad, first_wrong, or_else};
+ghost use Rattle.sb_fraction.specs.declared.unit.Unit as unit;
 ghost use Rattle.sb_model.specs.Numbering.{has as has_item, is_taken as is_in_one, HasNumbersOf};
 
 use crate::products::{Elements, Filling, Fillings, Opening, Openings, Spaces};
@@ -214,7 +215,7 @@ pub(crate) fn first_bad_number(
     openings: &Openings,
     fillings: &Fillings,
 ) -> Result<Option<u32>, AllocError>
-    ensures { IfOk result (λ n. n ≡ first_bad_of spaces.now elements.now openings.now fillings.now) }
+    ensures { IfOk result (λ n. (unit : unit.Unit) (ground_height : ℤ) (reach : ℕ) → n ≡ first_bad (building unit ground_height reach spaces.now elements.now openings.now fillings.now)) }
 {
     let all = numbers_of(alloc, spaces, elements, openings, fillings)?;
     let below = first_there(first_bad_opening(openings, &all), first_bad_filling(fillings, &all));

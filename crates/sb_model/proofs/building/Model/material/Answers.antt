@@ -7,5 +7,4 @@ pub returns-in-Some : goal.returns-in-Some
 returns-in-Some c =
     c.material_in.ensures
     ∙ ap (λ o. material_through o c.args.layer)
-    (sym (ap option_copied c.in-Some.is) ∙ c.find_element.ensures)
-    ∙ ap (λ m. material_of m c.args.element c.args.layer) c.self.view_is
+    (sym (ap option_copied c.in-Some.is) ∙ c.element.ensures)
