@@ -1,0 +1,3 @@
+-- What the calls rest on.
+mod SizesFit
+mod CrossedAsSeen

@@ -1,0 +1,3 @@
+-- How large the numbers of points may be, and what is asked of them.
+pub mod Sizes
+pub mod Places
