@@ -1,3 +1,4 @@
 -- What the calls rest on.
 mod SizesFit
 mod CrossedAsSeen
+mod PointsOver

@@ -5,9 +5,11 @@
 #![tactic(auto)]
 
 
+mod heights;
 mod seen;
 mod within;
 
+pub use heights::contains;
 pub use within::is_inside;
 
 
