@@ -25,7 +25,7 @@ higher a b n le = grind (arith)
 
 module _ {X : Type 0} (number : X → ℕ) (wrong : X → Bool) where
   -- where no number is wrong, the first is above the one before
-  first_above : (before : ℕ) (x : X) (xs : List X)
+  pub first_above : (before : ℕ) (x : X) (xs : List X)
       → first_wrong number wrong before (x ∷ xs) ≡ None
       → (before < number x) × (first_wrong number wrong (number x) xs ≡ None)
   first_above before x xs none =
@@ -39,7 +39,7 @@ module _ {X : Type 0} (number : X → ℕ) (wrong : X → Bool) where
       by_test false is_wrong less e = absurd (cc)
 
   -- and so are all
-  all_above : (before : ℕ) (xs : List X) → first_wrong number wrong before xs ≡ None
+  pub all_above : (before : ℕ) (xs : List X) → first_wrong number wrong before xs ≡ None
       → (k : ℕ) (d : X) → k < length xs → before < number (get_or xs k d)
   all_above before [] none k d within = absurd (omega (arith, within))
   all_above before (x ∷ xs) none zero d within = (first_above before x xs none).0

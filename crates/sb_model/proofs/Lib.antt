@@ -1,5 +1,9 @@
 -- The laws that the calls cite.
 mod Passing
+mod FirstThatPasses
+mod FirstReadings
+mod ReadingsFit
+mod LoopsInRange
 mod FoundByNumber
 mod NumbersInOrder
 mod TurnsInCode

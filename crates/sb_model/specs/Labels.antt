@@ -1,6 +1,6 @@
 -- What is at a point: a space, an element with its layer, the earth or nothing.
 
-use Rattle.std.specs.Prelude.{ℕ, ℤ, pos, ◌+◌, ◌+ℤ◌, ◌-ℤ◌, ◌*ℤ◌, Bool, ◌&&◌, nat_le, int_lt, int_le}
+use Rattle.std.specs.Prelude.{ℕ, ℤ, pos, ◌≤◌, unsigned_abs, ◌+◌, ◌+ℤ◌, ◌-ℤ◌, ◌*ℤ◌, Bool, ◌&&◌, nat_le, int_lt, int_le}
 use Rattle.std.specs.Prelude.{List, [], ◌∷◌, ◌++◌, Option, Some, None, if◌then◌else◌}
 use Rattle.std.specs.List.{fold}
 use Rattle.std.specs.Int.{int_min, int_max}
@@ -14,6 +14,7 @@ use Rattle.sb_model.specs.declared.layers.Layering.TheVariants.{Plain, Single, L
 use Rattle.sb_model.specs.declared.products.Space.{Space}
 use Rattle.sb_model.specs.declared.products.Element.{Element}
 use Rattle.sb_fraction.specs.Spots.{Spot, Vector, vector, times_w}
+use Rattle.sb_fraction.specs.Plane.{longest_step}
 use Rattle.sb_fraction.specs.Crossings.{abscissa_at}
 use Rattle.sb_model.specs.Solids.{Upright, is_in_solid}
 use Rattle.sb_model.specs.Building.{Building}
@@ -47,6 +48,11 @@ readings_in s n (p ∷ points) = readings_over s n p ++ readings_in s n points
 abbrev pub readings_of : Upright → Vector → List (List Point) → List ℤ
 readings_of s n [] = []
 readings_of s n (points ∷ loops) = readings_in s n points ++ readings_of s n loops
+
+-- the first of some readings
+abbrev pub first_of : List ℤ → ℤ
+first_of [] = pos 0
+first_of (z ∷ zs) = z
 
 -- the extent of a prism along n, from the least p·n of its corners
 abbrev pub least_of : List ℤ → ℤ
@@ -116,3 +122,9 @@ space_label m p (Some s) = label.Space s.number
 -- have no part in it
 abbrev pub label_at : Building → Spot → Label
 label_at m p = space_label m p (space_at m p)
+
+-- the numbers of an axis are at most 10^6 in size
+pub record IsShortAxis (a : Axis) : Type 0 where
+  pub of_x : unsigned_abs a.x ≤ longest_step
+  pub of_y : unsigned_abs a.y ≤ longest_step
+  pub of_z : unsigned_abs a.z ≤ longest_step

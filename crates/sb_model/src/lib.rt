@@ -8,9 +8,11 @@
 mod boundary;
 mod building;
 mod corner;
+mod extent;
 mod face;
 mod frame;
 mod label;
+mod labelling;
 mod layers;
 mod loops;
 mod numbering;

@@ -1,9 +1,14 @@
 //! Vertical prisms.
 
 ghost use Rattle.std.specs.Prelude.{◌≡◌, ◌<ℤ◌, IsTrue};
-ghost use Rattle.sb_model.specs.Solids.{upright, is_upright, is_height};
+ghost use Rattle.sb_fraction.specs.Bounds.{is_abscissa_size, is_crossing_size};
+ghost use Rattle.sb_fraction.specs.Spots.{spot_of};
+ghost use Rattle.theory_plans.specs.Plans.{is_plan};
+ghost use Rattle.sb_points.specs.Places.{spot_over};
+ghost use Rattle.sb_model.specs.Solids.{upright, is_upright, is_height, is_in_solid};
 
-use crate::loops::Loops;
+use crate::loops::{Loops, PointLists};
+use sb_fraction::{Fraction, HPoint};
 use std::marker::Model;
 
 /// A vertical prism: a plan, from the height `z0` up to `z1`, both within 500,000 mm.
@@ -60,4 +65,27 @@ impl Prism {
     {
         self.z1
     }
+
+    /// Whether a point lies inside the prism: inside the loops, and strictly between the heights.
+    /// The point lies over `p`, at the height `z`, in millimetres (mm).
+    pub fn contains(&self, p: &HPoint, z: &Fraction) -> bool
+        requires point_in { IsTrue (is_crossing_size (spot_of p.now)) }
+        requires height_in { IsTrue (is_abscissa_size z.now) }
+        ensures { result ≡ is_in_solid self.now (spot_over p.now z.now) }
+    {
+        within_prism(self.loops.points(), self.z0, self.z1, p, z)
+    }
+}
+
+/// The same by the parts of the prism.
+#[tactic(auto, using(crate::proofs::LoopsInRange::points_in_range))]
+fn within_prism(points: &PointLists, z0: i32, z1: i32, p: &HPoint, z: &Fraction) -> bool
+    requires is_plan { IsTrue (is_plan points.now) }
+    requires low_in { IsTrue (is_height z0) }
+    requires high_in { IsTrue (is_height z1) }
+    requires point_in { IsTrue (is_crossing_size (spot_of p.now)) }
+    requires height_in { IsTrue (is_abscissa_size z.now) }
+    ensures { result ≡ is_in_solid (upright points.now z0 z1) (spot_over p.now z.now) }
+{
+    sb_points::contains(points, z0, z1, p, z)
 }
