@@ -1,5 +1,7 @@
 -- The laws that the calls cite.
 mod Passing
+mod LayersByBands
+mod BandsFit
 mod FirstThatPasses
 mod FirstReadings
 mod ReadingsFit

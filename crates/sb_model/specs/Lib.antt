@@ -5,6 +5,7 @@ pub mod Sides
 pub mod Building
 pub mod Numbering
 pub mod Labels
+pub mod Bands
 pub mod PlanEdges
 pub mod Faces
 pub mod Corners

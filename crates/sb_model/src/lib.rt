@@ -5,6 +5,7 @@
 //! list of boundaries is sound. Begin with [`Model::new`].
 #![tactic(auto)]
 
+mod band;
 mod boundary;
 mod building;
 mod corner;
