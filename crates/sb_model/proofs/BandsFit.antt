@@ -38,5 +38,9 @@ pub total_fits : (a : ℤ) (n : ℕ) → unsigned_abs a ≤ greatest_position �
     → FitsSigned w128 (a *ℤ pos n)
 total_fits a n a_in n_in = fits_signed_mul w128 a (pos n) greatest_position greatest_total a_in n_in (lit< tt)
 
+pub height_fits : (a b : ℤ) → unsigned_abs a ≤ greatest_coordinate → unsigned_abs b ≤ greatest_cross
+    → FitsSigned w128 (a *ℤ b)
+height_fits a b a_in b_in = fits_signed_mul w128 a b greatest_coordinate greatest_cross a_in b_in (lit< tt)
+
 -- for readings and bands
-pub ruleset bands = (to_z-of_z, crossing_step_fits, crossing_step_size, sense_fits, sense_size, end_fits, end_size, total_fits)
+pub ruleset bands = (to_z-of_z, crossing_step_fits, crossing_step_size, sense_fits, sense_size, end_fits, end_size, total_fits, height_fits)

@@ -1,5 +1,6 @@
 -- The laws that the calls cite.
 mod Passing
+mod LabelsFound
 mod LayersByBands
 mod BandsFit
 mod FirstThatPasses

@@ -1,21 +1,37 @@
 //! What is at a point.
 
-ghost use Rattle.std.specs.Prelude.{◌≡◌, ◌≤◌, ◌<ℤ◌, ◌+◌, ◌+ℤ◌, ◌-ℤ◌, ◌*ℤ◌, pos, unsigned_abs, int_lt, IsTrue};
+ghost use Rattle.std.specs.Prelude.{◌≡◌, ◌≤◌, ◌<ℤ◌, ◌*ℤ◌, pos, unsigned_abs, int_lt, if◌then◌else◌, IsTrue};
 ghost use Rattle.std.specs.List.{find};
 ghost use Rattle.std.specs.Option.{option_copied, option_map};
-ghost use Rattle.sb_fraction.specs.Bounds.{is_abscissa_size, is_crossing_size, greatest_cross, greatest_abscissa};
+ghost use Rattle.sb_fraction.specs.Bounds.{is_abscissa_size, is_crossing_size, greatest_cross};
+ghost use Rattle.sb_fraction.specs.Plane.{is_coordinate, greatest_coordinate};
 ghost use Rattle.sb_fraction.specs.Spots.{spot_of};
 ghost use Rattle.sb_points.specs.Places.{spot_over};
 ghost use Rattle.sb_model.specs.Solids.{is_in_solid};
-ghost use Rattle.sb_model.specs.Building.{is_layering};
-ghost use Rattle.sb_model.specs.Labels.{label_at as label_of, layer_at as layer_of, open_label as label_in_the_open, total_of as total_thickness, layer_from as layer_at_reading};
+ghost use Rattle.sb_model.specs.Labels.{label_at as label_of};
 
+use crate::band::layer_at;
 use crate::building::Model;
-use crate::extent::{Extent, extent_of};
 use crate::label::Label;
-use crate::layers::{Axis, Layering, Layers};
 use crate::products::{Element, Elements, Spaces};
 use sb_fraction::{Fraction, HPoint};
+
+/// What is at the point over `p` at the height `z`, in millimetres (mm): the lowest-numbered space
+/// that contains it, else the lowest-numbered element that contains it, with its layer, else the
+/// earth below the ground, else nothing. It goes over the points of all spaces and elements.
+pub fn label_at(model: &Model, p: &HPoint, z: &Fraction) -> Label
+    requires point_in { IsTrue (is_crossing_size (spot_of p.now)) }
+    requires height_in { IsTrue (is_abscissa_size z.now) }
+    ensures { result ≡ label_of model.now (spot_over p.now z.now) }
+{
+    if let Some(number) = space_at(model.spaces(), p, z) {
+        return Label::Space(number);
+    }
+    match element_at(model.elements(), p, z) {
+        Some(element) => Label::Element(element.number, layer_at(&element.prism, &element.layering, p, z)),
+        None => open_label(model.ground(), z),
+    }
+}
 
 /// The number of the first space that contains the point.
 fn space_at(spaces: &Spaces, p: &HPoint, z: &Fraction) -> Option<u32>
@@ -43,4 +59,28 @@ fn element_at<'a>(elements: &'a Elements, p: &HPoint, z: &Fraction) -> Option<&'
         }
     }
     None
+}
+
+/// The earth below the ground, else nothing.
+fn open_label(level: i32, z: &Fraction) -> Label
+    requires level_in { IsTrue (is_coordinate level) }
+    requires height_in { IsTrue (is_abscissa_size z.now) }
+    ensures value { result ≡ (if int_lt z.now.num (level *ℤ z.now.den) then Label.Earth else Label.Void) }
+    ensures positive { pos 0 <ℤ z.now.den }
+{
+    if z.num() < whole_times(level, z.den()) {
+        Label::Earth
+    } else {
+        Label::Void
+    }
+}
+
+/// A whole height, so many times.
+#[tactic(auto, using(crate::proofs::BandsFit::bands))]
+fn whole_times(height: i32, den: i128) -> i128
+    requires height_in { unsigned_abs height ≤ greatest_coordinate }
+    requires den_in { unsigned_abs den ≤ greatest_cross }
+    ensures { result ≡ height *ℤ den }
+{
+    height as i128 * den
 }

@@ -31,6 +31,7 @@ pub use corner::{Corner, Corners};
 pub use face::{Face, FaceKind, Side};
 pub use frame::{Frame, Turn};
 pub use label::Label;
+pub use labelling::label_at;
 pub use layers::{Axis, Layer, Layering, Layers};
 pub use loops::{LoopError, Loops, PointLists, Points};
 pub use outline::corners;
