@@ -5,7 +5,8 @@ use Rattle.std.proofs.Common.{◌⊎◌, inl, inr, List, [], ◌∷◌, ◌++◌
 use Rattle.std.specs.List.{concat, insert, remove, slice_get}
 use Rattle.std.proofs.lemmas.Bool.{cases_lt}
 use Rattle.std.proofs.lemmas.List.{append_assoc, take-append-drop, set_split, set-append_left}
-use Rattle.std.proofs.lemmas.List.{set-append_right, length-append, length-take-le, drop_more, take_all, drop_all}
+use Rattle.std.proofs.lemmas.List.{set-append_right, length-append, length-take-le, drop_more}
+use Rattle.std.proofs.lemmas.List.{take_all, drop_all}
 use Rattle.std.proofs.lemmas.List.{get_or_past}
 use Rattle.std.proofs.lemmas.List.Edits.{insert-append_left, insert-append_right, insert_end}
 use Rattle.std.proofs.lemmas.List.Edits.{remove-append_left, remove-append_right}
@@ -235,14 +236,6 @@ rank_within blocks place is = from (cases_lt place.block (length blocks))
         → rank_of blocks place ≤ length (concat blocks)
     from (inl within) = there within
     from (inr past) = let end = rank_of_end blocks place past is in omega (arith, end)
-
--- and what is put there is the last item
-pub insert_at_end : (blocks : List (List ℕ)) (place : Place) (x : ℕ)
-    → length blocks ≤ place.block → IsPlace blocks place
-    → insert (concat blocks) (rank_of blocks place) x ≡ concat blocks ++ (x ∷ [])
-insert_at_end blocks place x beyond is =
-    ap (λ n. insert (concat blocks) n x) (rank_of_end blocks place beyond is)
-    ∙ insert_end (concat blocks) x
 
 -- behind the last item of the last block is the end too
 pub rank_behind_last : (blocks : List (List ℕ)) (place : Place) → place.block + 1 ≡ length blocks

@@ -48,5 +48,13 @@ point_from x y w x_in y_in w_in =
     and_from _ _ (le-leb _ _ x_in) (and_from _ _ (le-leb _ _ y_in) (le-leb _ _ w_in))
 
 -- for sums and products of signed numbers
-pub ruleset numbers =
-    (to_z-of_z, turns_fit, way_product_fits, way_product_size, scaled_fits, scaled_size, way_from, point_from)
+pub ruleset numbers = (
+  to_z-of_z,
+  turns_fit,
+  way_product_fits,
+  way_product_size,
+  scaled_fits,
+  scaled_size,
+  way_from,
+  point_from,
+)

@@ -1,7 +1,7 @@
 //! Whether the edges of loops are apart, and on which side of each loop the solid lies.
 //!
-//! The loops are normalised: bent at each point, each begun at its least. All pairs of edges are looked
-//! at, and for each loop all edges that a ray from it may strike. Begin with [`senses`].
+//! The loops are normalised: bent at each point, each begun at its least. All pairs of edges are
+//! looked at, and for each loop all edges that a ray from it may strike. Begin with [`senses`].
 #![tactic(auto)]
 
 mod edges;

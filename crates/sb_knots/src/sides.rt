@@ -18,11 +18,11 @@ use sb_fraction::Point;
 use sb_list::Listed;
 use std::alloc::{AllocError, Global};
 
-/// Of normalised loops, whether their edges are apart, and for each loop whether the solid lies on its
-/// left: for all edges of the loop or for none.
+/// Of normalised loops, whether their edges are apart, and for each loop whether the solid lies on
+/// its left: for all edges of the loop or for none.
 ///
-/// - `Ok(None)`: exactly where two edges meet otherwise than as consecutive ends, or a point is a corner
-///   twice.
+/// - `Ok(None)`: exactly where two edges meet otherwise than as consecutive ends, or a point is a
+///   corner twice.
 /// - `Ok(Some(senses))`: for each loop, in order, whether the solid lies left of its first edge, by
 ///   the parity of what the ray from the middle of that edge to its right strikes.
 pub fn senses(alloc: Global, loops: &PointLists) -> Result<Option<Senses>, AllocError>

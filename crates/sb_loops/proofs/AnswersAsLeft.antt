@@ -1,6 +1,7 @@
 -- The answer for what is left of loops is the answer for the loops.
 
-use Rattle.std.proofs.Common.{◌≡◌, refl, sym, ap, ◌∙◌, ◌↔◌, ◌≤◌, Bool, true, false, not, List, length, map}
+use Rattle.std.proofs.Common.{◌≡◌, refl, sym, ap, ◌∙◌, ◌↔◌, ◌≤◌, Bool, true, false, not, List}
+use Rattle.std.proofs.Common.{length, map}
 use Rattle.std.proofs.Common.{Result, Ok, Err, IfOk}
 use Rattle.std.specs.List.{list_all}
 use Rattle.std.proofs.lemmas.Bool.{false≢true, false_from_ne_true}
@@ -39,7 +40,8 @@ pub record IsFor (lefts : List (List Point)) (answer : Answer) : Type 0 where
 
 module _ (loops lefts : List (List Point)) (some : 1 ≤ length loops) (are : AreLeft loops lefts)
     (answer : Answer) (is : IsFor lefts answer) where
-  both : (x : List (List Point)) → answer ≡ Ok x → IfOk answer (λ plan. list_all is_least_first lefts ≡ true)
+  both : (x : List (List Point)) → answer ≡ Ok x
+      → IfOk answer (λ plan. list_all is_least_first lefts ≡ true)
       → list_all is_least_first lefts ≡ true
   both x ok least = rw ok at least
 
@@ -48,7 +50,8 @@ module _ (loops lefts : List (List Point)) (some : 1 ≤ length loops) (are : Ar
   plan_is =
       ok_then answer is.plan
       (λ x ok same. same
-      ∙ ap (λ l. map (put_left (edges_of l)) l) (begun_are_normal loops lefts are (both x ok is.least)))
+      ∙ ap (λ l. map (put_left (edges_of l)) l)
+      (begun_are_normal loops lefts are (both x ok is.least)))
 
   apart_if_ok : (x : List (List Point)) → answer ≡ Ok x → not (are_apart lefts) ≡ false
   apart_if_ok x ok =

@@ -1,9 +1,13 @@
--- What is left of loops says whether they are flat, whether they are knotted, and what their plan is.
+-- What is left of loops says whether they are flat, whether they are knotted, and what their plan
+-- is.
 
-use Rattle.std.proofs.Common.{◌≡◌, refl, sym, ap, ap₂, ◌∙◌, subst, inl, inr, arith, ℕ, zero, suc, ◌+◌, ◌<◌, ◌≤◌}
-use Rattle.std.proofs.Common.{Bool, true, false, not, ◌&&◌, ◌||◌, List, [], ◌∷◌, ◌++◌, length, get_or, take, nat_lt}
+use Rattle.std.proofs.Common.{◌≡◌, refl, sym, ap, ap₂, ◌∙◌, subst, inl, inr, arith, ℕ}
+use Rattle.std.proofs.Common.{◌+◌, ◌<◌, ◌≤◌}
+use Rattle.std.proofs.Common.{Bool, true, false, not, ◌&&◌, ◌||◌, List, [], ◌∷◌, ◌++◌, length}
+use Rattle.std.proofs.Common.{get_or, take, nat_lt}
 use Rattle.std.specs.List.{list_all, list_any, AllByRecursion}
-use Rattle.std.proofs.lemmas.Bool.{and_parts, and_from, or_left, or_right, or_from, false≢true, false_from_ne_true}
+use Rattle.std.proofs.lemmas.Bool.{and_parts, and_from, or_from, false≢true}
+use Rattle.std.proofs.lemmas.Bool.{false_from_ne_true}
 use Rattle.std.proofs.lemmas.List.{length-append, take_more}
 use Rattle.std.proofs.lemmas.List.Folds.{list_all-append}
 use Rattle.sb_fraction.specs.declared.point.Point.{Point}
@@ -62,19 +66,12 @@ all_becomes test (begins_next {a = a} {points = points} b) all =
     let parts = and_parts (test a) (list_all test points) all in
     all_becomes test b
     (list_all-append test points (a ∷ [])
-    ∙ and_from (list_all test points) (test a && true) parts.1 (and_from (test a) true parts.0 refl))
+    ∙ and_from (list_all test points) (test a && true) parts.1
+    (and_from (test a) true parts.0 refl))
 all_becomes test (loses_first {a = a} {points = points} level b) all =
     all_becomes test b (and_parts (test a) (list_all test points) all).1
 
 -- ---- all loops
-
--- as many are left
-pub length-left : (loops lefts : List (List Point)) → AreLeft loops lefts
-    → length loops ≡ length lefts
-length-left [] [] are = refl
-length-left [] (left ∷ lefts) are = absurd are
-length-left (points ∷ loops) [] are = absurd are
-length-left (points ∷ loops) (left ∷ lefts) are = ap suc (length-left loops lefts are.1)
 
 left-append : (loops lefts others rest : List (List Point)) → AreLeft loops lefts
     → AreLeft others rest → AreLeft (loops ++ others) (lefts ++ rest)
@@ -156,21 +153,6 @@ pub left_are_not_flat : (loops lefts : List (List Point)) → 1 ≤ length loops
 left_are_not_flat loops lefts some are =
     or_from (nat_lt (length loops) 1) (list_any keeps_few loops) (one_is_some (length loops) some)
     (none_keeps_few loops lefts are)
-
-any_at : {X : Type 0} (test : X → Bool) (xs : List X) (i : ℕ) (x : X) → i < length xs
-    → x ≡ get_or xs i x → test x ≡ true → list_any test xs ≡ true
-any_at test [] i x within here passes = absurd (omega arith)
-any_at test (y ∷ xs) zero x within here passes =
-    or_left (test y) (list_any test xs) (sym (ap test here) ∙ passes)
-any_at test (y ∷ xs) (suc i) x within here passes =
-    or_right (test y) (list_any test xs) (any_at test xs i x (omega arith) here passes)
-
--- one that keeps few makes them flat
-pub one_is_flat : (loops : List (List Point)) (i : ℕ) (points : List Point) → i < length loops
-    → points ≡ get_or loops i points → keeps_few points ≡ true → are_flat loops ≡ true
-one_is_flat loops i points within here few =
-    or_right (nat_lt (length loops) 1) (list_any keeps_few loops)
-    (any_at keeps_few loops i points within here few)
 
 -- ---- knotted
 

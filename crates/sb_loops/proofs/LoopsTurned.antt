@@ -41,5 +41,6 @@ pub one_more_back : (before points : List Point) (k : ℕ) (d : Point) → k < l
 one_more_back before points k d within =
     let size = length-reverse points in
     append_assoc before (take k (reverse points)) (get_or points (length points - 1 - k) d ∷ [])
-    ∙ ap (λ p. before ++ (take k (reverse points) ++ (p ∷ []))) (sym (get_or-reverse points k d within))
+    ∙ ap (λ p. before ++ (take k (reverse points) ++ (p ∷ [])))
+    (sym (get_or-reverse points k d within))
     ∙ ap (λ l. before ++ l) (sym (take_more (reverse points) k d (omega (arith, size, within))))

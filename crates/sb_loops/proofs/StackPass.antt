@@ -1,7 +1,9 @@
 -- A pass with a stack: the last point is taken away where it is not needed, and the way stays bent.
 
-use Rattle.std.proofs.Common.{◌≡◌, refl, sym, ap, ◌∙◌, subst, arith, pos, ℕ, zero, suc, ◌-◌, ◌<◌, ◌≤◌}
-use Rattle.std.proofs.Common.{Bool, true, false, not, List, [], ◌∷◌, ◌++◌, length, get_or, take, drop}
+use Rattle.std.proofs.Common.{◌≡◌, refl, sym, ap, ◌∙◌, subst, arith, pos, ℕ, zero, suc, ◌-◌}
+use Rattle.std.proofs.Common.{◌≤◌}
+use Rattle.std.proofs.Common.{Bool, true, false, not, List, [], ◌∷◌, ◌++◌, length, get_or, take}
+use Rattle.std.proofs.Common.{drop}
 use Rattle.std.proofs.lemmas.Bool.{and_parts, and_from}
 use Rattle.std.proofs.lemmas.List.{append_assoc, length-append, take_at}
 use Rattle.sb_fraction.specs.declared.point.Point.{Point}
@@ -11,7 +13,8 @@ use Rattle.theory_loops.specs.Orders.{IsLevelAt, Becomes}
 use Rattle.theory_loops.specs.Orders.Becomes.{stays, begins_next, loses_first}
 use Rattle.theory_loops.proofs.DropsKeep.{straight}
 use Rattle.theory_loops.proofs.SameLoop.{becomes_through, becomes_turned, last_of-append}
-use Rattle.sb_loops.specs.Ways.{is_bent_after, is_bent_way, is_last_straight_after, is_last_straight}
+use Rattle.sb_loops.specs.Ways.{is_bent_after, is_bent_way, is_last_straight_after}
+use Rattle.sb_loops.specs.Ways.{is_last_straight}
 use Rattle.sb_loops.specs.Ways.{is_first_straight}
 
 not_true : (b : Bool) → not b ≡ true → b ≡ false
@@ -174,13 +177,6 @@ last_straight_at (a ∷ b ∷ points) next d many =
 
     one_less : (n : ℕ) → suc n ≡ suc (suc n) - 1
     one_less n = omega arith
-
--- none is straight of fewer than two
-pub few_are_not_straight : (kept : List Point) (next : Point) → length kept < 2
-    → is_last_straight kept next ≡ false
-few_are_not_straight [] next few = refl
-few_are_not_straight (a ∷ []) next few = refl
-few_are_not_straight (a ∷ b ∷ points) next few = absurd (omega arith)
 
 last_at : (b : Point) (points : List Point) (d : Point)
     → last_of b points ≡ get_or (b ∷ points) (length points) d

@@ -1,4 +1,5 @@
--- Ways that are bent at each point between their ends, and loops from which nothing is left to drop.
+-- Ways that are bent at each point between their ends, and loops from which nothing is left to
+-- drop.
 
 use Rattle.std.specs.Prelude.{◌≡◌, Bool, true, false, not, ◌&&◌, List, [], ◌∷◌}
 use Rattle.sb_fraction.specs.declared.point.Point.{Point}

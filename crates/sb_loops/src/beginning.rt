@@ -38,7 +38,8 @@ fn least(points: &[Point]) -> Point
 // The first place of a point.
 fn place_of(points: &[Point], m: Point) -> usize
     ensures within { result ≤ length points.now }
-    ensures read { normal.read_from m [] points.now ≡ drop result points.now ++ take result points.now }
+    ensures read { normal.read_from m [] points.now
+        ≡ drop result points.now ++ take result points.now }
 {
     for (k, b) in points.iter().enumerate() {
         if is_same_point(*b, m) {

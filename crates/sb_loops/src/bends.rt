@@ -6,8 +6,8 @@ ghost use Rattle.theory_plans.specs.Loops as loops;
 
 use sb_fraction::Point;
 
-/// Whether the way from `a` over `b` to `c` does not go straight: a point that equals a neighbour goes
-/// straight, and so does the tip of a spike.
+/// Whether the way from `a` over `b` to `c` does not go straight: a point that equals a neighbour
+/// goes straight, and so does the tip of a spike.
 #[tactic(auto, using(crate::proofs::NumbersFit::numbers))]
 pub(crate) fn is_bent(a: Point, b: Point, c: Point) -> bool
     ensures { result ≡ loops.is_bent a b c }

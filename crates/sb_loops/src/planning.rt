@@ -19,13 +19,14 @@ use sb_fraction::Point;
 use sb_knots::{PointLists, senses};
 use std::alloc::Global;
 
-/// The plan of these loops of plan points, in whole millimetres (mm), in any sense, with doubled points
-/// and with points that are not needed.
+/// The plan of these loops of plan points, in whole millimetres (mm), in any sense, with doubled
+/// points and with points that are not needed.
 ///
 /// - `Ok(loops)`: each loop without its points that lie on one line with their neighbours, doubled
-///   points and spikes among them, from its least point on, and turned so that the solid lies on its
-///   left, by parity over all loops; in the order handed in. They are a plan.
-/// - `Err(Flat)`: exactly where there is no loop, or one keeps fewer than three points. Tried first.
+///   points and spikes among them, from its least point on, and turned so that the solid lies on
+///   its left, by parity over all loops; in the order handed in. They are a plan.
+/// - `Err(Flat)`: exactly where there is no loop, or one keeps fewer than three points. Tried
+///   first.
 /// - `Err(Knot)`: exactly where none is flat and two edges meet otherwise than as consecutive ends.
 /// - `Err(NoMemory)`: at any time. The two others yield to it.
 pub fn plan_of(alloc: Global, points: PointLists) -> Result<PointLists, LoopError>

@@ -1,6 +1,7 @@
 //! Dropping the points on the way from the first to the last that are not needed.
 
-ghost use Rattle.std.specs.Prelude.{◌≡◌, ◌++◌, ◌∷◌, [], ◌≤◌, List, length, drop, true, IsTrue, IfOk};
+ghost use Rattle.std.specs.Prelude.{◌≡◌, ◌++◌, ◌∷◌, [], ◌≤◌, List, length, drop, true, IsTrue};
+ghost use Rattle.std.specs.Prelude.{IfOk};
 ghost use Rattle.sb_fraction.specs.declared.point.Point.{Point as PlanPoint};
 ghost use Rattle.theory_plans.specs.Loops.{is_bent_loop};
 ghost use Rattle.theory_loops.specs.Orders.{Becomes};
@@ -10,9 +11,9 @@ use crate::bends::is_bent;
 use sb_fraction::Point;
 use std::alloc::{AllocError, Global};
 
-/// The points without those on one line with their neighbours, so that the way over them is bent at
-/// each but the first and the last. One pass: each point is put on a stack, from which those before it
-/// that are not needed then are taken.
+/// The points without those on one line with their neighbours, so that the way over them is bent
+/// at each but the first and the last. One pass: each point is put on a stack, from which those
+/// before it that are not needed then are taken.
 pub(crate) fn straightened(alloc: Global, points: &[Point]) -> Result<Vec<Point>, AllocError>
     ensures becomes { IfOk result (λ kept. Becomes points.now kept.items) }
     ensures bent { IfOk result (λ kept. IsTrue (ways.is_bent_way kept.items)) }
@@ -37,8 +38,8 @@ fn drop_straight(kept: &mut Vec<Point>, b: Point)
     }
 }
 
-/// The closed way without the points at its joint that are on one line with their neighbours, from the
-/// last one backwards and from the first one on.
+/// The closed way without the points at its joint that are on one line with their neighbours, from
+/// the last one backwards and from the first one on.
 pub(crate) fn closed(kept: &[Point]) -> &[Point]
     requires { IsTrue (ways.is_bent_way kept.now) }
     ensures becomes { Becomes kept.now result.now }

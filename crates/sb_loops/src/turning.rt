@@ -29,7 +29,8 @@ pub(crate) fn turned_by(
 
 // The loop, or turned round.
 fn put(alloc: Global, points: &[Point], left: bool) -> Result<Points, AllocError>
-    ensures { IfOk result (λ put. put ≡ (if left then points.now else sides.turned_loop points.now)) }
+    ensures { IfOk result
+        (λ put. put ≡ (if left then points.now else sides.turned_loop points.now)) }
 {
     if left {
         Listed::from_slice(alloc, points)

@@ -3,7 +3,8 @@ use Rattle.std.proofs.Common.{ap, ◌∙◌, arith, [], length, sym, set}
 use Rattle.std.specs.List.{concat, remove, slice_get}
 use Rattle.std.proofs.lemmas.List.{get_or_read, nil_from_length, get_or-set_same}
 use Rattle.sb_blocks.specs.Blocks.{is_block, are_blocks, block_at}
-use Rattle.sb_blocks.proofs.EditsOfOneBlock.{get_in_block, item_in_block, remove_block, remove_in_block}
+use Rattle.sb_blocks.proofs.EditsOfOneBlock.{get_in_block, item_in_block, remove_block}
+use Rattle.sb_blocks.proofs.EditsOfOneBlock.{remove_in_block}
 use Rattle.sb_blocks.proofs.EditsOfOneBlock.{remove-set}
 use Rattle.sb_blocks.proofs.BlocksStay.{size_of_block, remove_is_block, remove_stays, set_stays}
 use Rattle.sb_blocks.proofs.changes.take_away.Goals as goal
@@ -27,7 +28,8 @@ returns-then-len-eq0-clause-rest c =
     let new = c.index.ensures
     ∙ get_or-set_same c.args.blocks.now.items c.args.place.block c.remove-x.new.self
     c.index.result.now within in
-    let none = nil_from_length (remove (block_at c.args.blocks.now.items c.args.place.block) c.args.place.at)
+    let none = nil_from_length
+    (remove (block_at c.args.blocks.now.items c.args.place.block) c.args.place.at)
     (sym (ap length rest) ∙ sym (ap length new) ∙ sym c.len.ensures ∙ c.if-len-eq0.true) in
     ap concat
     (c.remove.ensures.items

@@ -46,7 +46,8 @@ returns-in-Ok-Some-clause-is_plan c =
     rw c.in-Ok-Some.field-0-is at c.in-Ok-Some.ensures.left in
     let some : 1 ≤ length c.args.points =
     rw c.in-Ok-Some.field-0-is at c.in-Ok-Some.ensures.some in
-    is_plan_if_ok c.args.points c.in-Ok-Some.left some are c.turned.result (about c) c.requires.in_range
+    is_plan_if_ok c.args.points c.in-Ok-Some.left some are c.turned.result (about c)
+    c.requires.in_range
 
 pub returns-in-Ok-Some-clause-flat : goal.returns-in-Ok-Some-clause-flat
 returns-in-Ok-Some-clause-flat c =

@@ -1,4 +1,5 @@
--- A loop that does not begin before its other points is a knot; turned by the senses the loops are put.
+-- A loop that does not begin before its other points is a knot; turned by the senses the loops are
+-- put with the solid on their left.
 use Rattle.std.proofs.Common.{◌∙◌, ap, sym, refl}
 use Rattle.theory_plans.specs.LoopEdges.{edges_of}
 use Rattle.sb_loops.specs.Answers.{turned_by}

@@ -1,5 +1,6 @@
 -- Point by point.
-use Rattle.std.proofs.Common.{◌∙◌, sym, ap, ◌++◌, ◌∷◌, [], drop, subst, append_assoc, ◌+◌, get_or, pos}
+use Rattle.std.proofs.Common.{◌∙◌, sym, ap, ◌++◌, ◌∷◌, [], drop, subst, append_assoc, ◌+◌, get_or}
+use Rattle.std.proofs.Common.{pos}
 use Rattle.theory_plans.specs.Rectangles.{corner}
 use Rattle.std.proofs.lemmas.List.{drop_more}
 use Rattle.theory_loops.specs.Orders.{Becomes}

@@ -1,5 +1,6 @@
 -- Loop by loop.
-use Rattle.std.proofs.Common.{◌∙◌, ap, ap₂, sym, ◌++◌, ◌∷◌, [], false, get_or, length, if◌then◌else◌}
+use Rattle.std.proofs.Common.{◌∙◌, ap, ap₂, sym, ◌++◌, ◌∷◌, [], false, get_or, length}
+use Rattle.std.proofs.Common.{if◌then◌else◌}
 use Rattle.theory_parity.specs.Sides.{turned_loop}
 use Rattle.sb_loops.proofs.LoopsTurned.{one_more_turned}
 use Rattle.sb_loops.proofs.turning.turned_by.Goals as goal
