@@ -156,11 +156,22 @@ fn take_away(blocks: &mut Vec<Block>, place: Place) -> u32
         ≡ remove (concat blocks.old.items) (rank_of blocks.old.items place) }
     ensures blocks { IsTrue (are_blocks blocks.new.items) }
 {
-    let x = blocks[place.block].remove(place.at);
+    let x = take_item(blocks, place);
     if blocks[place.block].len() == 0 {
         let _ = blocks.remove(place.block);
     }
     x
+}
+
+// Takes away the item at the place, from its block.
+fn take_item(blocks: &mut Vec<Block>, place: Place) -> u32
+    requires { IsItemPlace blocks.old.items place }
+    ensures value { slice_get (block_at blocks.old.items place.block) place.at ≡ Some result }
+    ensures block { blocks.new.items
+        ≡ slice_set blocks.old.items place.block
+        (remove (block_at blocks.old.items place.block) place.at) }
+{
+    blocks[place.block].remove(place.at)
 }
 
 // Puts x in place of the item at the place.
