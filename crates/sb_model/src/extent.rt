@@ -10,7 +10,7 @@ ghost use Rattle.sb_model.specs.Labels.{axis_vector, low_along, high_along};
 ghost use Rattle.sb_model.specs.Labels.{readings_over, readings_in, readings_of, first_of, IsShortAxis};
 
 use crate::layers::Axis;
-use crate::loops::Points;
+use sb_loops::Points;
 use crate::prism::Prism;
 use sb_fraction::Point;
 

@@ -1,25 +1,19 @@
 //! The plans of solids: closed loops of plan points.
 
-ghost use Rattle.std.specs.Prelude.{◌≡◌, ◌<◌, ◌&&◌, length, slice_get, IfSome, IsTrue, Ok, Some};
+ghost use Rattle.std.specs.Prelude.{◌≡◌, ◌↔◌, ◌<◌, ◌&&◌, length, slice_get, IfOk, IfSome, IsTrue, Err, Some, true};
 ghost use Rattle.std.specs.List.{list_all};
 ghost use Rattle.std.specs.Option.{option_map};
-ghost use Rattle.theory_plans.specs.Loops.{is_rectangle};
+ghost use Rattle.theory_loops.specs.Answers.{plan_of as plan_of_loops, are_flat, are_knotted};
+ghost use Rattle.sb_loops.specs.Answers.{IsInTime};
 ghost use Rattle.theory_plans.specs.Plans.{is_plan};
 ghost use Rattle.sb_fraction.specs.Plane.{is_plan_point};
 ghost use Rattle.theory_plans.specs.LoopEdges.{edges_of, edges_of_loop, next_in_loop};
 ghost use Rattle.sb_fraction.specs.Edges.{edge};
 
 use sb_fraction::Point;
-use sb_list::Listed;
+use sb_loops::{LoopError, PointLists, plan_of};
 use std::alloc::Global;
 use std::marker::Model;
-use thiserror::Error;
-
-/// Plan points, as the corners of a closed loop.
-pub type Points = Listed<Point>;
-
-/// Lists of plan points: the loops of a plan.
-pub type PointLists = Listed<Points>;
 
 /// The plan of a solid: normalised loops, of which two edges meet only where they are consecutive,
 /// with the solid on the left of every edge.
@@ -43,27 +37,27 @@ impl Model for Loops {
     ghost invariant = { λ l. IsTrue (is_plan l.points) };
 }
 
-/// Why loops are no plan.
-#[derive(Debug, Drop, Error)]
-pub enum LoopError {
-    /// A loop keeps fewer than three points, or there is no loop.
-    #[error("a loop keeps fewer than three points")]
-    Flat,
-    /// No loop is flat, and two edges meet otherwise than as consecutive ends.
-    #[error("two edges meet")]
-    Knot,
-    /// There is no memory.
-    #[error("no memory")]
-    NoMemory,
-}
-
 impl Loops {
-    /// The plan with these loops, which are the one rectangle of `is_rectangle`, in normal order.
-    pub fn new(_alloc: Global, points: PointLists) -> Result<Loops, LoopError>
-        requires rectangle { IsTrue (is_rectangle points) }
-        ensures { result ≡ Ok points }
+    /// The plan of these loops of plan points, in whole millimetres (mm), in any sense, with doubled
+    /// points and with points that are not needed.
+    ///
+    /// - `Ok(loops)`: each loop without its points that lie on one line with their neighbours,
+    ///   from its least point on, and turned so that the solid lies on its left, by parity over all
+    ///   loops; in the order handed in.
+    /// - `Err(Flat)`: exactly where there is no loop, or one keeps fewer than three points.
+    /// - `Err(Knot)`: exactly where none is flat and two edges meet otherwise than as consecutive
+    ///   ends.
+    /// - `Err(NoMemory)`: at any time. The two others yield to it.
+    pub fn new(alloc: Global, points: PointLists) -> Result<Loops, LoopError>
+        requires in_range { IsTrue (list_all (list_all is_plan_point) points) }
+        ensures plan { IfOk result (λ loops. loops ≡ plan_of_loops points) }
+        ensures flat { IsInTime result → (result ≡ Err LoopError.Flat) ↔ (are_flat points ≡ true) }
+        ensures knot { IsInTime result → (result ≡ Err LoopError.Knot) ↔ (are_knotted points ≡ true) }
     {
-        Ok(Loops { points })
+        match plan_of(alloc, points) {
+            Ok(points) => Ok(Loops { points }),
+            Err(error) => Err(error),
+        }
     }
 
     /// The normalised loops.

@@ -7,7 +7,8 @@ ghost use Rattle.theory_plans.specs.Plans.{is_plan};
 ghost use Rattle.sb_points.specs.Places.{spot_over};
 ghost use Rattle.sb_model.specs.Solids.{upright, is_upright, is_height, is_in_solid};
 
-use crate::loops::{Loops, PointLists};
+use crate::loops::Loops;
+use sb_loops::PointLists;
 use sb_fraction::{Fraction, HPoint};
 use std::marker::Model;
 
