@@ -1,15 +1,16 @@
 // The model that an input of the first form means.
-ghost use Rattle.std.specs.Prelude.{◌≡◌, ◌≤◌, ◌<◌, ◌*ℤ◌, [], ◌∷◌, pos, IfOk, unsigned_abs};
+ghost use Rattle.std.specs.Prelude.{◌≡◌, ◌≤◌, ◌<◌, ◌*ℤ◌, [], ◌∷◌, pos, IfOk, IsTrue, unsigned_abs};
 ghost use Rattle.sb_form.specs.FirstForm.{AreShort};
 ghost use Rattle.sb_form.specs.Meaning.{IsExtentOf, model_of, space_of, frame_of, nanometres, unturned};
 ghost use Rattle.theory_plans.specs.Rectangles.{rectangle};
+ghost use Rattle.theory_plans.specs.Loops.{is_rectangle};
 ghost use Rattle.theory_turns.specs.Turns.{Quarter};
 
 use crate::matcher::FirstForm;
 use sb_box::Extent;
 use sb_fraction::{Point, Unit};
 use sb_model::{
-    Axis, Elements, Fillings, Frame, Loops, Model, ModelError, Openings, PointLists, Points, Prism,
+    Axis, Elements, Fillings, Frame, LoopError, Loops, Model, ModelError, Openings, PointLists, Points, Prism,
     Space, Spaces, Text, Turn,
 };
 use std::alloc::{AllocError, Global};
@@ -87,9 +88,20 @@ fn plan(alloc: Global, extent: &Extent) -> Result<Loops, AllocError>
     })?;
     let mut lists = PointLists::new(alloc);
     lists.push(corners)?;
+    rectangle_plan(alloc, lists)
+}
+
+/// The plan with this one rectangle, which is left as it is.
+fn rectangle_plan(alloc: Global, lists: PointLists) -> Result<Loops, AllocError>
+    requires rectangle { IsTrue (is_rectangle lists) }
+    ensures { IfOk result (λ loops. loops ≡ lists) }
+{
     match Loops::new(alloc, lists) {
         Ok(loops) => Ok(loops),
-        Err(_) => unreachable!(),
+        Err(LoopError::NoMemory) => Err(AllocError),
+        // A rectangle is a plan.
+        Err(LoopError::Flat) => unreachable!(),
+        Err(LoopError::Knot) => unreachable!(),
     }
 }
 

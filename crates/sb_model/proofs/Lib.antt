@@ -6,7 +6,6 @@ mod BandsFit
 mod FirstThatPasses
 mod FirstReadings
 mod ReadingsFit
-mod LoopsInRange
 mod FoundByNumber
 mod NumbersInOrder
 mod TurnsInCode

@@ -79,7 +79,7 @@ impl Prism {
 }
 
 /// The same by the parts of the prism.
-#[tactic(auto, using(crate::proofs::LoopsInRange::points_in_range))]
+#[tactic(auto, using(theory_plans::proofs::LoopsInRange::points_in_range))]
 fn within_prism(points: &PointLists, z0: i32, z1: i32, p: &HPoint, z: &Fraction) -> bool
     requires is_plan { IsTrue (is_plan points.now) }
     requires low_in { IsTrue (is_height z0) }

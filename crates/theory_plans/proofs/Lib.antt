@@ -19,3 +19,5 @@ pub mod RectangleIsPlan
 pub mod InsideRectangle
 mod Examples
 mod ExamplePlans
+-- the points of a plan
+pub mod LoopsInRange

@@ -3,7 +3,7 @@ use Rattle.std.specs.Int.{int_min, int_max}
 use Rattle.std.specs.List.{list_all, fold}
 use Rattle.sb_fraction.specs.Plane.{is_plan_point}
 use Rattle.theory_plans.specs.Plans.{is_plan}
-use Rattle.sb_model.proofs.LoopsInRange.{points_in_range}
+use Rattle.theory_plans.proofs.LoopsInRange.{points_in_range}
 use Rattle.sb_model.specs.Labels.{axis_vector, readings_of, first_of}
 use Rattle.sb_model.proofs.FirstReadings.{least-again, greatest-again}
 use Rattle.sb_model.proofs.extent.extent_of.Goals as goal
