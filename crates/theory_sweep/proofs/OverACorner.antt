@@ -42,7 +42,7 @@ use Rattle.theory_sweep.proofs.NeighboursInOrder.{neighbours_joined}
 use Rattle.theory_sweep.proofs.OrderIsKept.{IsInOrderAt, IsOver, two_keep_order, in_order_trans}
 use Rattle.theory_sweep.proofs.OrderIsKept.{whole_is, whole_at_most}
 use Rattle.theory_sweep.proofs.PointsOfRisingEdges.{cross_whole, passed_between, at_a, value_on_it, value_is}
-use Rattle.theory_sweep.proofs.ValuesAtACorner.{value_when, height_of, below_when, above_when}
+use Rattle.theory_sweep.proofs.ValuesAtACorner.{value_when, height_of, below_when, above_when, under_if_below}
 use Rattle.theory_sweep.proofs.ValuesAtACorner.{same_when, level_at_a, level_at_b, meet_there}
 use Rattle.theory_sweep.proofs.ValuesAtACorner.{leads_if_below, leads_other, leads_if_left}
 
@@ -212,6 +212,20 @@ module _ (d : Arrow) (d_is : IsWay d) (loops : List (List Point)) (apart : ArePa
           (sym (whole_same (pass_of d c.at) (pass_of d e.b) (order.same same).1))))
       from (inr above) =
           absurd (below_clash (value_when d c.at f) (value_when d c.at e) above order.order)
+
+  -- what lies below the corner comes first
+  pub below_first : AllOfTwo (λ e f. is_under c.at f ≡ true → is_under c.at e ≡ true) es
+  below_first =
+      two_follow (IsInOrderAt d (at_pass (pass_of d c.at)))
+      (λ e f. is_under c.at f ≡ true → is_under c.at e ≡ true) es
+      (λ e f e_in f_in pair under.
+      let e_is = (now.there e e_in).edge in
+      let f_is = (now.there f f_in).edge in
+      under_if_below d d_is c.at e e_is.rising
+      (at_most_below_trans (value_when d c.at e) (value_when d c.at f) (height_of d c.at)
+      (value_in e e_is.rising) (value_in f f_is.rising) height_in pair.order
+      (below_when d d_is c.at f f_is.rising under)))
+      in_order
 
   module _ (front ending back : List Edge) (parts : IsSplitAt c.at es front ending back) where
     -- ---- the three parts

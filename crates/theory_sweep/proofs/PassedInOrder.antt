@@ -2,7 +2,7 @@
 
 use Rattle.std.proofs.Common.{◌≡◌, ◌⊎◌, inl, inr, sym, ap, arith, ℤ, pos}
 use Rattle.std.proofs.Common.{◌<ℤ◌, ◌≤ℤ◌, ◌+ℤ◌, ◌*ℤ◌, true, ◌&&◌, int_lt}
-use Rattle.std.proofs.Common.{neg_ℤ, ap₂}
+use Rattle.std.proofs.Common.{neg_ℤ, ap₂, negsuc}
 use Rattle.std.specs.Ordering.{int_eq}
 use Rattle.std.proofs.lemmas.Int.{ints}
 use Rattle.std.proofs.lemmas.Bool.{and_parts, and_from, or_left, or_right, or_cases}
@@ -108,3 +108,17 @@ before_if_first a b a_in b_in less = from (one_before a b)
     from (inr (inl before)) = before
     from (inr (inr after)) =
         let more = passed_first b a b_in a_in after in absurd (omega (arith, ints))
+
+-- they are all passed after this number
+pub passed_late : (p : Point) → is_plan_point p ≡ true
+    → negsuc 500001000000 <ℤ pass_of sweep_way p
+passed_late p p_in =
+    let parts = and_parts (is_coordinate p.x) (is_coordinate p.y) p_in in
+    late p.x p.y (pass_of sweep_way p) (pass_is p) (within p.x parts.0) (within p.y parts.1)
+  where
+    late : (x y m : ℤ) → m ≡ (pos 1000001 *ℤ x) +ℤ y → IsWithin x → IsWithin y
+        → negsuc 500001000000 <ℤ m
+    late x y m m_is x_in y_in =
+        let x_low = x_in.low in
+        let y_low = y_in.low in
+        omega (arith, ints)

@@ -25,7 +25,7 @@ use Rattle.theory_parity.specs.Below.{IsWay, spot_in, value_of}
 use Rattle.theory_parity.proofs.BelowByValue.{spot_in_is}
 use Rattle.theory_sweep.specs.Passing.{pass_of, at_pass, IsRising}
 use Rattle.theory_sweep.specs.Open.{MeetAtOneEnd, is_under}
-use Rattle.theory_sweep.proofs.PointsOfRisingEdges.{value_below, value_above, value_there, passed_at}
+use Rattle.theory_sweep.proofs.PointsOfRisingEdges.{left_if_below, value_below, value_above, value_there, passed_at}
 use Rattle.theory_sweep.proofs.PointsOfRisingEdges.{value_is, over_place, passed_there, same_place}
 use Rattle.theory_sweep.proofs.PointsOfRisingEdges.{rises}
 
@@ -69,6 +69,12 @@ module _ (d : Arrow) (d_is : IsWay d) (v : Point) (e : Edge) (rising : IsRising 
       subst (λ u. IsBelow (value_of d u e) (height_of d v)) (passed_at d v)
       (value_below d d_is e rising (spot_at v) spot_is
       (less_from (pos 0) (turn_at e (spot_at v)) under))
+
+  pub under_if_below : IsBelow (value_when d v e) (height_of d v) → is_under v e ≡ true
+  under_if_below below =
+      test_less (pos 0) (turn_at e (spot_at v))
+      (left_if_below d d_is e rising (spot_at v) spot_is
+      (subst (λ u. IsBelow (value_of d u e) (height_of d v)) (sym (passed_at d v)) below))
 
   pub above_when : is_under v e ≡ false → IsAtMost (height_of d v) (value_when d v e)
   above_when over =

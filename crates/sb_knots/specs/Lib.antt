@@ -1,0 +1,4 @@
+-- What is said here beside the definitions of plans.
+pub mod Sizes
+pub mod Steps
+pub mod Listing
