@@ -55,7 +55,8 @@ block_has n is = (grind arith, grind arith)
 
 -- a block that is there has an item, and not too many
 pub size_of_block : (blocks : List (List ℕ)) (b : ℕ) → are_blocks blocks ≡ true
-    → b < length blocks → (0 < length (block_at blocks b)) × (length (block_at blocks b) ≤ longest_block)
+    → b < length blocks
+    → (0 < length (block_at blocks b)) × (length (block_at blocks b) ≤ longest_block)
 size_of_block blocks b are within =
     block_has (length (block_at blocks b)) (all_at is_block blocks b [] are within)
 

@@ -2,11 +2,13 @@
 
 use Rattle.std.proofs.Common.{◌≡◌, refl, sym, ap, ◌∙◌, arith, ℕ, zero, suc, ◌+◌, ◌-◌, ◌<◌, ◌≤◌}
 use Rattle.std.proofs.Common.{◌⊎◌, inl, inr, List, [], ◌∷◌, ◌++◌, length, take, drop, set, add-one}
+use Rattle.std.proofs.Common.{Some, get_or}
 use Rattle.std.specs.List.{concat, insert, remove, slice_get}
 use Rattle.std.proofs.lemmas.Bool.{cases_lt}
 use Rattle.std.proofs.lemmas.List.{append_assoc, take-append-drop, set_split, set-append_left}
-use Rattle.std.proofs.lemmas.List.{set-append_right, length-append, length-take-le, drop_more, take_all, drop_all}
-use Rattle.std.proofs.lemmas.List.{get_or_past}
+use Rattle.std.proofs.lemmas.List.{set-append_right, length-append, length-take-le, drop_more}
+use Rattle.std.proofs.lemmas.List.{take_all, drop_all}
+use Rattle.std.proofs.lemmas.List.{get_or_past, get_or_read, get_or-set_same}
 use Rattle.std.proofs.lemmas.List.Edits.{insert-append_left, insert-append_right, insert_end}
 use Rattle.std.proofs.lemmas.List.Edits.{remove-append_left, remove-append_right}
 use Rattle.std.proofs.lemmas.List.Folds.{concat-append}
@@ -208,6 +210,20 @@ item_in_block (block ∷ blocks) zero at is = omega arith
 item_in_block (block ∷ blocks) (suc b) at is =
     let rest = item_in_block blocks b at is in omega arith
 
+-- an item of a block is one of the flat list
+pub item_of_block : (blocks : List (List ℕ)) (place : Place) (x : ℕ) → IsItemPlace blocks place
+    → slice_get (block_at blocks place.block) place.at ≡ Some x
+    → slice_get (concat blocks) (rank_of blocks place) ≡ Some x
+item_of_block blocks place x is there =
+    get_in_block blocks place (item_in_block blocks place.block place.at is) is ∙ there
+
+-- how long the block is that was read at a place of a slice of the blocks
+pub length_read : (slice blocks : List (List ℕ)) (b : ℕ) (block : List ℕ) → slice ≡ blocks
+    → b < length slice → block ≡ get_or slice b block
+    → length block ≡ length (block_at blocks b)
+length_read slice blocks b block same within read =
+    ap length (get_or_read slice b block within read [] ∙ ap (λ l. block_at l b) same)
+
 -- ---- the end
 
 -- behind all blocks is the end
@@ -235,14 +251,6 @@ rank_within blocks place is = from (cases_lt place.block (length blocks))
         → rank_of blocks place ≤ length (concat blocks)
     from (inl within) = there within
     from (inr past) = let end = rank_of_end blocks place past is in omega (arith, end)
-
--- and what is put there is the last item
-pub insert_at_end : (blocks : List (List ℕ)) (place : Place) (x : ℕ)
-    → length blocks ≤ place.block → IsPlace blocks place
-    → insert (concat blocks) (rank_of blocks place) x ≡ concat blocks ++ (x ∷ [])
-insert_at_end blocks place x beyond is =
-    ap (λ n. insert (concat blocks) n x) (rank_of_end blocks place beyond is)
-    ∙ insert_end (concat blocks) x
 
 -- behind the last item of the last block is the end too
 pub rank_behind_last : (blocks : List (List ℕ)) (place : Place) → place.block + 1 ≡ length blocks
@@ -272,3 +280,10 @@ pub remove-set : {X : Type 0} (xs : List X) (i : ℕ) (y : X) → remove (set xs
 remove-set [] i y = refl
 remove-set (x ∷ xs) zero y = refl
 remove-set (x ∷ xs) (suc i) y = ap (λ l. x ∷ l) (remove-set xs i y)
+
+-- what is read at the place of a block that was changed is the changed block
+pub left_in_block : (blocks : List (List ℕ)) (b : ℕ) (rest : List ℕ) (changed : List (List ℕ))
+    (block : List ℕ) → b < length blocks → changed ≡ set blocks b rest
+    → block ≡ get_or changed b block → block ≡ rest
+left_in_block blocks b rest changed block within same read =
+    read ∙ ap (λ l. get_or l b block) same ∙ get_or-set_same blocks b rest block within

@@ -2,16 +2,14 @@
 
 use Rattle.std.proofs.Common.{◌≡◌, refl, sym, ap, ◌∙◌, arith, ℕ, zero, suc, ◌+◌, ◌-◌, ◌<◌, ◌≤◌, min}
 use Rattle.std.proofs.Common.{true, List, [], ◌∷◌, ◌++◌, length, take, drop, add-zero}
-use Rattle.std.proofs.Common.{None}
 use Rattle.std.specs.List.{list_all, concat, slice_get}
 use Rattle.std.proofs.lemmas.Bool.{and_parts, false≢true}
 use Rattle.std.proofs.lemmas.List.{length-append, take_more, take_min, append-nil, take-append-drop}
 use Rattle.std.proofs.lemmas.List.Folds.{concat-append}
-use Rattle.std.proofs.lemmas.Option.{slice_get_past}
 use Rattle.sb_blocks.specs.declared.place.Place.{Place}
 use Rattle.sb_blocks.specs.Blocks.{is_block, are_blocks, block_at}
-use Rattle.sb_blocks.specs.Places.{rank_of, item_before, IsPlace}
-use Rattle.sb_blocks.proofs.EditsOfOneBlock.{joined, behind_block, get-append, rank_of_end}
+use Rattle.sb_blocks.specs.Places.{rank_of, item_before}
+use Rattle.sb_blocks.proofs.EditsOfOneBlock.{joined, behind_block, get-append}
 use Rattle.sb_blocks.proofs.BlocksStay.{size_of_block}
 
 -- ---- before
@@ -47,16 +45,9 @@ last_before blocks place b are before first =
     let whole = ap (λ l. length (concat l)) (take_min place.block blocks) in
     omega (arith, size.0, through, same, whole, first)
 
--- before the first item of the first block there is none
-pub none_before : (blocks : List (List ℕ)) (place : Place) → min place.block (length blocks) ≡ 0
-    → place.at ≡ 0 → rank_of blocks place ≡ 0
-none_before blocks place before first =
-    let same = ap (λ n. length (concat (take n blocks))) before in
-    let whole = ap (λ l. length (concat l)) (take_min place.block blocks) in
-    omega (arith, same, whole, first)
-
 -- the item before
-pub item_before_is : (items : List ℕ) (n m : ℕ) → m + 1 ≡ n → item_before items n ≡ slice_get items m
+pub item_before_is : (items : List ℕ) (n m : ℕ) → m + 1 ≡ n
+    → item_before items n ≡ slice_get items m
 item_before_is items zero m next = absurd (omega arith)
 item_before_is items (suc n) m next = ap (slice_get items) (omega (arith, next))
 
@@ -97,10 +88,3 @@ pub next_block : (blocks : List (List ℕ)) (place : Place) → place.block < le
     → rank_of blocks (record { block = place.block + 1; at = 0 }) ≡ rank_of blocks place
 next_block blocks place within end =
     let through = items_through blocks place.block within in omega (arith, through, end)
-
--- behind all blocks stands none
-pub none_at_end : (blocks : List (List ℕ)) (place : Place) → length blocks ≤ place.block
-    → IsPlace blocks place → slice_get (concat blocks) (rank_of blocks place) ≡ None
-none_at_end blocks place beyond is =
-    slice_get_past (concat blocks) (rank_of blocks place)
-    (let end = rank_of_end blocks place beyond is in omega (arith, end))

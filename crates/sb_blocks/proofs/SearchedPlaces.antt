@@ -1,7 +1,8 @@
 -- A place with an item that passes before it and one that does not behind it parts the flat list.
 
 use Rattle.std.proofs.Common.{◌≡◌, sym, ap, ◌∙◌, arith, ℕ, zero, suc, ◌-◌, ◌<◌, ◌≤◌, ◌⊎◌, inl, inr}
-use Rattle.std.proofs.Common.{Bool, true, false, List, [], ◌∷◌, ◌++◌, length, get_or, take, drop, Option, Some, None, IfSome}
+use Rattle.std.proofs.Common.{Bool, true, false, List, [], ◌∷◌, ◌++◌, length, get_or, take, drop}
+use Rattle.std.proofs.Common.{Option, Some, None, IfSome}
 use Rattle.std.specs.List.{list_all, concat, slice_get, AllByRecursion}
 use Rattle.std.proofs.lemmas.Bool.{and_parts, cases_lt, cases_order}
 use Rattle.std.proofs.lemmas.List.{get_or_past}
@@ -174,7 +175,8 @@ module _ (passes : ℕ → Bool) where
 
 -- ---- the place that the halving finds
 
--- an item that passes is before the place, one that does not behind it, and it is not behind the end
+-- an item that passes is before the place, one that does not behind it, and it is not behind the
+-- end
 pub record IsBetween (passes : ℕ → Bool) (blocks : List (List ℕ)) (place : Place) : Type 0 where
   pub before : IfSome (item_before (concat blocks) (rank_of blocks place)) (λ x. passes x ≡ true)
   pub behind : IfSome (slice_get (concat blocks) (rank_of blocks place)) (λ x. passes x ≡ false)

@@ -1,6 +1,7 @@
 -- Places in a list in blocks, and where they are in the flat list: the blocks joined.
 
-use Rattle.std.specs.Prelude.{ℕ, zero, suc, ◌+◌, ◌<◌, ◌≤◌, List, length, take, slice_get, Option, None}
+use Rattle.std.specs.Prelude.{ℕ, zero, suc, ◌+◌, ◌<◌, ◌≤◌, List, length, take, slice_get, Option}
+use Rattle.std.specs.Prelude.{None}
 use Rattle.std.specs.List.{concat}
 use Rattle.sb_blocks.specs.declared.place.Place.{Place}
 use Rattle.sb_blocks.specs.Blocks.{block_at}

@@ -1,6 +1,7 @@
 //! One block.
 
-ghost use Rattle.std.specs.Prelude.{◌≡◌, ◌+◌, ◌++◌, ◌<◌, ◌≤◌, ◌↔◌, [], length, insert, remove, slice_set};
+ghost use Rattle.std.specs.Prelude.{◌≡◌, ◌+◌, ◌++◌, ◌<◌, ◌≤◌, ◌↔◌, [], length, insert, remove};
+ghost use Rattle.std.specs.Prelude.{slice_set};
 ghost use Rattle.std.specs.Prelude.{slice_get, OnOk, OnErr, IfOk, IsTrue, Some};
 ghost use Rattle.sb_blocks.specs.Blocks.{is_block, longest_block};
 

@@ -1,6 +1,7 @@
 //! The list, and what is read of it.
 
-ghost use Rattle.std.specs.Prelude.{◌≡◌, ◌+◌, ◌<◌, ◌↔◌, [], length, slice_get, IsSome, IfSome, IsTrue, take};
+ghost use Rattle.std.specs.Prelude.{◌≡◌, ◌+◌, ◌<◌, ◌↔◌, [], length, slice_get, IsSome, IfSome};
+ghost use Rattle.std.specs.Prelude.{IsTrue, take};
 ghost use Rattle.std.specs.List.{concat};
 ghost use Rattle.std.specs.Option.{option_copied};
 ghost use Rattle.sb_blocks.specs.Blocks.{are_blocks};
@@ -57,8 +58,8 @@ impl Blocks {
         self.len
     }
 
-    /// The items of block `b`, counted from 0: at least one. `None` exactly where `b` is not below the
-    /// number of blocks.
+    /// The items of block `b`, counted from 0: at least one. `None` exactly where `b` is not below
+    /// the number of blocks.
     pub fn block(&self, b: usize) -> Option<&[u32]>
         ensures value { option_copied result ≡ slice_get self.now b }
         ensures within { IsSome result ↔ (b < length self.now) }

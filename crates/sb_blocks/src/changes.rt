@@ -1,6 +1,7 @@
 //! What changes the list.
 
-ghost use Rattle.std.specs.Prelude.{◌≡◌, ◌++◌, ◌∷◌, [], ◌<◌, length, insert, remove, slice_set, slice_get};
+ghost use Rattle.std.specs.Prelude.{◌≡◌, ◌++◌, ◌∷◌, [], ◌<◌, length, insert, remove, slice_set};
+ghost use Rattle.std.specs.Prelude.{slice_get};
 ghost use Rattle.std.specs.Prelude.{OnOk, OnErr, IsTrue, Some};
 ghost use Rattle.std.specs.List.{concat};
 ghost use Rattle.sb_blocks.specs.Blocks.{are_blocks, block_at, longest_block};
@@ -15,8 +16,8 @@ impl Blocks {
     /// Puts `x` at the place, before the item that stands there. The end of the list is behind the
     /// last item of the last block, and any place `{ block, at: 0 }` from the number of blocks on.
     ///
-    /// A block that is full is halved: at most 1,024 items are moved, and the blocks behind it. Want of
-    /// memory leaves the list as it was.
+    /// A block that is full is halved: at most 1,024 items are moved, and the blocks behind it. Want
+    /// of memory leaves the list as it was.
     pub fn insert(&mut self, place: Place, x: u32) -> Result<(), AllocError>
         requires { IsPlace self.old place }
         ensures ok { OnOk result
@@ -31,8 +32,8 @@ impl Blocks {
         Ok(())
     }
 
-    /// Takes away the item that stands there, and its block if that is empty then: at most 1,024 items
-    /// are moved, and the blocks behind it.
+    /// Takes away the item that stands there, and its block if that is empty then: at most 1,024
+    /// items are moved, and the blocks behind it.
     pub fn remove(&mut self, place: Place) -> u32
         requires { IsItemPlace self.old place }
         ensures value { slice_get (concat self.old) (rank_of self.old place) ≡ Some result }
@@ -155,11 +156,22 @@ fn take_away(blocks: &mut Vec<Block>, place: Place) -> u32
         ≡ remove (concat blocks.old.items) (rank_of blocks.old.items place) }
     ensures blocks { IsTrue (are_blocks blocks.new.items) }
 {
-    let x = blocks[place.block].remove(place.at);
+    let x = take_item(blocks, place);
     if blocks[place.block].len() == 0 {
         let _ = blocks.remove(place.block);
     }
     x
+}
+
+// Takes away the item at the place, from its block.
+fn take_item(blocks: &mut Vec<Block>, place: Place) -> u32
+    requires { IsItemPlace blocks.old.items place }
+    ensures value { slice_get (block_at blocks.old.items place.block) place.at ≡ Some result }
+    ensures block { blocks.new.items
+        ≡ slice_set blocks.old.items place.block
+        (remove (block_at blocks.old.items place.block) place.at) }
+{
+    blocks[place.block].remove(place.at)
 }
 
 // Puts x in place of the item at the place.

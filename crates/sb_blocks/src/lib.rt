@@ -1,9 +1,8 @@
 //! A list of numbers kept in blocks, for lists that change at any place.
 //!
 //! An insertion or a removal moves the items of one block, at most 1,024, and at times the blocks
-//! behind it, but never the whole list. Contracts see [`Blocks`] as the list of its blocks; the flat
-//! list is their concatenation, and every call says what it does to that. Begin with
-//! [`Blocks::insert`].
+//! behind it, but never the whole list. Contracts see [`Blocks`] as the list of its blocks. The flat
+//! list is these joined, and every call says what it does to that. Begin with [`Blocks::insert`].
 #![tactic(auto)]
 
 mod block;

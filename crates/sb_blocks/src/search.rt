@@ -1,6 +1,7 @@
 //! Where a test of the items turns from pass to fail, by halving.
 
-ghost use Rattle.std.specs.Prelude.{◌≡◌, ℕ, Bool, false, ◌<◌, ◌≤◌, ◌-◌, IsTrue, IfSome, length, slice_get, slice_index, slice_index_or, []};
+ghost use Rattle.std.specs.Prelude.{◌≡◌, ℕ, Bool, false, ◌<◌, ◌≤◌, ◌-◌, IsTrue, IfSome, length};
+ghost use Rattle.std.specs.Prelude.{slice_get, slice_index, slice_index_or, []};
 ghost use Rattle.std.specs.List.{concat, list_all};
 ghost use Rattle.theory_lists.specs.Parted.{IsPartedAt};
 ghost use Rattle.sb_blocks.specs.Places.{rank_of, item_before, IsPlace};
@@ -26,8 +27,8 @@ pub trait Test {
 
 impl Blocks {
     /// A place between items that pass the test and items that do not, found by halving: the item
-    /// before it passes, and the item behind it does not, where there are such. Where the first items of the
-    /// list pass and the others do not it is the place between them.
+    /// before it passes, and the item behind it does not, where there are such. Where the first
+    /// items of the list pass and the others do not it is the place between them.
     pub fn first_failing<T: Test>(&self, test: &T) -> Place
         requires { IsTrue (list_all (T.can_test test.now) (concat self.now)) }
         ensures place { IsPlace self.now result }

@@ -1,4 +1,3 @@
 -- What is said here beside the definitions of plans.
-pub mod Sizes
 pub mod Steps
 pub mod Listing

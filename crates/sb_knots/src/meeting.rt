@@ -8,7 +8,7 @@ ghost use Rattle.theory_plans.specs.Plans as plans;
 ghost use Rattle.theory_sweep.specs.Open as sweep;
 
 use crate::edges::LoopEdge;
-use crate::sizes::{At, wide_product};
+use crate::sizes::{Way, wide_product};
 use sb_fraction::Point;
 
 /// Two edges may be neighbours: both begin at one point, or both end there, or they do not touch.
@@ -23,7 +23,7 @@ pub(crate) fn is_under(v: Point, e: LoopEdge) -> bool
     requires { IsTrue (is_plan_point v) }
     ensures { result ≡ sweep.is_under v e }
 {
-    turn(e, At::point(v)) > 0
+    turn(e, v) > 0
 }
 
 pub(crate) fn is_same_point(a: Point, b: Point) -> bool
@@ -46,27 +46,28 @@ fn is_on(p: Point, e: LoopEdge) -> bool
     requires { IsTrue (is_plan_point p) }
     ensures { result ≡ is_on (spot_at p) e }
 {
-    let at = At::point(p);
-    let level = turn(e, at) == 0;
-    let between = reach(e, at) <= 0;
+    let level = turn(e, p) == 0;
+    let between = reach(e, p) <= 0;
     level && between
 }
 
 fn is_parted(e: LoopEdge, f: LoopEdge) -> bool
     ensures { result ≡ plans.is_parted e f }
 {
-    wide_product(turn(e, At::point(f.a)), turn(e, At::point(f.b))) < 0
+    wide_product(turn(e, f.a), turn(e, f.b)) < 0
 }
 
-fn turn(e: LoopEdge, p: At) -> i64
-    ensures value { result ≡ turn_at e p }
-    ensures size { unsigned_abs result ≤ 8000000000000 }
+fn turn(e: LoopEdge, p: Point) -> i64
+    requires { IsTrue (is_plan_point p) }
+    ensures value { result ≡ turn_at e (spot_at p) }
+    ensures size { unsigned_abs result ≤ 2000000000000 }
 {
-    p.seen(e.a).cross(p.seen(e.b))
+    Way::seen(p, e.a).cross(Way::seen(p, e.b))
 }
 
-fn reach(e: LoopEdge, p: At) -> i64
-    ensures value { result ≡ reach_at e p }
+fn reach(e: LoopEdge, p: Point) -> i64
+    requires { IsTrue (is_plan_point p) }
+    ensures { result ≡ reach_at e (spot_at p) }
 {
-    p.seen(e.a).dot(p.seen(e.b))
+    Way::seen(p, e.a).dot(Way::seen(p, e.b))
 }

@@ -10,7 +10,8 @@ invariant-halves g l =
     record {
       in_order : l.low ≤ l.high;
       within : l.high ≤ length l.blocks;
-      before : 0 < l.low → IsTrue (g.T.Test.passes l.test (get_or (block_at l.blocks (l.low - 1)) 0 0));
+      before : 0 < l.low
+          → IsTrue (g.T.Test.passes l.test (get_or (block_at l.blocks (l.low - 1)) 0 0));
       behind : l.high < length l.blocks
           → g.T.Test.passes l.test (get_or (block_at l.blocks l.high) 0 0) ≡ false;
     }

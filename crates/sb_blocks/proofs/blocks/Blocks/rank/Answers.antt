@@ -7,7 +7,8 @@ use Rattle.sb_blocks.proofs.blocks.Blocks.rank.Goals as goal
 
 pub count_items-requires : goal.count_items-requires
 count_items-requires c =
-    let items = ap (λ l. length (concat (take c.args.place.block l))) c.as_slice-blocks.ensures.value in
+    let items = ap (λ l. length (concat (take c.args.place.block l)))
+    c.as_slice-blocks.ensures.value in
     let within = items_within c.self.inside.blocks.items c.args.place.block in
     let len = c.self.invariant.1 in
     omega (arith, items, within, len)
