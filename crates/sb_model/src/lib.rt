@@ -21,8 +21,6 @@ mod outline;
 mod patch;
 mod prism;
 mod products;
-#[cfg(test)]
-mod tests;
 mod walk;
 
 pub use boundary::{Boundaries, Boundary, Cell, Cells};
