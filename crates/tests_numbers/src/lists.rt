@@ -1,4 +1,4 @@
-use crate::{Listed, Text};
+use sb_list::{Listed, Text};
 use std::test::Fail;
 
 /// A struct that is not `Copy`, as a walk is.

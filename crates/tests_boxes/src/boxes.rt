@@ -1,4 +1,4 @@
-use crate::{Extent, box_boundaries};
+use sb_box::{Extent, box_boundaries};
 use sb_model::{Boundary, End, FaceKind, Side};
 use std::test::Fail;
 

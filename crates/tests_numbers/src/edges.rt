@@ -1,4 +1,4 @@
-use crate::{Point, Segment, meet, orient};
+use sb_fraction::{Point, Segment, meet, orient};
 use std::cmp::Ordering;
 use std::test::Fail;
 

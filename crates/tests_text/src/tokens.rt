@@ -1,4 +1,4 @@
-use crate::{BadToken, Lexer};
+use sb_lex::{BadToken, Lexer};
 use std::alloc::{AllocError, Global};
 use std::test::Fail;
 

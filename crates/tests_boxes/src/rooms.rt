@@ -1,4 +1,4 @@
-use crate::{DemoError, MOST_ROOMS, demo_text};
+use sb_demo::{DemoError, MOST_ROOMS, demo_text};
 use std::test::Fail;
 
 // The texts below were written from the table of the boxes by a script that knows nothing of this

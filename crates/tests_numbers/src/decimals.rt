@@ -1,4 +1,6 @@
-use crate::{micrometres, nanometres, print_scaled, ratio, round_micro, round_nano, round_whole};
+use sb_fixed::{
+    micrometres, nanometres, print_scaled, ratio, round_micro, round_nano, round_whole,
+};
 use sb_fraction::{Fraction, Unit};
 use std::alloc::{AllocError, Global};
 use std::test::Fail;

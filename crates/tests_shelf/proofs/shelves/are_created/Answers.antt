@@ -1,7 +1,7 @@
 -- Creating the report creates no other output.
 use Rattle.std.proofs.Common.{◌∙◌}
 use Rattle.sb_shelf.specs.declared.shelf.Out.TheVariants.{Ifc}
-use Rattle.sb_shelf.proofs.tests.are_created.Goals as goal
+use Rattle.tests_shelf.proofs.shelves.are_created.Goals as goal
 
 pub create-requires-then-is_ok : goal.create-requires-then-is_ok
 create-requires-then-is_ok g c =

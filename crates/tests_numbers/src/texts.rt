@@ -1,8 +1,8 @@
-use crate::{
+use sb_list::Text;
+use sb_texts::{
     Piece, append, append_all, append_number, append_padded, append_reference, append_references,
     append_repeated, append_signed, append_whole,
 };
-use sb_list::Text;
 use std::test::Fail;
 
 #[test]

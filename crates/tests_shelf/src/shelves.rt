@@ -1,10 +1,10 @@
 ghost use Rattle.std.specs.Prelude.{◌<◌, ◌≡◌, false, IfOk};
 ghost use Rattle.sb_shelf.specs.Memory.{memory_state};
 
-use crate::{
+use sb_list::Text;
+use sb_shelf::{
     Calls, HostShelf, MemoryShelf, Out, ReadError, Shelf, SteadyShelf, read_all, write_all,
 };
-use sb_list::Text;
 use std::alloc::{AllocError, Global};
 use std::fs;
 use std::rt::Files;
