@@ -75,6 +75,13 @@ impl<'a> Cursor<'a> {
         self.place.next.is_none()
     }
 
+    /// Another cursor before the same parameters.
+    pub fn copy(&self) -> Cursor<'a>
+        ensures { result ≡ self.now }
+    {
+        standing_at(self.place.bytes, self.place.next)
+    }
+
     /// Passes over one parameter, whatever it holds, where one is left.
     pub fn skip(&mut self)
         ensures { self.new ≡ drop 1 self.old }
