@@ -33,10 +33,11 @@ pub(crate) fn begin<'a>(
     ensures { Begins (map (λ k. k.now) keywords.now) file.now number result }
 {
     one_list_of_parameters();
-    let Some(left) = file.cursor(number) else {
+    let Some(instance) = file.instance(number) else {
         return Err(ViewError::Missing(number));
     };
-    if is_one_of(file.keyword(number), keywords) {
+    if is_one_of(instance.keyword, keywords) {
+        let left = instance.parameters;
         Ok(Attributes { left, number })
     } else {
         Err(ViewError::Other(number))
