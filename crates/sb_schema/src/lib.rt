@@ -10,6 +10,8 @@ mod entities;
 mod error;
 mod lent;
 mod lists;
+#[cfg(test)]
+mod tests;
 mod viewing;
 mod views;
 
