@@ -1,4 +1,4 @@
--- An instance that was begun is told by what its row gives.
+-- What `read` tells of the parameters of an instance is what the view answers of it.
 use Rattle.std.proofs.Common.{◌≡◌, ℕ, List, [], ◌∷◌, Option, Some, None, Result, Ok, Err, ok_or, refl, sym, ap, ◌∙◌, subst, drop, slice_get, false, true, zero, suc}
 use Rattle.std.proofs.lemmas.List.{drop-drop}
 use Rattle.std.proofs.lemmas.Bool.{false≢true}
@@ -12,6 +12,7 @@ use Rattle.sb_schema.specs.Table.{Row, Values, values}
 use Rattle.sb_schema.specs.Views.{Views, HasMemory, NeedsNoMemory, Gives, seen, Taking}
 use Rattle.sb_schema.specs.Steps.{IsBegun, Tells}
 
+-- the first that is left is the one at this place of the whole list
 pub slice_get-drop : (k : ℕ) (ps : List Param) → slice_get (drop k ps) 0 ≡ slice_get ps k
 slice_get-drop zero ps = refl
 slice_get-drop (suc k) [] = refl
@@ -43,49 +44,56 @@ error_seen : {V W : Type 0} (fields : V → W) (result : Result V ViewError) (e 
 error_seen fields (Ok view) e is = absurd (cc)
 error_seen fields (Err error) e is = cc
 
-pub told : (taking : Taking) (row : Row) {V : Type 0} (fields : V → Values row.read) (indexed : Indexed) (n : ℕ) (a : Attributes)
-    (result : Result V ViewError) → IsBegun row.keywords indexed n a
-    → Tells taking row fields a result
+-- Where an instance of the row's keyword was begun, what `read` tells is the view.
+pub told : (taking : Taking) (row : Row) {V : Type 0} (fields : V → Values row.read)
+    (indexed : Indexed) (n : ℕ) (begun : Attributes) (result : Result V ViewError)
+    → IsBegun row.keywords indexed n begun → Tells taking row fields begun result
     → Views taking row fields indexed n result
-told taking row fields indexed n a result b e = record {
+told taking row fields indexed n begun result is tells = record {
   missing = λ m memory. (
-    λ is. let error : view_error.Missing m ≡ view_error.Fields a.number =
-        (refusal (view_error.Missing m) memory is).1 in
-        absurd (cc),
-    λ none. let missing = none.1 in let found = b.are.found in absurd (cc),
+    λ missing. let error = (refusal (view_error.Missing m) memory missing).1 in absurd (cc error),
+    λ missing. let none = missing.1 in let found = is.are.found in absurd (cc),
   );
   other = λ m memory. (
-    λ is. let error : view_error.Other m ≡ view_error.Fields a.number =
-        (refusal (view_error.Other m) memory is).1 in
-        absurd (cc),
-    λ other. absurd (false≢true (sym other.1.keyword ∙ b.keyword)),
+    λ other. let error = (refusal (view_error.Other m) memory other).1 in absurd (cc error),
+    λ other. absurd (false≢true (sym other.1.keyword ∙ is.keyword)),
   );
   not_of_row = λ m memory. (
-    λ is. let r = refusal (view_error.Fields m) memory is in (
-      let same : view_error.Fields m ≡ view_error.Fields a.number = r.1 in let at = b.number in cc,
-      record { keyword = b.keyword; parameters = a.left; are = b.are; give = r.0 },
+    λ refused. let r = refusal (view_error.Fields m) memory refused in (
+      let same : view_error.Fields m ≡ view_error.Fields begun.number = r.1 in
+          let at = is.number in
+          cc,
+      gives_this None r.0,
     ),
-    λ is. error_seen fields result (view_error.Fields m)
-        (e memory ∙ ap (λ given. ok_or given (view_error.Fields a.number)) (gives_so None is.1)
-        ∙ ap (λ k. Err (view_error.Fields k)) (b.number ∙ sym is.0)),
+    λ gives. error_seen fields result (view_error.Fields m)
+        (answered memory None gives.1 ∙ ap (λ k. Err (view_error.Fields k)) (is.number ∙ sym gives.0)),
   );
   steady = none_wanted taking result (refusal view_error.NoMemory);
   view = λ vs memory. (
-    λ is. record { keyword = b.keyword; parameters = a.left; are = b.are; give = given_by (values row a.left) vs (view_error.Fields a.number) (sym is ∙ e memory) },
-    λ gives. e memory ∙ ap (λ given. ok_or given (view_error.Fields a.number)) (gives_so (Some vs) gives),
+    λ seen_as. gives_this (Some vs)
+        (given_by (values row begun.left) vs (view_error.Fields begun.number)
+        (sym seen_as ∙ tells memory)),
+    λ gives. answered memory (Some vs) gives,
   );
 }
   where
     refusal : (error : ViewError) → HasMemory taking result → result ≡ Err error
-        → (values row a.left ≡ None) × (error ≡ view_error.Fields a.number)
-    refusal error memory is =
-        refused_by (values row a.left) error (view_error.Fields a.number)
-        (ap (seen fields) (sym is) ∙ e memory)
+        → (values row begun.left ≡ None) × (error ≡ view_error.Fields begun.number)
+    refusal error memory refused =
+        refused_by (values row begun.left) error (view_error.Fields begun.number)
+        (ap (seen fields) (sym refused) ∙ tells memory)
 
-    gives_so : (given : Option (Values row.read)) → Gives row indexed n given
-        → values row a.left ≡ given
-    gives_so given g = ap (values row) (sym (b.only g.parameters g.are)) ∙ g.give
+    gives_this : (given : Option (Values row.read)) → values row begun.left ≡ given
+        → Gives row indexed n given
+    gives_this given so =
+        record { keyword = is.keyword; parameters = begun.left; are = is.are; give = so }
 
+    answered : HasMemory taking result → (given : Option (Values row.read)) → Gives row indexed n given
+        → seen fields result ≡ ok_or given (view_error.Fields begun.number)
+    answered memory given g =
+        tells memory
+        ∙ ap (λ so. ok_or so (view_error.Fields begun.number))
+        (ap (values row) (sym (is.only g.parameters g.are)) ∙ g.give)
+
+-- what is left behind some calls, said of the whole list: this proves each `read`
 pub ruleset telling = (slice_get-drop, drop-drop)
-
-pub ruleset all_telling = (told)

@@ -91,14 +91,16 @@ no_enumeration = refl
 no_items : value references (Some (param.List [])) ≡ Some []
 no_items = list_is reference_in []
 
-two_references : value references (Some (param.List (seven ∷ param.Reference 8 ∷ []))) ≡ Some (7 ∷ 8 ∷ [])
+two_references : value references (Some (param.List (seven ∷ param.Reference 8 ∷ [])))
+    ≡ Some (7 ∷ 8 ∷ [])
 two_references = list_is reference_in (seven ∷ param.Reference 8 ∷ [])
 
 one_is_none : value references (Some (param.List (seven ∷ param.Null ∷ []))) ≡ None
 one_is_none = list_is reference_in (seven ∷ param.Null ∷ [])
 
 a_reference_is_no_list : value references (Some seven) ≡ None
-a_reference_is_no_list = ap (λ f. option_and_then (each reference_in) (items_of f)) (outs-Reference 7)
+a_reference_is_no_list =
+    ap (λ f. option_and_then (each reference_in) (items_of f)) (outs-Reference 7)
 
 an_integer_has_no_items : (form : Option Param → Option (List ℕ)) → list_of form (Some one) ≡ None
 an_integer_has_no_items form =
@@ -116,7 +118,8 @@ four_coordinates =
     ap (only_if are_two_or_three) (list_is number_in (one ∷ half ∷ one ∷ half ∷ []))
 
 -- a list of two numbers is one pair
-pair_is : (a b : List ℕ) → pair_in (Some (param.List (param.Int a ∷ param.Int b ∷ []))) ≡ Some (a ∷ b ∷ [])
+pair_is : (a b : List ℕ)
+    → pair_in (Some (param.List (param.Int a ∷ param.Int b ∷ []))) ≡ Some (a ∷ b ∷ [])
 pair_is a b = ap (only_if are_two) (list_is number_in (param.Int a ∷ param.Int b ∷ []))
 
 a_pair : value pairs (Some (param.List (param.List (one ∷ one ∷ []) ∷ [])))

@@ -48,7 +48,8 @@ untyped : (f : Param-F Param)
 untyped (opened.Typed name p) never = absurd (never name p (rolls-Typed name p))
 untyped _ never = refl
 
-pub no_typed_list : (first : Option Param) → ((name : List ℕ) (ps : List Param) → ¬ IsTyped first name ps)
+pub no_typed_list : (first : Option Param)
+    → ((name : List ℕ) (ps : List Param) → ¬ IsTyped first name ps)
     → typed_list_in first ≡ None
 no_typed_list None never = refl
 no_typed_list (Some p) never =

@@ -16,13 +16,15 @@ space =
 
 abbrev pub product : Row
 product =
-    row (codes "IFCWALL" ∷ codes "IFCWALLSTANDARDCASE" ∷ codes "IFCSLAB" ∷ codes "IFCROOF" ∷ codes "IFCCOLUMN" ∷ codes "IFCBEAM" ∷ codes "IFCCOVERING" ∷ codes "IFCOPENINGELEMENT" ∷ []) 9
+    row
+    (codes "IFCWALL" ∷ codes "IFCWALLSTANDARDCASE" ∷ codes "IFCSLAB" ∷ codes "IFCROOF"
+    ∷ codes "IFCCOLUMN" ∷ codes "IFCBEAM" ∷ codes "IFCCOVERING" ∷ codes "IFCOPENINGELEMENT" ∷ [])
+    9
     ((6, reference_or_none) ∷ (7, reference_or_none) ∷ [])
 
 abbrev pub opening_filling : Row
 opening_filling =
-    row (codes "IFCDOOR" ∷ codes "IFCWINDOW" ∷ []) 13
-    []
+    row (codes "IFCDOOR" ∷ codes "IFCWINDOW" ∷ []) 13 []
 
 abbrev pub local_placement : Row
 local_placement =

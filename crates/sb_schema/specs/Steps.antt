@@ -13,7 +13,8 @@ use Rattle.sb_schema.specs.Table.{Row, Values, values, is_one_of}
 use Rattle.sb_schema.specs.Views.{IsMissing, IsOther, Taking, HasMemory, seen}
 
 -- an instance of one of the keywords has the number, and these are its parameters
-pub record IsBegun (keywords : List (List ℕ)) (indexed : Indexed) (n : ℕ) (begun : Attributes) : Type 0 where
+pub record IsBegun (keywords : List (List ℕ)) (indexed : Indexed) (n : ℕ) (begun : Attributes)
+    : Type 0 where
   pub number : begun.number ≡ n
   pub keyword : is_one_of keywords (keyword_of indexed n) ≡ true
   pub are : HasParameters indexed n begun.left
@@ -37,7 +38,8 @@ Reads taking form begun result =
     → result ≡ ok_or (value form (slice_get begun.left 0)) (view_error.Fields begun.number)
 
 -- what the row gives of the parameters that are left, or `Fields`
-abbrev pub Tells : Taking → (row : Row) → {V : Type 0} → (V → Values row.read) → Attributes → Result V ViewError → Type 0
+abbrev pub Tells : Taking → (row : Row) → {V : Type 0} → (V → Values row.read) → Attributes
+    → Result V ViewError → Type 0
 Tells taking row fields begun result =
     HasMemory taking result
     → seen fields result ≡ ok_or (values row begun.left) (view_error.Fields begun.number)

@@ -36,7 +36,8 @@ pub record IsOther (keywords : List (List ℕ)) (indexed : Indexed) (n : ℕ) : 
   pub keyword : is_one_of keywords (keyword_of indexed n) ≡ false
 
 -- an instance has it whose keyword is of the row, and by the row its parameters give this
-pub record Gives (row : Row) (indexed : Indexed) (n : ℕ) (given : Option (Values row.read)) : Type 0 where
+pub record Gives (row : Row) (indexed : Indexed) (n : ℕ) (given : Option (Values row.read))
+    : Type 0 where
   pub keyword : is_one_of row.keywords (keyword_of indexed n) ≡ true
   pub parameters : List Param
   pub are : HasParameters indexed n parameters
@@ -49,7 +50,8 @@ seen fields (Err e) = Err e
 
 -- What is answered of the instance of the number. The four answers exclude each other, and want of
 -- memory may come in the place of any.
-pub record Views (taking : Taking) (row : Row) {V : Type 0} (fields : V → Values row.read) (indexed : Indexed) (n : ℕ) (result : Result V ViewError) : Type 0 where
+pub record Views (taking : Taking) (row : Row) {V : Type 0} (fields : V → Values row.read)
+    (indexed : Indexed) (n : ℕ) (result : Result V ViewError) : Type 0 where
   pub missing : (m : ℕ) → HasMemory taking result → (result ≡ Err (view_error.Missing m))
       ↔ ((m ≡ n) × IsMissing indexed n)
   pub other : (m : ℕ) → HasMemory taking result → (result ≡ Err (view_error.Other m))

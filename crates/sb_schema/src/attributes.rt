@@ -44,6 +44,7 @@ pub(crate) fn begin<'a>(
     }
 }
 
+/// Each call named for a form reads the next attribute by that form, or answers `Fields`.
 impl<'a> Attributes<'a> {
     pub(crate) fn reference(&mut self) -> Result<u32, ViewError>
         ensures value { Reads without_memory reference self.old result }
@@ -60,9 +61,7 @@ impl<'a> Attributes<'a> {
             .reference_or_none()
             .ok_or(ViewError::Fields(self.number))
     }
-}
 
-impl<'a> Attributes<'a> {
     pub(crate) fn number(&mut self, alloc: Global) -> Result<Text, ViewError>
         ensures value { Reads with_memory number self.old result }
         ensures left { self.new ≡ behind 1 self.old }
@@ -160,12 +159,14 @@ impl<'a> Attributes<'a> {
         }
     }
 
+    /// Passes over so many attributes that are not read.
     pub(crate) fn skip(&mut self, count: usize)
         ensures { self.new ≡ behind count self.old }
     {
         pass(&mut self.left, count);
     }
 
+    /// So many attributes are left, which are not read.
     pub(crate) fn has(&mut self, count: usize) -> Result<(), ViewError>
         ensures { result ≡ ok_or (spec.has count self.old.left) (ViewError.Fields self.old.number) }
     {

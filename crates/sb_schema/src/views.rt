@@ -35,7 +35,8 @@ pub fn building(file: &StepFile<'_>, number: u32) -> Result<Building, ViewError>
 
 /// The view of an IFCSPACE.
 pub fn space(alloc: Global, file: &StepFile<'_>, number: u32) -> Result<Space, ViewError>
-    ensures { Views with_memory rows.space (λ v. (v.a1, (v.a6, (v.a7, tt)))) file.now number result }
+    ensures { Views with_memory rows.space (λ v. (v.a1, (v.a6, (v.a7, tt))))
+        file.now number result }
 {
     view(alloc, file, number, &[b"IFCSPACE"])
 }
@@ -70,21 +71,24 @@ pub fn opening_filling(file: &StepFile<'_>, number: u32) -> Result<OpeningFillin
 
 /// The view of an IFCLOCALPLACEMENT.
 pub fn local_placement(file: &StepFile<'_>, number: u32) -> Result<LocalPlacement, ViewError>
-    ensures { Views without_memory rows.local_placement (λ v. (v.a1, (v.a2, tt))) file.now number result }
+    ensures { Views without_memory rows.local_placement (λ v. (v.a1, (v.a2, tt)))
+        file.now number result }
 {
     view((), file, number, &[b"IFCLOCALPLACEMENT"])
 }
 
 /// The view of an IFCAXIS2PLACEMENT3D.
 pub fn axis2_placement_3d(file: &StepFile<'_>, number: u32) -> Result<Axis2Placement3d, ViewError>
-    ensures { Views without_memory rows.axis2_placement_3d (λ v. (v.a1, (v.a2, (v.a3, tt)))) file.now number result }
+    ensures { Views without_memory rows.axis2_placement_3d (λ v. (v.a1, (v.a2, (v.a3, tt))))
+        file.now number result }
 {
     view((), file, number, &[b"IFCAXIS2PLACEMENT3D"])
 }
 
 /// The view of an IFCAXIS2PLACEMENT2D.
 pub fn axis2_placement_2d(file: &StepFile<'_>, number: u32) -> Result<Axis2Placement2d, ViewError>
-    ensures { Views without_memory rows.axis2_placement_2d (λ v. (v.a1, (v.a2, tt))) file.now number result }
+    ensures { Views without_memory rows.axis2_placement_2d (λ v. (v.a1, (v.a2, tt)))
+        file.now number result }
 {
     view((), file, number, &[b"IFCAXIS2PLACEMENT2D"])
 }
@@ -113,7 +117,8 @@ pub fn product_definition_shape(
     file: &StepFile<'_>,
     number: u32,
 ) -> Result<ProductDefinitionShape, ViewError>
-    ensures { Views with_memory rows.product_definition_shape (λ v. (v.a3, tt)) file.now number result }
+    ensures { Views with_memory rows.product_definition_shape (λ v. (v.a3, tt))
+        file.now number result }
 {
     view(alloc, file, number, &[b"IFCPRODUCTDEFINITIONSHAPE"])
 }
@@ -124,7 +129,8 @@ pub fn shape_representation(
     file: &StepFile<'_>,
     number: u32,
 ) -> Result<ShapeRepresentation, ViewError>
-    ensures { Views with_memory rows.shape_representation (λ v. (v.a2, (v.a4, tt))) file.now number result }
+    ensures { Views with_memory rows.shape_representation (λ v. (v.a2, (v.a4, tt)))
+        file.now number result }
 {
     view(alloc, file, number, &[b"IFCSHAPEREPRESENTATION"])
 }
@@ -135,7 +141,8 @@ pub fn extruded_area_solid(
     file: &StepFile<'_>,
     number: u32,
 ) -> Result<ExtrudedAreaSolid, ViewError>
-    ensures { Views with_memory rows.extruded_area_solid (λ v. (v.a1, (v.a2, (v.a3, (v.a4, tt))))) file.now number result }
+    ensures { Views with_memory rows.extruded_area_solid (λ v. (v.a1, (v.a2, (v.a3, (v.a4, tt)))))
+        file.now number result }
 {
     view(alloc, file, number, &[b"IFCEXTRUDEDAREASOLID"])
 }
@@ -146,7 +153,8 @@ pub fn rectangle_profile_def(
     file: &StepFile<'_>,
     number: u32,
 ) -> Result<RectangleProfileDef, ViewError>
-    ensures { Views with_memory rows.rectangle_profile_def (λ v. (v.a3, (v.a4, (v.a5, tt)))) file.now number result }
+    ensures { Views with_memory rows.rectangle_profile_def (λ v. (v.a3, (v.a4, (v.a5, tt))))
+        file.now number result }
 {
     view(alloc, file, number, &[b"IFCRECTANGLEPROFILEDEF"])
 }
@@ -156,7 +164,8 @@ pub fn arbitrary_closed_profile_def(
     file: &StepFile<'_>,
     number: u32,
 ) -> Result<ArbitraryClosedProfileDef, ViewError>
-    ensures { Views without_memory rows.arbitrary_closed_profile_def (λ v. (v.a3, tt)) file.now number result }
+    ensures { Views without_memory rows.arbitrary_closed_profile_def (λ v. (v.a3, tt))
+        file.now number result }
 {
     view((), file, number, &[b"IFCARBITRARYCLOSEDPROFILEDEF"])
 }
@@ -167,7 +176,8 @@ pub fn arbitrary_profile_def_with_voids(
     file: &StepFile<'_>,
     number: u32,
 ) -> Result<ArbitraryProfileDefWithVoids, ViewError>
-    ensures { Views with_memory rows.arbitrary_profile_def_with_voids (λ v. (v.a3, (v.a4, tt))) file.now number result }
+    ensures { Views with_memory rows.arbitrary_profile_def_with_voids (λ v. (v.a3, (v.a4, tt)))
+        file.now number result }
 {
     view(alloc, file, number, &[b"IFCARBITRARYPROFILEDEFWITHVOIDS"])
 }
@@ -185,7 +195,8 @@ pub fn indexed_poly_curve(
     file: &StepFile<'_>,
     number: u32,
 ) -> Result<IndexedPolyCurve, ViewError>
-    ensures { Views with_memory rows.indexed_poly_curve (λ v. (v.a1, (v.a2, tt))) file.now number result }
+    ensures { Views with_memory rows.indexed_poly_curve (λ v. (v.a1, (v.a2, tt)))
+        file.now number result }
 {
     view(alloc, file, number, &[b"IFCINDEXEDPOLYCURVE"])
 }
@@ -196,21 +207,24 @@ pub fn cartesian_point_list_2d(
     file: &StepFile<'_>,
     number: u32,
 ) -> Result<CartesianPointList2d, ViewError>
-    ensures { Views with_memory rows.cartesian_point_list_2d (λ v. (v.a1, tt)) file.now number result }
+    ensures { Views with_memory rows.cartesian_point_list_2d (λ v. (v.a1, tt))
+        file.now number result }
 {
     view(alloc, file, number, &[b"IFCCARTESIANPOINTLIST2D"])
 }
 
 /// The view of an IFCRELVOIDSELEMENT.
 pub fn rel_voids_element(file: &StepFile<'_>, number: u32) -> Result<RelVoidsElement, ViewError>
-    ensures { Views without_memory rows.rel_voids_element (λ v. (v.a5, (v.a6, tt))) file.now number result }
+    ensures { Views without_memory rows.rel_voids_element (λ v. (v.a5, (v.a6, tt)))
+        file.now number result }
 {
     view((), file, number, &[b"IFCRELVOIDSELEMENT"])
 }
 
 /// The view of an IFCRELFILLSELEMENT.
 pub fn rel_fills_element(file: &StepFile<'_>, number: u32) -> Result<RelFillsElement, ViewError>
-    ensures { Views without_memory rows.rel_fills_element (λ v. (v.a5, (v.a6, tt))) file.now number result }
+    ensures { Views without_memory rows.rel_fills_element (λ v. (v.a5, (v.a6, tt)))
+        file.now number result }
 {
     view((), file, number, &[b"IFCRELFILLSELEMENT"])
 }
@@ -221,7 +235,8 @@ pub fn rel_associates_material(
     file: &StepFile<'_>,
     number: u32,
 ) -> Result<RelAssociatesMaterial, ViewError>
-    ensures { Views with_memory rows.rel_associates_material (λ v. (v.a5, (v.a6, tt))) file.now number result }
+    ensures { Views with_memory rows.rel_associates_material (λ v. (v.a5, (v.a6, tt)))
+        file.now number result }
 {
     view(alloc, file, number, &[b"IFCRELASSOCIATESMATERIAL"])
 }
@@ -232,7 +247,8 @@ pub fn rel_defines_by_type(
     file: &StepFile<'_>,
     number: u32,
 ) -> Result<RelDefinesByType, ViewError>
-    ensures { Views with_memory rows.rel_defines_by_type (λ v. (v.a5, (v.a6, tt))) file.now number result }
+    ensures { Views with_memory rows.rel_defines_by_type (λ v. (v.a5, (v.a6, tt)))
+        file.now number result }
 {
     view(alloc, file, number, &[b"IFCRELDEFINESBYTYPE"])
 }
@@ -250,7 +266,8 @@ pub fn material_layer(
     file: &StepFile<'_>,
     number: u32,
 ) -> Result<MaterialLayer, ViewError>
-    ensures { Views with_memory rows.material_layer (λ v. (v.a1, (v.a2, tt))) file.now number result }
+    ensures { Views with_memory rows.material_layer (λ v. (v.a1, (v.a2, tt)))
+        file.now number result }
 {
     view(alloc, file, number, &[b"IFCMATERIALLAYER"])
 }
@@ -272,7 +289,8 @@ pub fn material_layer_set_usage(
     file: &StepFile<'_>,
     number: u32,
 ) -> Result<MaterialLayerSetUsage, ViewError>
-    ensures { Views with_memory rows.material_layer_set_usage (λ v. (v.a1, (v.a2, (v.a3, tt)))) file.now number result }
+    ensures { Views with_memory rows.material_layer_set_usage (λ v. (v.a1, (v.a2, (v.a3, tt))))
+        file.now number result }
 {
     view(alloc, file, number, &[b"IFCMATERIALLAYERSETUSAGE"])
 }
@@ -289,7 +307,8 @@ pub fn lent_cartesian_point_list_2d<'a>(
     file: &StepFile<'a>,
     number: u32,
 ) -> Result<LentCartesianPointList2d<'a>, ViewError>
-    ensures { Views without_memory rows.cartesian_point_list_2d (λ v. (v.a1, tt)) file.now number result }
+    ensures { Views without_memory rows.cartesian_point_list_2d (λ v. (v.a1, tt))
+        file.now number result }
 {
     view((), file, number, &[b"IFCCARTESIANPOINTLIST2D"])
 }
@@ -299,7 +318,8 @@ pub fn lent_rel_associates_material<'a>(
     file: &StepFile<'a>,
     number: u32,
 ) -> Result<LentRelAssociatesMaterial<'a>, ViewError>
-    ensures { Views without_memory rows.rel_associates_material (λ v. (v.a5, (v.a6, tt))) file.now number result }
+    ensures { Views without_memory rows.rel_associates_material (λ v. (v.a5, (v.a6, tt)))
+        file.now number result }
 {
     view((), file, number, &[b"IFCRELASSOCIATESMATERIAL"])
 }
@@ -309,7 +329,8 @@ pub fn lent_rel_defines_by_type<'a>(
     file: &StepFile<'a>,
     number: u32,
 ) -> Result<LentRelDefinesByType<'a>, ViewError>
-    ensures { Views without_memory rows.rel_defines_by_type (λ v. (v.a5, (v.a6, tt))) file.now number result }
+    ensures { Views without_memory rows.rel_defines_by_type (λ v. (v.a5, (v.a6, tt)))
+        file.now number result }
 {
     view((), file, number, &[b"IFCRELDEFINESBYTYPE"])
 }

@@ -7,7 +7,8 @@ use Rattle.sb_schema.proofs.ItemsGiveLists.{more_than_two}
 use Rattle.sb_schema.proofs.lent.two_numbers.Goals as goal
 
 -- where parameters are left behind two, the list is not of two numbers
-some_left : (ps : List Param) → (drop 1 (drop 1 ps) ≡ [] → ⊥) → None ≡ only_if are_two (each number_in ps)
+some_left : (ps : List Param) → (drop 1 (drop 1 ps) ≡ [] → ⊥)
+    → None ≡ only_if are_two (each number_in ps)
 some_left [] some = refl
 some_left (p ∷ []) some = absurd (some refl)
 some_left (p ∷ q ∷ []) some = absurd (some refl)
