@@ -13,7 +13,7 @@ use crate::{
     product_definition_shape, rectangle_profile_def, rel_associates_material, rel_defines_by_type,
     rel_fills_element, rel_voids_element, shape_representation, space,
 };
-use sb_step::{StepFile, index};
+use sb_step::{StepError, StepFile, index};
 use std::alloc::{AllocError, Global};
 
 impl Show for Building {
@@ -331,6 +331,7 @@ pub(crate) fn answer(
     let mut text = Vec::new(alloc);
     match index(alloc, &input) {
         Ok(file) => ask(alloc, &mut text, &file, row, number)?,
+        Err(StepError::NoMemory) => return Err(AllocError),
         Err(_) => text.extend_from_slice(b"not indexed")?,
     }
     Ok(text)
