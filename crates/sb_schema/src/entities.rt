@@ -1,4 +1,6 @@
 // The entities that are viewed, each with the attributes that are read.
+#![tactic(auto, using(crate::proofs::BegunIsTold::telling))]
+
 pub(crate) mod curves;
 pub(crate) mod materials;
 pub(crate) mod placements;

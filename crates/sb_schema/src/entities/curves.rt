@@ -20,7 +20,6 @@ impl<'a> Entity<'a, Global> for Polyline {
 
     ghost fields = { λ v. (v.a1, tt) };
 
-    #[tactic(auto, using(crate::proofs::BegunIsTold::telling))]
     fn read(alloc: Global, left: &mut Attributes<'a>) -> Result<Self, ViewError> {
         let a1 = left.references(alloc)?;
         Ok(Polyline { a1 })
@@ -41,7 +40,6 @@ impl<'a> Entity<'a, Global> for IndexedPolyCurve {
 
     ghost fields = { λ v. (v.a1, (v.a2, tt)) };
 
-    #[tactic(auto, using(crate::proofs::BegunIsTold::telling))]
     fn read(alloc: Global, left: &mut Attributes<'a>) -> Result<Self, ViewError> {
         let a1 = left.reference()?;
         let a2 = left.typed_lists_or_none(alloc)?;
@@ -62,7 +60,6 @@ impl<'a> Entity<'a, Global> for CartesianPointList2d {
 
     ghost fields = { λ v. (v.a1, tt) };
 
-    #[tactic(auto, using(crate::proofs::BegunIsTold::telling))]
     fn read(alloc: Global, left: &mut Attributes<'a>) -> Result<Self, ViewError> {
         let a1 = left.pairs(alloc)?;
         Ok(CartesianPointList2d { a1 })
@@ -81,7 +78,6 @@ impl<'a> Entity<'a, ()> for LentPolyline<'a> {
 
     ghost fields = { λ v. (v.a1, tt) };
 
-    #[tactic(auto, using(crate::proofs::BegunIsTold::telling))]
     fn read(_memory: (), left: &mut Attributes<'a>) -> Result<Self, ViewError> {
         let a1 = left.lent_references()?;
         Ok(LentPolyline { a1 })
@@ -100,7 +96,6 @@ impl<'a> Entity<'a, ()> for LentCartesianPointList2d<'a> {
 
     ghost fields = { λ v. (v.a1, tt) };
 
-    #[tactic(auto, using(crate::proofs::BegunIsTold::telling))]
     fn read(_memory: (), left: &mut Attributes<'a>) -> Result<Self, ViewError> {
         let a1 = left.lent_pairs()?;
         Ok(LentCartesianPointList2d { a1 })

@@ -20,7 +20,6 @@ impl<'a> Entity<'a, Global> for Material {
 
     ghost fields = { λ v. (v.a1, tt) };
 
-    #[tactic(auto, using(crate::proofs::BegunIsTold::telling))]
     fn read(alloc: Global, left: &mut Attributes<'a>) -> Result<Self, ViewError> {
         let a1 = left.string(alloc)?;
         left.has(2)?;
@@ -42,7 +41,6 @@ impl<'a> Entity<'a, Global> for MaterialLayer {
 
     ghost fields = { λ v. (v.a1, (v.a2, tt)) };
 
-    #[tactic(auto, using(crate::proofs::BegunIsTold::telling))]
     fn read(alloc: Global, left: &mut Attributes<'a>) -> Result<Self, ViewError> {
         let a1 = left.reference_or_none()?;
         let a2 = left.number(alloc)?;
@@ -63,7 +61,6 @@ impl<'a> Entity<'a, Global> for MaterialLayerSet {
 
     ghost fields = { λ v. (v.a1, tt) };
 
-    #[tactic(auto, using(crate::proofs::BegunIsTold::telling))]
     fn read(alloc: Global, left: &mut Attributes<'a>) -> Result<Self, ViewError> {
         let a1 = left.references(alloc)?;
         left.has(2)?;
@@ -87,7 +84,6 @@ impl<'a> Entity<'a, Global> for MaterialLayerSetUsage {
 
     ghost fields = { λ v. (v.a1, (v.a2, (v.a3, tt))) };
 
-    #[tactic(auto, using(crate::proofs::BegunIsTold::telling))]
     fn read(alloc: Global, left: &mut Attributes<'a>) -> Result<Self, ViewError> {
         let a1 = left.reference()?;
         let a2 = left.enumeration(alloc)?;

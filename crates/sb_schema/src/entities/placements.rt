@@ -21,7 +21,6 @@ impl<'a> Entity<'a, ()> for LocalPlacement {
 
     ghost fields = { λ v. (v.a1, (v.a2, tt)) };
 
-    #[tactic(auto, using(crate::proofs::BegunIsTold::telling))]
     fn read(_memory: (), left: &mut Attributes<'a>) -> Result<Self, ViewError> {
         let a1 = left.reference_or_none()?;
         let a2 = left.reference()?;
@@ -45,7 +44,6 @@ impl<'a> Entity<'a, ()> for Axis2Placement3d {
 
     ghost fields = { λ v. (v.a1, (v.a2, (v.a3, tt))) };
 
-    #[tactic(auto, using(crate::proofs::BegunIsTold::telling))]
     fn read(_memory: (), left: &mut Attributes<'a>) -> Result<Self, ViewError> {
         let a1 = left.reference()?;
         let a2 = left.reference_or_none()?;
@@ -68,7 +66,6 @@ impl<'a> Entity<'a, ()> for Axis2Placement2d {
 
     ghost fields = { λ v. (v.a1, (v.a2, tt)) };
 
-    #[tactic(auto, using(crate::proofs::BegunIsTold::telling))]
     fn read(_memory: (), left: &mut Attributes<'a>) -> Result<Self, ViewError> {
         let a1 = left.reference()?;
         let a2 = left.reference_or_none()?;
@@ -88,7 +85,6 @@ impl<'a> Entity<'a, Global> for CartesianPoint {
 
     ghost fields = { λ v. (v.a1, tt) };
 
-    #[tactic(auto, using(crate::proofs::BegunIsTold::telling))]
     fn read(alloc: Global, left: &mut Attributes<'a>) -> Result<Self, ViewError> {
         let a1 = left.coordinates(alloc)?;
         Ok(CartesianPoint { a1 })
@@ -107,7 +103,6 @@ impl<'a> Entity<'a, Global> for Direction {
 
     ghost fields = { λ v. (v.a1, tt) };
 
-    #[tactic(auto, using(crate::proofs::BegunIsTold::telling))]
     fn read(alloc: Global, left: &mut Attributes<'a>) -> Result<Self, ViewError> {
         let a1 = left.coordinates(alloc)?;
         Ok(Direction { a1 })

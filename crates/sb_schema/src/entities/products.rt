@@ -19,7 +19,6 @@ impl<'a> Entity<'a, ()> for Building {
 
     ghost fields = { λ v. (v.a6, tt) };
 
-    #[tactic(auto, using(crate::proofs::BegunIsTold::telling))]
     fn read(_memory: (), left: &mut Attributes<'a>) -> Result<Self, ViewError> {
         left.skip(5);
         let a6 = left.reference_or_none()?;
@@ -44,7 +43,6 @@ impl<'a> Entity<'a, Global> for Space {
 
     ghost fields = { λ v. (v.a1, (v.a6, (v.a7, tt))) };
 
-    #[tactic(auto, using(crate::proofs::BegunIsTold::telling))]
     fn read(alloc: Global, left: &mut Attributes<'a>) -> Result<Self, ViewError> {
         let a1 = left.string(alloc)?;
         left.skip(4);
@@ -69,7 +67,6 @@ impl<'a> Entity<'a, ()> for Product {
 
     ghost fields = { λ v. (v.a6, (v.a7, tt)) };
 
-    #[tactic(auto, using(crate::proofs::BegunIsTold::telling))]
     fn read(_memory: (), left: &mut Attributes<'a>) -> Result<Self, ViewError> {
         left.skip(5);
         let a6 = left.reference_or_none()?;
@@ -88,7 +85,6 @@ impl<'a> Entity<'a, ()> for OpeningFilling {
 
     ghost fields = { λ _. tt };
 
-    #[tactic(auto, using(crate::proofs::BegunIsTold::telling))]
     fn read(_memory: (), left: &mut Attributes<'a>) -> Result<Self, ViewError> {
         left.has(13)?;
         Ok(OpeningFilling)

@@ -24,7 +24,6 @@ impl<'a> Entity<'a, Global> for RectangleProfileDef {
 
     ghost fields = { λ v. (v.a3, (v.a4, (v.a5, tt))) };
 
-    #[tactic(auto, using(crate::proofs::BegunIsTold::telling))]
     fn read(alloc: Global, left: &mut Attributes<'a>) -> Result<Self, ViewError> {
         left.skip(2);
         let a3 = left.reference_or_none()?;
@@ -46,7 +45,6 @@ impl<'a> Entity<'a, ()> for ArbitraryClosedProfileDef {
 
     ghost fields = { λ v. (v.a3, tt) };
 
-    #[tactic(auto, using(crate::proofs::BegunIsTold::telling))]
     fn read(_memory: (), left: &mut Attributes<'a>) -> Result<Self, ViewError> {
         left.skip(2);
         let a3 = left.reference()?;
@@ -68,7 +66,6 @@ impl<'a> Entity<'a, Global> for ArbitraryProfileDefWithVoids {
 
     ghost fields = { λ v. (v.a3, (v.a4, tt)) };
 
-    #[tactic(auto, using(crate::proofs::BegunIsTold::telling))]
     fn read(alloc: Global, left: &mut Attributes<'a>) -> Result<Self, ViewError> {
         left.skip(2);
         let a3 = left.reference()?;

@@ -22,7 +22,6 @@ impl<'a> Entity<'a, ()> for RelVoidsElement {
 
     ghost fields = { λ v. (v.a5, (v.a6, tt)) };
 
-    #[tactic(auto, using(crate::proofs::BegunIsTold::telling))]
     fn read(_memory: (), left: &mut Attributes<'a>) -> Result<Self, ViewError> {
         left.skip(4);
         let a5 = left.reference()?;
@@ -45,7 +44,6 @@ impl<'a> Entity<'a, ()> for RelFillsElement {
 
     ghost fields = { λ v. (v.a5, (v.a6, tt)) };
 
-    #[tactic(auto, using(crate::proofs::BegunIsTold::telling))]
     fn read(_memory: (), left: &mut Attributes<'a>) -> Result<Self, ViewError> {
         left.skip(4);
         let a5 = left.reference()?;
@@ -68,7 +66,6 @@ impl<'a> Entity<'a, Global> for RelAssociatesMaterial {
 
     ghost fields = { λ v. (v.a5, (v.a6, tt)) };
 
-    #[tactic(auto, using(crate::proofs::BegunIsTold::telling))]
     fn read(alloc: Global, left: &mut Attributes<'a>) -> Result<Self, ViewError> {
         left.skip(4);
         let a5 = left.references(alloc)?;
@@ -91,7 +88,6 @@ impl<'a> Entity<'a, Global> for RelDefinesByType {
 
     ghost fields = { λ v. (v.a5, (v.a6, tt)) };
 
-    #[tactic(auto, using(crate::proofs::BegunIsTold::telling))]
     fn read(alloc: Global, left: &mut Attributes<'a>) -> Result<Self, ViewError> {
         left.skip(4);
         let a5 = left.references(alloc)?;
@@ -114,7 +110,6 @@ impl<'a> Entity<'a, ()> for LentRelAssociatesMaterial<'a> {
 
     ghost fields = { λ v. (v.a5, (v.a6, tt)) };
 
-    #[tactic(auto, using(crate::proofs::BegunIsTold::telling))]
     fn read(_memory: (), left: &mut Attributes<'a>) -> Result<Self, ViewError> {
         left.skip(4);
         let a5 = left.lent_references()?;
@@ -137,7 +132,6 @@ impl<'a> Entity<'a, ()> for LentRelDefinesByType<'a> {
 
     ghost fields = { λ v. (v.a5, (v.a6, tt)) };
 
-    #[tactic(auto, using(crate::proofs::BegunIsTold::telling))]
     fn read(_memory: (), left: &mut Attributes<'a>) -> Result<Self, ViewError> {
         left.skip(4);
         let a5 = left.lent_references()?;

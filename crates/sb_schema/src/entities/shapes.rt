@@ -20,7 +20,6 @@ impl<'a> Entity<'a, Global> for ProductDefinitionShape {
 
     ghost fields = { λ v. (v.a3, tt) };
 
-    #[tactic(auto, using(crate::proofs::BegunIsTold::telling))]
     fn read(alloc: Global, left: &mut Attributes<'a>) -> Result<Self, ViewError> {
         left.skip(2);
         let a3 = left.references(alloc)?;
@@ -42,7 +41,6 @@ impl<'a> Entity<'a, Global> for ShapeRepresentation {
 
     ghost fields = { λ v. (v.a2, (v.a4, tt)) };
 
-    #[tactic(auto, using(crate::proofs::BegunIsTold::telling))]
     fn read(alloc: Global, left: &mut Attributes<'a>) -> Result<Self, ViewError> {
         left.skip(1);
         let a2 = left.string_or_none(alloc)?;
@@ -70,7 +68,6 @@ impl<'a> Entity<'a, Global> for ExtrudedAreaSolid {
 
     ghost fields = { λ v. (v.a1, (v.a2, (v.a3, (v.a4, tt)))) };
 
-    #[tactic(auto, using(crate::proofs::BegunIsTold::telling))]
     fn read(alloc: Global, left: &mut Attributes<'a>) -> Result<Self, ViewError> {
         let a1 = left.reference()?;
         let a2 = left.reference_or_none()?;
