@@ -16,7 +16,7 @@ mod step_file;
 #[cfg(test)]
 mod tests;
 
-pub use crate::cursor::Cursor;
+pub use crate::cursor::{Cursor, Instance};
 pub use crate::error::{ParamsError, StepError};
 pub use crate::forms::Typed;
 pub use crate::indexing::index;
