@@ -1,8 +1,10 @@
--- Sorted by when they are passed, the corners of loops in range are a listing, or two of them are one
+-- Sorted by when they are passed, the corners of loops in range are a listing, or two of them are
+-- one
 -- point: then the loops are not apart.
 
 use Rattle.std.proofs.Common.{◌≡◌, ◌⊎◌, inl, inr, refl, sym, ap, arith, ℕ, zero, suc, ℤ, pos}
-use Rattle.std.proofs.Common.{◌+◌, ◌<◌, ◌≤◌, ◌+ℤ◌, ◌<ℤ◌, ◌≤ℤ◌, unsigned_abs, true, false, List, [], ◌∷◌}
+use Rattle.std.proofs.Common.{◌+◌, ◌<◌, ◌≤◌, ◌+ℤ◌, ◌<ℤ◌, ◌≤ℤ◌, unsigned_abs, true, false, List, []}
+use Rattle.std.proofs.Common.{◌∷◌}
 use Rattle.std.proofs.Common.{length, subst, slice_index_or, ◌&&◌, add-one}
 use Rattle.std.specs.List.{list_all, AllByRecursion}
 use Rattle.std.specs.List.Sorted.{IsPermutation, IsNonDecreasingBy}
@@ -59,13 +61,15 @@ range_of_loop : (points : List Point) → list_all is_plan_point points ≡ true
 range_of_loop [] all = tt
 range_of_loop (a ∷ points) all =
     let parts = and_parts (is_plan_point a) (list_all is_plan_point points) all in
-    range_on (last_of a points) a points a (last_in a points parts.0 parts.1) parts.0 parts.1 parts.0
+    range_on (last_of a points) a points a
+    (last_in a points parts.0 parts.1) parts.0 parts.1 parts.0
 
 range_of : (loops : List (List Point)) → list_all (list_all is_plan_point) loops ≡ true
     → AllByRecursion InRange (corners_of loops)
 range_of [] all = tt
 range_of (points ∷ loops) all =
-    let parts = and_parts (list_all is_plan_point points) (list_all (list_all is_plan_point) loops) all in
+    let parts = and_parts (list_all is_plan_point points) (list_all
+    (list_all is_plan_point) loops) all in
     all-append InRange (corners_of_loop points) (corners_of loops) (range_of_loop points parts.0)
     (range_of loops parts.1)
 

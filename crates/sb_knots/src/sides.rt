@@ -1,6 +1,7 @@
 //! The answer: apart or not, and the sense of each loop.
 
-ghost use Rattle.std.specs.Prelude.{◌≡◌, ◌↔◌, ℕ, ◌+◌, ◌<◌, ◌≤◌, map, true, false, None, IsTrue, IfOk, IfSome};
+ghost use Rattle.std.specs.Prelude.{◌≡◌, ◌↔◌, ℕ, ◌+◌, ◌<◌, ◌≤◌, map, true, false, None, IsTrue};
+ghost use Rattle.std.specs.Prelude.{IfOk, IfSome};
 ghost use Rattle.std.specs.Prelude.{length, List, slice_index_or, take};
 ghost use Rattle.std.specs.List.{list_all};
 ghost use Rattle.std.specs.List.Sorted.{IsNonDecreasingBy, IsPermutation};
@@ -26,10 +27,12 @@ use std::alloc::{AllocError, Global};
 /// How many corners have edges with numbers of 32 bits.
 const MOST: usize = 2147483648;
 
-/// Of normalised loops, whether their edges are apart, and for each loop whether the solid lies on its
+/// Of normalised loops, whether their edges are apart, and for each loop whether the solid lies on
+/// its
 /// left: for all edges of the loop or for none.
 ///
-/// - `Ok(None)`: exactly where two edges meet otherwise than as consecutive ends, or a point is a corner
+/// - `Ok(None)`: exactly where two edges meet otherwise than as consecutive ends, or a point is a
+/// corner
 ///   twice.
 /// - `Ok(Some(senses))`: for each loop, in order, whether the solid lies left of its first edge, by
 ///   the parity of the edges of all loops.
