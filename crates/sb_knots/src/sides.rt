@@ -16,11 +16,10 @@ ghost use Rattle.theory_sweep.specs.Corners.{Corner, corners_of};
 ghost use Rattle.sb_knots.specs.Listing.{IsListing, IsSwept, IsFallen};
 ghost use Rattle.sb_knots.specs.Steps.{key_of};
 
-use crate::corners as list;
-use crate::corners::{corners_in_order, pass_at};
+use crate::corners::{Corner, corners_in_order, pass_at};
 use crate::lists::{PointLists, Senses};
 use crate::sweep::sweep;
-use sb_fraction as fraction;
+use sb_fraction::Point;
 use sb_list::Listed;
 use std::alloc::{AllocError, Global};
 
@@ -57,7 +56,7 @@ pub fn senses(alloc: Global, loops: &PointLists) -> Result<Option<Senses>, Alloc
 fn senses_by(
     alloc: Global,
     loops: &PointLists,
-    corners: &[list::Corner],
+    corners: &[Corner],
 ) -> Result<Option<Senses>, AllocError>
     requires in_range { IsTrue (list_all (list_all is_plan_point) loops.now) }
     requires bent { IsTrue (list_all is_bent_loop loops.now) }
@@ -82,7 +81,7 @@ fn senses_by(
 }
 
 /// Each corner is passed before the next.
-fn are_rising(corners: &[list::Corner]) -> bool
+fn are_rising(corners: &[Corner]) -> bool
     ensures rising { result ≡ true → (j : ℕ) (d : Corner) → j + 1 < length corners.now
         → key_of (slice_index_or corners.now j d) < key_of (slice_index_or corners.now (j + 1) d) }
     ensures fallen { result ≡ false → IsFallen corners.now }
@@ -99,7 +98,7 @@ fn are_rising(corners: &[list::Corner]) -> bool
 fn senses_of(
     alloc: Global,
     loops: &PointLists,
-    corners: &[list::Corner],
+    corners: &[Corner],
     lefts: &Vec<bool>,
 ) -> Result<Senses, AllocError>
     requires count { length lefts.now.items ≡ length corners.now }
@@ -118,7 +117,7 @@ fn senses_of(
 }
 
 /// The answer at the first point of a loop.
-fn sense_of(corners: &[list::Corner], lefts: &[bool], points: &[fraction::Point]) -> bool
+fn sense_of(corners: &[Corner], lefts: &[bool], points: &[Point]) -> bool
     requires count { length lefts.now ≡ length corners.now }
     requires sorted { IsNonDecreasingBy key_of corners.now }
     ensures { (loops : List (List Point)) → IsListing loops corners.now

@@ -16,7 +16,7 @@ ghost use Rattle.sb_knots.specs.Listing.{IsListing, IsSwept};
 ghost use Rattle.sb_knots.specs.Steps.{closed_at, begun_at, is_even_below};
 
 use crate::begun::{Begun, edges_begun, is_even_below};
-use crate::corners as list;
+use crate::corners::Corner;
 use crate::standing::{close, may_join, place_over, put_begun};
 use sb_blocks::{Blocks, Place};
 use sb_fraction::Point;
@@ -25,7 +25,7 @@ use std::alloc::{AllocError, Global};
 /// Lets edges begin, if they may be neighbours of those before and behind them. Answers whether an
 /// even number of edges lies below that to the point after the corner, of two that begin.
 fn begin(
-    corners: &[list::Corner],
+    corners: &[Corner],
     standing: &mut Blocks,
     v: Point,
     begun: Begun,
@@ -68,7 +68,7 @@ fn is_even_there(standing: &Blocks, place: Place, begun: Begun) -> bool
 
 /// The line passes corner `k`.
 fn pass_corner(
-    corners: &[list::Corner],
+    corners: &[Corner],
     standing: &mut Blocks,
     k: usize,
 ) -> Result<Option<bool>, AllocError>
@@ -97,10 +97,7 @@ fn pass_corner(
 /// The line passes over all corners. Answers for each whether an even number of edges lies below
 /// that
 /// to the point after it, where two begin; or `None` as soon as two neighbours may not be so.
-pub(crate) fn sweep(
-    alloc: Global,
-    corners: &[list::Corner],
-) -> Result<Option<Vec<bool>>, AllocError>
+pub(crate) fn sweep(alloc: Global, corners: &[Corner]) -> Result<Option<Vec<bool>>, AllocError>
     requires few { length corners.now ≤ 2147483648 }
     ensures knotted { result ≡ Ok None → (loops : List (List Point)) → IsListing loops corners.now
         → are_apart loops ≡ false }
