@@ -6,6 +6,8 @@ use Rattle.std.proofs.Common.{◌≡◌, ◌⊎◌, inl, inr, refl, sym, ap, ari
 use Rattle.std.proofs.Common.{◌+◌, ◌<◌, ◌≤◌, ◌+ℤ◌, ◌<ℤ◌, ◌≤ℤ◌, unsigned_abs, true, false, List, []}
 use Rattle.std.proofs.Common.{◌∷◌}
 use Rattle.std.proofs.Common.{length, subst, slice_index_or, ◌&&◌, add-one}
+use Rattle.std.proofs.Common.{Option, Some, Vec, Global, Bool}
+use Rattle.std.specs.Prelude.{IfSome}
 use Rattle.std.specs.List.{list_all, AllByRecursion}
 use Rattle.std.specs.List.Sorted.{IsPermutation, IsNonDecreasingBy}
 use Rattle.std.proofs.lemmas.Int.{ints}
@@ -26,7 +28,7 @@ use Rattle.theory_sweep.specs.Passing.{pass_of, sweep_way}
 use Rattle.theory_sweep.proofs.EdgesByCorners.{corners-at}
 use Rattle.theory_sweep.proofs.NeighboursInOrder.{two_from_neighbours}
 use Rattle.theory_sweep.proofs.PassedInOrder.{passed_late, passed_first, one_before}
-use Rattle.sb_knots.specs.Listing.{IsListing, IsFallen}
+use Rattle.sb_knots.specs.Listing.{IsListing, IsFallen, IsSwept}
 use Rattle.sb_knots.specs.Steps.{is_corner_in_range, key_at, key_of}
 
 -- ---- range
@@ -210,3 +212,17 @@ module _ (loops : List (List Point)) (corners : List Corner)
           (λ n. key_of (slice_index_or corners n d) ≤ key_of (slice_index_or corners fallen.at d))
           (add-one fallen.at) (fallen.falls d) in
           omega (arith, low, high)))
+
+-- ---- the answers
+
+-- those that were swept
+pub swept_answers : (loops : List (List Point)) (corners : List Corner)
+    (some : Option (Vec Bool Global)) (lefts : Vec Bool Global) → some ≡ Some lefts
+    → IfSome some (λ (lefts : Vec Bool Global). (loops : List (List Point))
+    → IsListing loops corners → IsSwept loops corners lefts.items)
+    → IsListing loops corners → IsSwept loops corners lefts.items
+swept_answers loops corners some lefts is swept listing =
+    subst
+    (λ some. IfSome some (λ (lefts : Vec Bool Global). (loops : List (List Point))
+    → IsListing loops corners → IsSwept loops corners lefts.items))
+    is swept loops listing

@@ -74,7 +74,7 @@ fn senses_by(
     match sweep(alloc, corners)? {
         None => Ok(None),
         Some(lefts) => {
-            let senses = senses_of(alloc, loops, corners, &lefts)?;
+            let senses = senses_of(alloc, loops, corners, lefts.as_slice())?;
             Ok(Some(senses))
         }
     }
@@ -99,16 +99,15 @@ fn senses_of(
     alloc: Global,
     loops: &PointLists,
     corners: &[Corner],
-    lefts: &Vec<bool>,
+    lefts: &[bool],
 ) -> Result<Senses, AllocError>
-    requires count { length lefts.now.items ≡ length corners.now }
+    requires count { length lefts.now ≡ length corners.now }
     requires sorted { IsNonDecreasingBy key_of corners.now }
     ensures { IfOk result (λ senses. IsListing loops.now corners.now
-        → IsSwept loops.now corners.now lefts.now.items
+        → IsSwept loops.now corners.now lefts.now
         → list_all is_least_first loops.now ≡ true
         → senses ≡ map (is_left_at_first (edges_of loops.now)) loops.now) }
 {
-    let lefts = lefts.as_slice();
     let mut senses = Listed::new(alloc);
     'loops: for points in loops.as_slice() {
         senses.push(sense_of(corners, lefts, points.as_slice()))?;
