@@ -1,4 +1,5 @@
-//! Makes loops of a shape and then their plan: `bench_loops SHAPE SIZE`, where the shape is `together`,
+//! Makes loops of a shape and then their plan: `bench_loops SHAPE SIZE`, where the shape is
+//! `together`,
 //! `apart`, `spiral` or `way`. It serves to time the plan.
 #![tactic(auto)]
 

@@ -1,8 +1,10 @@
--- As the line passes corner after corner, what is kept stays right; so in the end the loops are apart,
+-- As the line passes corner after corner, what is kept stays right; so in the end the loops are
+-- apart,
 -- and the answers are the senses.
 
 use Rattle.std.proofs.Common.{◌≡◌, ◌⊎◌, inl, inr, refl, sym, ap, ◌∙◌, ℕ, zero, suc, ◌≤◌}
-use Rattle.std.proofs.Common.{Bool, false, List, [], ◌∷◌, ◌++◌, length, take, drop, map, subst, Some, ◌≤ℤ◌}
+use Rattle.std.proofs.Common.{Bool, false, List, [], ◌∷◌, ◌++◌, length, take, drop, map, subst}
+use Rattle.std.proofs.Common.{Some, ◌≤ℤ◌}
 use Rattle.std.specs.List.{slice_get}
 use Rattle.std.proofs.lemmas.List.{map-append}
 use Rattle.theory_lists.specs.Parted.{IsPartedAt}
@@ -14,14 +16,16 @@ use Rattle.theory_sweep.specs.Passing.{sweep_way, pass_of}
 use Rattle.theory_sweep.proofs.ApartWhenPassed.{none_at_first, apart_when_passed}
 use Rattle.theory_sweep.proofs.PassedInOrder.{sweep_is_way}
 use Rattle.sb_knots.specs.Listing.{IsListing, IsReached, IsSenseAt, IsSwept, passed_by}
-use Rattle.sb_knots.specs.Steps.{edge_at, ids_of, begun_at, lies_under, ends_at, drop_first, closed_at}
+use Rattle.sb_knots.specs.Steps.{edge_at, ids_of, begun_at, lies_under, ends_at, drop_first}
+use Rattle.sb_knots.specs.Steps.{closed_at}
 use Rattle.sb_knots.specs.Steps.{HaveBegun, are_linked, may_follow, joint_at}
 use Rattle.sb_knots.proofs.CornersInOrder.{first_late, last_passed, passed_apart}
 use Rattle.sb_knots.proofs.SenseIsRight.{sense}
 use Rattle.sb_knots.proofs.StepIsRight.{parted_there, passed, later_is, refused}
 
 -- what a list has with one item behind
-get_pushed : {X : Type 0} (xs : List X) (x : X) (j : ℕ) (y : X) → slice_get (xs ++ x ∷ []) j ≡ Some y
+get_pushed : {X : Type 0} (xs : List X) (x : X) (j : ℕ) (y : X) → slice_get (xs ++ x ∷ []) j
+    ≡ Some y
     → (slice_get xs j ≡ Some y) ⊎ ((j ≡ length xs) × (y ≡ x))
 get_pushed [] x zero y at = let same : y ≡ x = cc in inr (refl, same)
 get_pushed [] x (suc zero) y at = absurd cc
@@ -34,7 +38,8 @@ get_pushed (z ∷ xs) x (suc j) y at = from (get_pushed xs x j y at)
     from (inl there) = inl there
     from (inr last) = inr (ap suc last.0, last.1)
 
-module _ (loops : List (List Point)) (corners : List Corner) (listing : IsListing loops corners) where
+module _ (loops : List (List Point)) (corners : List Corner)
+    (listing : IsListing loops corners) where
   -- before the first corner
   pub reached_first : IsReached loops corners 0 [] []
   reached_first = record {
@@ -48,7 +53,8 @@ module _ (loops : List (List Point)) (corners : List Corner) (listing : IsListin
       nothing zero left at = cc
       nothing (suc k) left at = cc
 
-  module _ (k : ℕ) (c : Corner) (at : slice_get corners k ≡ Some c) (ids : List ℕ) (lefts : List Bool)
+  module _ (k : ℕ) (c : Corner) (at : slice_get corners k ≡ Some c) (ids : List ℕ)
+      (lefts : List Bool)
       (reached : IsReached loops corners k ids lefts) where
     -- over the next one
     pub reached_next : (left : Bool) (later : List ℕ) → length lefts ≡ k
@@ -101,7 +107,8 @@ module _ (loops : List (List Point)) (corners : List Corner) (listing : IsListin
       → IsReached loops corners n ids lefts → IsSwept loops corners lefts
   swept n all ids lefts count reached = record {
     apart =
-        apart_when_passed sweep_way loops (passed_apart loops corners listing) listing.bent sweep_is_way
+        apart_when_passed sweep_way loops
+        (passed_apart loops corners listing) listing.bent sweep_is_way
         (passed_by corners n) reached.standing.met
         (λ c c_in.
         subst (λ m. pass_of sweep_way c.at ≤ℤ passed_by corners m) (sym all)

@@ -10,7 +10,8 @@ use Rattle.theory_plans.specs.Loops.{comes_before}
 use Rattle.theory_sweep.specs.Corners.{Corner}
 use Rattle.theory_sweep.specs.Open.{is_under}
 use Rattle.theory_sweep.proofs.ValuesAtACorner.{level_at_a}
-use Rattle.sb_knots.specs.Steps.{edge_at, edge_from, is_edge, lies_under, ids_of, begun_at, begun_by}
+use Rattle.sb_knots.specs.Steps.{edge_at, edge_from, is_edge, lies_under, ids_of, begun_at}
+use Rattle.sb_knots.specs.Steps.{begun_by}
 
 half_even : (k : ℕ) → (2 * k) / 2 ≡ k
 half_even k = omega arith
@@ -60,7 +61,8 @@ module _ (corners : List Corner) (k : ℕ) (c : Corner) (at : slice_get corners 
   -- those that begin are edges
   pub begun_in : IsTrue (list_all (is_edge corners) (ids_of (begun_at c k)))
   begun_in =
-      by (comes_before c.at c.before) (comes_before c.at c.after) (is_under c.after (edge c.at c.before))
+      by (comes_before c.at c.before) (comes_before c.at c.after) (is_under c.after
+      (edge c.at c.before))
     where
       by : (before after lower : Bool)
           → IsTrue (list_all (is_edge corners) (ids_of (begun_by before after lower k)))
@@ -73,7 +75,8 @@ module _ (corners : List Corner) (k : ℕ) (c : Corner) (at : slice_get corners 
   -- and do not lie below the corner
   pub begun_over : list_any (lies_under corners c.at) (ids_of (begun_at c k)) ≡ false
   begun_over =
-      by (comes_before c.at c.before) (comes_before c.at c.after) (is_under c.after (edge c.at c.before))
+      by (comes_before c.at c.before) (comes_before c.at c.after) (is_under c.after
+      (edge c.at c.before))
     where
       by : (before after lower : Bool)
           → list_any (lies_under corners c.at) (ids_of (begun_by before after lower k)) ≡ false

@@ -104,7 +104,8 @@ module _ (loops : List (List Point)) (apart : ArePassedApart sweep_way loops)
   left_if_higher higher =
       from (sign_cases (cross (span_of up) (span_of on)))
     where
-      from : ((pos 0 <ℤ cross (span_of up) (span_of on)) ⊎ (cross (span_of up) (span_of on) ≡ pos 0))
+      from : ((pos 0 <ℤ cross (span_of up) (span_of on)) ⊎ (cross (span_of up) (span_of on)
+          ≡ pos 0))
           ⊎ (cross (span_of up) (span_of on) <ℤ pos 0) → pos 0 <ℤ cross (span_of on) (span_of up)
       from (inl (inl left)) =
           let low = not_less_from (pos 0) (turn_at up (spot_at c.after)) higher in
@@ -130,12 +131,14 @@ module _ (loops : List (List Point)) (apart : ArePassedApart sweep_way loops)
       from (inl one) =
           inl (
             one,
-            before_if_first c.at c.after at_in after_in (subst (IsRising sweep_way) one e_is.rising),
+            before_if_first c.at c.after at_in after_in (subst
+                (IsRising sweep_way) one e_is.rising),
           )
       from (inr one) =
           inr (
             one,
-            before_if_first c.at c.before at_in before_in (subst (IsRising sweep_way) one e_is.rising),
+            before_if_first c.at c.before at_in before_in (subst
+                (IsRising sweep_way) one e_is.rising),
           )
 
   by_tests : (before after lower : Bool) → comes_before c.at c.before ≡ before

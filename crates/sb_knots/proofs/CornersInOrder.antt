@@ -1,6 +1,7 @@
 -- The corners in their order: the one that the line passes next, and those that it has passed.
 
-use Rattle.std.proofs.Common.{◌≡◌, ◌⊎◌, inl, inr, refl, sym, ap, ◌∙◌, arith, ℕ, zero, suc, ℤ, negsuc}
+use Rattle.std.proofs.Common.{◌≡◌, ◌⊎◌, inl, inr, refl, sym, ap, ◌∙◌, arith, ℕ, zero, suc, ℤ}
+use Rattle.std.proofs.Common.{negsuc}
 use Rattle.std.proofs.Common.{◌<ℤ◌, ◌≤ℤ◌, List, [], ◌∷◌, length, slice_get, Some, subst, true}
 use Rattle.std.specs.List.{AllByRecursion, list_all}
 use Rattle.std.proofs.lemmas.Int.{ints}
@@ -25,7 +26,8 @@ Rises b c = pass_of sweep_way b.at <ℤ pass_of sweep_way c.at
 record IsBetween (passed : ℤ) (cs : List Corner) (c : Corner) : Type 0 where
   after : passed <ℤ pass_of sweep_way c.at
   each : (other : Corner) → Stands other cs
-      → (pass_of sweep_way other.at ≤ℤ passed) ⊎ (pass_of sweep_way c.at ≤ℤ pass_of sweep_way other.at)
+      → (pass_of sweep_way other.at ≤ℤ passed) ⊎
+      (pass_of sweep_way c.at ≤ℤ pass_of sweep_way other.at)
 
 low_at_most : (low : ℤ) (cs : List Corner) (n : ℕ)
     → AllByRecursion (λ (c : Corner). low <ℤ pass_of sweep_way c.at) cs → AllOfTwo Rises cs
@@ -50,7 +52,8 @@ between low (b ∷ cs) zero c late rising at =
     }
   where
     from : b ≡ c → (other : Corner) → Stands other (b ∷ cs)
-        → (pass_of sweep_way other.at ≤ℤ low) ⊎ (pass_of sweep_way c.at ≤ℤ pass_of sweep_way other.at)
+        → (pass_of sweep_way other.at ≤ℤ low) ⊎
+        (pass_of sweep_way c.at ≤ℤ pass_of sweep_way other.at)
     from same other (inl one) =
         let equal : pass_of sweep_way c.at ≡ pass_of sweep_way other.at =
         ap (λ t. pass_of sweep_way t.at) (sym same ∙ sym one) in
@@ -63,7 +66,8 @@ between low (b ∷ cs) (suc n) c late rising at =
     let rest = between (pass_of sweep_way b.at) cs n c rising.0 rising.1 at in
     record {
       after = rest.after;
-      each = λ other other_in. from rest (low_at_most (pass_of sweep_way b.at) cs n rising.0 rising.1) other other_in;
+      each = λ other other_in. from rest (low_at_most
+          (pass_of sweep_way b.at) cs n rising.0 rising.1) other other_in;
     }
   where
     from : IsBetween (passed_from (pass_of sweep_way b.at) cs n) cs c
@@ -81,7 +85,8 @@ next_passed : (low : ℤ) (cs : List Corner) (n : ℕ) (c : Corner) → slice_ge
 next_passed low [] zero c at = absurd cc
 next_passed low [] (suc n) c at = absurd cc
 next_passed low (b ∷ []) zero c at = let same : b ≡ c = cc in ap (λ t. pass_of sweep_way t.at) same
-next_passed low (b ∷ d ∷ cs) zero c at = let same : b ≡ c = cc in ap (λ t. pass_of sweep_way t.at) same
+next_passed low (b ∷ d ∷ cs) zero c at = let same : b ≡ c = cc in ap
+    (λ t. pass_of sweep_way t.at) same
 next_passed low (b ∷ cs) (suc n) c at = next_passed (pass_of sweep_way b.at) cs n c at
 
 all_passed : (low : ℤ) (cs : List Corner) (n : ℕ) → n ≡ length cs
@@ -105,7 +110,8 @@ all_late (c ∷ cs) all =
       all_late cs parts.1,
     )
 
-module _ (loops : List (List Point)) (corners : List Corner) (listing : IsListing loops corners) where
+module _ (loops : List (List Point)) (corners : List Corner)
+    (listing : IsListing loops corners) where
   here : (c : Corner) → Stands c (corners_of loops) → Stands c corners
   here c c_in = stands_permuted c (corners_of loops) corners listing.are c_in
 

@@ -1,6 +1,7 @@
 -- What is put in or taken out behind the first items of a list.
 
-use Rattle.std.proofs.Common.{◌≡◌, sym, ap, ap₂, ◌∙◌, ℕ, zero, suc, ◌<◌, ◌≤◌, Bool, true, false, subst}
+use Rattle.std.proofs.Common.{◌≡◌, sym, ap, ap₂, ◌∙◌, ℕ, zero, suc, ◌<◌, ◌≤◌, Bool, true, false}
+use Rattle.std.proofs.Common.{subst}
 use Rattle.std.proofs.Common.{List, [], ◌∷◌, ◌++◌, length, take, drop, IsTrue, refl, arith}
 use Rattle.std.proofs.Common.{Option, Some, None, ◌&&◌, Result, Ok, Err, OnOk, slice_index_or}
 use Rattle.std.specs.List.{list_all, list_any, AllByRecursion, slice_get, insert, remove}
@@ -10,7 +11,8 @@ use Rattle.theory_lists.specs.Parted.{IsPartedAt}
 use Rattle.theory_sweep.specs.Corners.{Corner}
 use Rattle.sb_fraction.specs.declared.point.Point.{Point}
 use Rattle.sb_blocks.specs.Places.{item_before}
-use Rattle.sb_knots.specs.Steps.{ends_at, lies_under, drop_first, are_linked, listed, IsTaken, IsLeft, IsClosed}
+use Rattle.sb_knots.specs.Steps.{ends_at, lies_under, drop_first, are_linked, listed, IsTaken}
+use Rattle.sb_knots.specs.Steps.{IsLeft, IsClosed}
 use Rattle.sb_knots.proofs.IdsOfEdges.{IsClosing}
 
 -- ---- a test that each item passes
@@ -90,10 +92,12 @@ drop_at [] (suc n) id at = cc
 drop_at (x ∷ xs) zero id at = let same : x ≡ id = cc in ap (λ t. t ∷ xs) same
 drop_at (x ∷ xs) (suc n) id at = drop_at xs n id at
 
-pub some_at : (xs : List ℕ) (n : ℕ) → n < length xs → (id : ℕ) × (slice_get xs n ≡ Some id)
-some_at [] n within = absurd (omega arith)
-some_at (x ∷ xs) zero within = (x, refl)
-some_at (x ∷ xs) (suc n) within = some_at xs n (omega arith)
+-- something stands at each place of a list
+pub item_at : {X : Type 0} (xs : List X) (n : ℕ) → n < length xs → (x : X) × (slice_get xs n
+    ≡ Some x)
+item_at [] n within = absurd (omega arith)
+item_at (x ∷ xs) zero within = (x, refl)
+item_at (x ∷ xs) (suc n) within = item_at xs n (omega arith)
 
 pub take_put : (xs ys : List ℕ) (n : ℕ) → n ≤ length xs → take n (take n xs ++ ys) ≡ take n xs
 take_put xs ys zero within = refl
@@ -141,7 +145,8 @@ module _ (corners : List Corner) (v : Point) (n : ℕ) (before after next : List
   pub closing_on : IsClosing corners v n before after → IsTaken corners v n after next
       → IsClosing corners v n before next
   closing_on closing taken = record {
-    list = ap₂ (λ s t. s ++ drop_first (ends_at corners v) t) (ap (take n) taken.rest ∙ take_removed after n taken.within)
+    list = ap₂ (λ s t. s ++ drop_first (ends_at corners v) t) (ap (take n) taken.rest
+        ∙ take_removed after n taken.within)
         (ap (drop n) taken.rest ∙ drop_removed after n taken.within)
         ∙ ap (λ t. take n after ++ t)
         (sym (ap (drop_first (ends_at corners v)) (drop_at after n item.0 item.1)
@@ -160,7 +165,7 @@ module _ (corners : List Corner) (v : Point) (n : ℕ) (before after next : List
   }
     where
       item : (id : ℕ) × (slice_get after n ≡ Some id)
-      item = some_at after n taken.within
+      item = item_at after n taken.within
 
   pub closing_done : IsClosing corners v n before after → IsLeft corners v n after next
       → IsClosed corners v n before next
@@ -204,9 +209,3 @@ pub get_is : {X : Type 0} (xs : List X) (n : ℕ) (x : X) → n < length xs → 
 get_is [] n x within same = absurd (omega arith)
 get_is (y ∷ ys) zero x within same = ap Some (sym same)
 get_is (y ∷ ys) (suc n) x within same = get_is ys n x (omega arith) same
-
--- something stands at each place of a list
-pub item_at : {X : Type 0} (xs : List X) (n : ℕ) → n < length xs → (x : X) × (slice_get xs n ≡ Some x)
-item_at [] n within = absurd (omega arith)
-item_at (x ∷ xs) zero within = (x, refl)
-item_at (x ∷ xs) (suc n) within = item_at xs n (omega arith)

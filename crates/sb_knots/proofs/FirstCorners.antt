@@ -1,7 +1,9 @@
 -- The answer at the first corner of a loop is the sense of the loop.
 
-use Rattle.std.proofs.Common.{◌≡◌, inl, inr, refl, sym, ap, ◌∙◌, arith, ℕ, zero, suc, ◌<◌, ◌≤◌, nat_cmp}
-use Rattle.std.proofs.Common.{Bool, true, false, List, [], ◌∷◌, length, subst, slice_index_or, Some, Ok, Err, map, take, ◌++◌, ◌+◌}
+use Rattle.std.proofs.Common.{◌≡◌, inl, inr, refl, sym, ap, ◌∙◌, arith, ℕ, zero, suc, ◌<◌, ◌≤◌}
+use Rattle.std.proofs.Common.{nat_cmp}
+use Rattle.std.proofs.Common.{Bool, true, false, List, [], ◌∷◌, length, subst, slice_index_or, Some}
+use Rattle.std.proofs.Common.{Ok, Err, map, take, ◌++◌, ◌+◌}
 use Rattle.std.proofs.Common.{⊎_elim}
 use Rattle.std.specs.Ordering.{ordering_index}
 use Rattle.std.specs.List.{list_all, slice_get}
@@ -31,14 +33,16 @@ use Rattle.sb_knots.proofs.ListingIsMade.{one_by_key, at_in}
 
 -- ---- the first corner
 
-corner_in_loops : (loops : List (List Point)) (points : List Point) (c : Corner) → Stands points loops
+corner_in_loops : (loops : List (List Point)) (points : List Point) (c : Corner)
+    → Stands points loops
     → Stands c (corners_of_loop points) → Stands c (corners_of loops)
 corner_in_loops [] points c at c_in = absurd at
 corner_in_loops (one ∷ loops) points c (inl same) c_in =
     stands_before c (corners_of_loop one) (corners_of loops)
     (subst (λ p. Stands c (corners_of_loop p)) same c_in)
 corner_in_loops (one ∷ loops) points c (inr later) c_in =
-    stands_behind c (corners_of_loop one) (corners_of loops) (corner_in_loops loops points c later c_in)
+    stands_behind c (corners_of_loop one) (corners_of loops)
+    (corner_in_loops loops points c later c_in)
 
 bent_there : (loops : List (List Point)) (points : List Point) → Stands points loops
     → list_all is_bent_loop loops ≡ true → is_bent_loop points ≡ true
@@ -77,10 +81,12 @@ module _ (loops : List (List Point)) (corners : List Corner) (listing : IsListin
 
   -- it has a place in the list
   pub first_place : (j : ℕ) × (slice_get corners j ≡ Some first)
-  first_place = place_of first corners (stands_permuted first (corners_of loops) corners listing.are first_in)
+  first_place = place_of first corners (stands_permuted first
+      (corners_of loops) corners listing.are first_in)
 
   -- and a corner that is passed with it is this corner
-  first_alone : (j : ℕ) (c : Corner) → slice_get corners j ≡ Some c → key_of c ≡ key_at a → c ≡ first
+  first_alone : (j : ℕ) (c : Corner) → slice_get corners j ≡ Some c → key_of c ≡ key_at a → c
+      ≡ first
   first_alone j c at same =
       let place = first_place in
       one_corner sweep_way loops (passed_apart loops corners listing) c first
@@ -132,9 +138,11 @@ module _ (corners : List Corner) (n : ℕ) where
       let parts = found (λ i j e le high. higher (key_of (slice_index_or corners i e))
       (key_of (slice_index_or corners j e)) n (sorted i j e le high)) in
       ⊎_elim
-      (λ low. let less = less_number (key_of (slice_index_or corners k d)) n (parts.0 k d (omega arith) low) in
+      (λ low. let less = less_number (key_of (slice_index_or corners k d)) n (parts.0 k d
+      (omega arith) low) in
       omega (arith, less, same))
-      (λ high. let more = greater_number (key_of (slice_index_or corners k d)) n (parts.1 k d high within) in
+      (λ high. let more = greater_number (key_of (slice_index_or corners k d)) n
+      (parts.1 k d high within) in
       omega (arith, more, same))
       (cases_lt k place)
 
@@ -197,4 +205,5 @@ least_there [] points all at = absurd at
 least_there (one ∷ loops) points all (inl same) =
     ap is_least_first same ∙ (and_parts (is_least_first one) (list_all is_least_first loops) all).0
 least_there (one ∷ loops) points all (inr later) =
-    least_there loops points (and_parts (is_least_first one) (list_all is_least_first loops) all).1 later
+    least_there loops points (and_parts (is_least_first one)
+    (list_all is_least_first loops) all).1 later

@@ -36,7 +36,8 @@ last-map f [] = refl
 last-map f (x ∷ []) = refl
 last-map f (x ∷ y ∷ ys) = last-map f (y ∷ ys)
 
-pub first-map : {X : Type 0} (f : ℕ → X) (xs : List ℕ) → first_item (map f xs) ≡ map f (first_item xs)
+pub first-map : {X : Type 0} (f : ℕ → X) (xs : List ℕ) → first_item (map f xs) ≡ map f
+    (first_item xs)
 first-map f [] = refl
 first-map f (x ∷ xs) = refl
 
@@ -49,7 +50,8 @@ pub linked_neighbours : {X : Type 0} (f : ℕ → X) (test : X → X → Bool) (
 linked_neighbours f test [] linked = tt
 linked_neighbours f test (x ∷ []) linked = tt
 linked_neighbours f test (x ∷ y ∷ ys) linked =
-    let parts = and_parts (test (f x) (f y)) (are_linked (λ x y. test (f x) (f y)) (y ∷ ys)) linked in
+    let parts = and_parts (test (f x) (f y)) (are_linked (λ x y. test (f x) (f y))
+    (y ∷ ys)) linked in
     (parts.0, linked_neighbours f test (y ∷ ys) parts.1)
 
 -- two that are not
@@ -58,17 +60,22 @@ pub not_linked : {X : Type 0} (f : ℕ → X) (test : X → X → Bool) (xs : Li
     → (e : X) × ((g : X) × (Stands e (map f xs) × (Stands g (map f xs) × (test e g ≡ false))))
 not_linked {X = X} f test [] fails = absurd cc
 not_linked {X = X} f test (x ∷ []) fails = absurd cc
-not_linked {X = X} f test (x ∷ y ∷ ys) fails = by (test (f x) (f y)) refl (not_linked f test (y ∷ ys))
+not_linked {X = X} f test (x ∷ y ∷ ys) fails = by (test (f x) (f y)) refl (not_linked f test
+    (y ∷ ys))
   where
     by : (b : Bool) → test (f x) (f y) ≡ b
         → (are_linked (λ x y. test (f x) (f y)) (y ∷ ys) ≡ false
-        → (e : X) × ((g : X) × (Stands e (map f (y ∷ ys)) × (Stands g (map f (y ∷ ys)) × (test e g ≡ false)))))
-        → (e : X) × ((g : X) × (Stands e (map f (x ∷ y ∷ ys)) × (Stands g (map f (x ∷ y ∷ ys)) × (test e g ≡ false))))
+        → (e : X) × ((g : X) × (Stands e (map f (y ∷ ys)) × (Stands g (map f (y ∷ ys)) × (test e g
+        ≡ false)))))
+        → (e : X) × ((g : X) × (Stands e (map f (x ∷ y ∷ ys)) × (Stands g (map f (x ∷ y ∷ ys)) ×
+        (test e g ≡ false))))
     by false here rest = (f x, (f y, (inl refl, (inr (inl refl), here))))
     by true here rest = further (rest (rw here at fails))
       where
-        further : (e : X) × ((g : X) × (Stands e (map f (y ∷ ys)) × (Stands g (map f (y ∷ ys)) × (test e g ≡ false))))
-            → (e : X) × ((g : X) × (Stands e (map f (x ∷ y ∷ ys)) × (Stands g (map f (x ∷ y ∷ ys)) × (test e g ≡ false))))
+        further : (e : X) × ((g : X) × (Stands e (map f (y ∷ ys)) × (Stands g (map f (y ∷ ys)) ×
+            (test e g ≡ false))))
+            → (e : X) × ((g : X) × (Stands e (map f (x ∷ y ∷ ys)) × (Stands g (map f
+            (x ∷ y ∷ ys)) × (test e g ≡ false))))
         further (e, (g, known)) = (e, (g, (inr known.0, (inr known.1.0, known.1.1))))
 
 -- what stands there stands in the lists
@@ -135,7 +142,8 @@ pub parted_within : (test : ℕ → Bool) (xs : List ℕ)
     → (n : ℕ) × ((n ≤ length xs) × IsPartedAt test n xs)
 parted_within test xs falls = from (parted test xs falls)
   where
-    fewer : (n : ℕ) (ys : List ℕ) → IsPartedAt test n ys → (m : ℕ) × ((m ≤ length ys) × IsPartedAt test m ys)
+    fewer : (n : ℕ) (ys : List ℕ) → IsPartedAt test n ys → (m : ℕ) ×
+        ((m ≤ length ys) × IsPartedAt test m ys)
     fewer zero ys is = (zero, (omega arith, is))
     fewer (suc n) [] is = (zero, (omega arith, record { first = tt; rest = tt }))
     fewer (suc n) (y ∷ ys) is = more (fewer n ys (record { first = is.first.1; rest = is.rest }))

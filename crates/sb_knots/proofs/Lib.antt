@@ -11,3 +11,4 @@ pub mod SenseIsRight
 pub mod AllIsReached
 pub mod ListingIsMade
 pub mod FirstCorners
+mod Examples

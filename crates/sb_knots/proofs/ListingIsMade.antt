@@ -1,9 +1,13 @@
--- Sorted by when they are passed, the corners of loops in range are a listing, or two of them are one
+-- Sorted by when they are passed, the corners of loops in range are a listing, or two of them are
+-- one
 -- point: then the loops are not apart.
 
 use Rattle.std.proofs.Common.{◌≡◌, ◌⊎◌, inl, inr, refl, sym, ap, arith, ℕ, zero, suc, ℤ, pos}
-use Rattle.std.proofs.Common.{◌+◌, ◌<◌, ◌≤◌, ◌+ℤ◌, ◌<ℤ◌, ◌≤ℤ◌, unsigned_abs, true, false, List, [], ◌∷◌}
+use Rattle.std.proofs.Common.{◌+◌, ◌<◌, ◌≤◌, ◌+ℤ◌, ◌<ℤ◌, ◌≤ℤ◌, unsigned_abs, true, false, List, []}
+use Rattle.std.proofs.Common.{◌∷◌}
 use Rattle.std.proofs.Common.{length, subst, slice_index_or, ◌&&◌, add-one}
+use Rattle.std.proofs.Common.{Option, Some, Vec, Global, Bool}
+use Rattle.std.specs.Prelude.{IfSome}
 use Rattle.std.specs.List.{list_all, AllByRecursion}
 use Rattle.std.specs.List.Sorted.{IsPermutation, IsNonDecreasingBy}
 use Rattle.std.proofs.lemmas.Int.{ints}
@@ -24,7 +28,7 @@ use Rattle.theory_sweep.specs.Passing.{pass_of, sweep_way}
 use Rattle.theory_sweep.proofs.EdgesByCorners.{corners-at}
 use Rattle.theory_sweep.proofs.NeighboursInOrder.{two_from_neighbours}
 use Rattle.theory_sweep.proofs.PassedInOrder.{passed_late, passed_first, one_before}
-use Rattle.sb_knots.specs.Listing.{IsListing, IsFallen}
+use Rattle.sb_knots.specs.Listing.{IsListing, IsFallen, IsSwept}
 use Rattle.sb_knots.specs.Steps.{is_corner_in_range, key_at, key_of}
 
 -- ---- range
@@ -59,13 +63,15 @@ range_of_loop : (points : List Point) → list_all is_plan_point points ≡ true
 range_of_loop [] all = tt
 range_of_loop (a ∷ points) all =
     let parts = and_parts (is_plan_point a) (list_all is_plan_point points) all in
-    range_on (last_of a points) a points a (last_in a points parts.0 parts.1) parts.0 parts.1 parts.0
+    range_on (last_of a points) a points a
+    (last_in a points parts.0 parts.1) parts.0 parts.1 parts.0
 
 range_of : (loops : List (List Point)) → list_all (list_all is_plan_point) loops ≡ true
     → AllByRecursion InRange (corners_of loops)
 range_of [] all = tt
 range_of (points ∷ loops) all =
-    let parts = and_parts (list_all is_plan_point points) (list_all (list_all is_plan_point) loops) all in
+    let parts = and_parts (list_all is_plan_point points) (list_all
+    (list_all is_plan_point) loops) all in
     all-append InRange (corners_of_loop points) (corners_of loops) (range_of_loop points parts.0)
     (range_of loops parts.1)
 
@@ -206,3 +212,17 @@ module _ (loops : List (List Point)) (corners : List Corner)
           (λ n. key_of (slice_index_or corners n d) ≤ key_of (slice_index_or corners fallen.at d))
           (add-one fallen.at) (fallen.falls d) in
           omega (arith, low, high)))
+
+-- ---- the answers
+
+-- those that were swept
+pub swept_answers : (loops : List (List Point)) (corners : List Corner)
+    (some : Option (Vec Bool Global)) (lefts : Vec Bool Global) → some ≡ Some lefts
+    → IfSome some (λ (lefts : Vec Bool Global). (loops : List (List Point))
+    → IsListing loops corners → IsSwept loops corners lefts.items)
+    → IsListing loops corners → IsSwept loops corners lefts.items
+swept_answers loops corners some lefts is swept listing =
+    subst
+    (λ some. IfSome some (λ (lefts : Vec Bool Global). (loops : List (List Point))
+    → IsListing loops corners → IsSwept loops corners lefts.items))
+    is swept loops listing

@@ -1,8 +1,10 @@
--- Of a corner at which two edges begin, the number of edges below tells on which side of that to the
+-- Of a corner at which two edges begin, the number of edges below tells on which side of that to
+-- the
 -- point after the solid lies.
 
 use Rattle.std.proofs.Common.{◌≡◌, refl, sym, ap, ap₂, ◌∙◌, arith, ℕ, suc, ◌≤◌, ◌+◌, ◌*◌, ◌%◌}
-use Rattle.std.proofs.Common.{Bool, true, false, not, List, [], ◌∷◌, ◌++◌, length, take, drop, map, Some}
+use Rattle.std.proofs.Common.{Bool, true, false, not, List, [], ◌∷◌, ◌++◌, length, take, drop, map}
+use Rattle.std.proofs.Common.{Some}
 use Rattle.std.proofs.Common.{nat_lt, append_assoc, if◌then◌else◌}
 use Rattle.std.specs.List.{slice_get}
 use Rattle.std.proofs.lemmas.Bool.Decides.{nat_tests}
@@ -21,7 +23,8 @@ use Rattle.theory_sweep.proofs.EdgesByCorners.{corner_has}
 use Rattle.theory_sweep.proofs.PassedInOrder.{sweep_is_way}
 use Rattle.theory_sweep.proofs.SenseByRank.{sense_by_rank}
 use Rattle.sb_knots.specs.Listing.{IsListing, passed_by, IsSenseAt}
-use Rattle.sb_knots.specs.Steps.{edge_at, ids_of, begun_at, begun_by, lies_under, ends_at, drop_first}
+use Rattle.sb_knots.specs.Steps.{edge_at, ids_of, begun_at, begun_by, lies_under, ends_at}
+use Rattle.sb_knots.specs.Steps.{drop_first}
 use Rattle.sb_knots.specs.Steps.{closed_at, HaveBegun, is_even_below}
 use Rattle.sb_knots.proofs.BegunEdges.{edge_to_before, edge_to_after}
 use Rattle.sb_knots.proofs.CornersInOrder.{is_next, passed_apart}

@@ -1,12 +1,12 @@
--- A step of the program is a step of the line: as it passes a corner the edges that stand become those
--- over which the line stands then; and neighbours that may not be so show that the loops are not apart.
+-- A step of the program is a step of the line: as it passes a corner the edges that stand become
+-- those
+-- over which the line stands then; and neighbours that may not be so show that the loops are not
+-- apart.
 
 use Rattle.std.proofs.Common.{◌≡◌, ◌⊎◌, inl, inr, refl, sym, ap, ap₂, ◌∙◌, ℕ, suc, ◌≤◌}
-use Rattle.std.proofs.Common.{Bool, true, false, List, [], ◌∷◌, ◌++◌, length, take, drop, map, subst, Some}
+use Rattle.std.proofs.Common.{Bool, true, false, List, [], ◌∷◌, ◌++◌, length, take, drop, map}
+use Rattle.std.proofs.Common.{subst, Some}
 use Rattle.std.specs.List.{slice_get}
-use Rattle.std.specs.Ordering.{int_eq}
-use Rattle.std.proofs.lemmas.Bool.{and_from}
-use Rattle.std.proofs.lemmas.Bool.Decides.{Decides-int_eq}
 use Rattle.std.proofs.lemmas.List.{map-append, take-append-drop}
 use Rattle.theory_lists.specs.Members.{Stands}
 use Rattle.theory_lists.specs.Parted.{IsPartedAt}
@@ -14,30 +14,29 @@ use Rattle.theory_lists.proofs.Members.{all_follow, all_images, two_of_images}
 use Rattle.theory_lists.proofs.Blocks.{stands_before, stands_behind}
 use Rattle.sb_fraction.specs.declared.point.Point.{Point}
 use Rattle.sb_fraction.specs.Edges.{Edge}
-use Rattle.theory_plans.specs.Plans.{are_apart, is_same_point}
+use Rattle.theory_plans.specs.Plans.{are_apart}
 use Rattle.theory_plans.proofs.EdgesOfPlans.{same_point}
 use Rattle.theory_sweep.specs.Corners.{Corner, ArePassedApart}
 use Rattle.theory_sweep.specs.Open.{AreOpen, IsNext, IsSplitAt, AreBegun, MayBeNeighbours}
-use Rattle.theory_sweep.specs.Open.{FirstGoesOn, is_under, may_be_neighbours, AllNeighbours, last_item, first_item}
+use Rattle.theory_sweep.specs.Open.{FirstGoesOn, is_under, may_be_neighbours, AllNeighbours}
+use Rattle.theory_sweep.specs.Open.{last_item, first_item}
 use Rattle.theory_sweep.specs.Passing.{pass_of, sweep_way}
-use Rattle.theory_sweep.proofs.EdgesAtACorner.{refused_are_knotted}
+use Rattle.theory_sweep.proofs.EdgesAtACorner.{refused_are_knotted, same_as_itself}
+use Rattle.theory_sweep.proofs.NeighboursInOrder.{stands_in_either}
 use Rattle.theory_sweep.proofs.OverACorner.{below_first, open_then, there_then}
 use Rattle.theory_sweep.proofs.PassedInOrder.{sweep_is_way}
 use Rattle.sb_knots.specs.Listing.{IsListing, passed_by}
-use Rattle.sb_knots.specs.Steps.{edge_at, ids_of, begun_at, lies_under, ends_at, drop_first, closed_at}
+use Rattle.sb_knots.specs.Steps.{edge_at, ids_of, begun_at, lies_under, ends_at, drop_first}
+use Rattle.sb_knots.specs.Steps.{closed_at}
 use Rattle.sb_knots.specs.Steps.{joint_at, HaveBegun, are_linked, may_follow}
 use Rattle.sb_knots.proofs.BegunInOrder.{begun_are}
 use Rattle.sb_knots.proofs.CornersInOrder.{is_next, passed_next, passed_apart, range_at}
 use Rattle.sb_knots.proofs.EditsOfIds.{take_put, drop_put}
-use Rattle.sb_knots.proofs.JointsOfLists.{last_before, first_behind, last-map, first-map, linked_neighbours}
+use Rattle.sb_knots.proofs.JointsOfLists.{last_before, first_behind, last-map, first-map}
+use Rattle.sb_knots.proofs.JointsOfLists.{linked_neighbours}
 use Rattle.sb_knots.proofs.JointsOfLists.{not_linked, last_stands, first_stands, take_first}
-use Rattle.sb_knots.proofs.JointsOfLists.{first_and_rest, first_pass, rest_keeps, rest_fails, parted_within}
-
-same_as : (a b : Point) → a ≡ b → is_same_point a b ≡ true
-same_as a b one =
-    and_from (int_eq a.x b.x) (int_eq a.y b.y)
-    ((Decides-int_eq a.x b.x).1 (ap (λ p. p.x) one))
-    ((Decides-int_eq a.y b.y).1 (ap (λ p. p.y) one))
+use Rattle.sb_knots.proofs.JointsOfLists.{first_and_rest, first_pass, rest_keeps, rest_fails}
+use Rattle.sb_knots.proofs.JointsOfLists.{parted_within}
 
 module _ (loops : List (List Point)) (corners : List Corner) (listing : IsListing loops corners)
     (k : ℕ) (c : Corner) (at : slice_get corners k ≡ Some c) (ids : List ℕ)
@@ -56,7 +55,8 @@ module _ (loops : List (List Point)) (corners : List Corner) (listing : IsListin
       (below_first sweep_way sweep_is_way loops apart listing.bent (passed_by corners k)
       (map (edge_at corners) ids) now c next))
 
-  module _ (n : ℕ) (within : n ≤ length ids) (parted : IsPartedAt (lies_under corners c.at) n ids) where
+  module _ (n : ℕ) (within : n ≤ length ids) (parted : IsPartedAt
+      (lies_under corners c.at) n ids) where
     abbrev front : List ℕ
     front = take n ids
 
@@ -73,7 +73,7 @@ module _ (loops : List (List Point)) (corners : List Corner) (listing : IsListin
         → FirstGoesOn c.at (map (edge_at corners) gs)
     goes_on [] fails = tt
     goes_on (x ∷ xs) fails = λ ends.
-        clash (fails x xs refl) (same_as (edge_at corners x).b c.at ends)
+        clash (fails x xs refl) (same_as_itself (edge_at corners x).b c.at ends)
       where
         clash : {b : Bool} → b ≡ false → b ≡ true → ⊥
         clash none some = cc
@@ -85,7 +85,8 @@ module _ (loops : List (List Point)) (corners : List Corner) (listing : IsListin
       split = ap (map (edge_at corners)) (sym (take-append-drop n ids)
           ∙ ap (λ t. take n ids ++ t) (sym (first_and_rest (ends_at corners c.at) (drop n ids))))
           ∙ map-append (edge_at corners) front (ending ++ back)
-          ∙ ap (λ t. map (edge_at corners) (take n ids) ++ t) (map-append (edge_at corners) ending back);
+          ∙ ap (λ t. map (edge_at corners) (take n ids) ++ t) (map-append
+          (edge_at corners) ending back);
       under = all_images (λ e. is_under c.at e ≡ true) (edge_at corners) front parted.first;
       ends = all_images (λ e. e.b ≡ c.at) (edge_at corners) ending
           (all_follow (λ x ends. same_point (edge_at corners x).b c.at ends) ending
@@ -124,19 +125,10 @@ module _ (loops : List (List Point)) (corners : List Corner) (listing : IsListin
         → Stands e (map (edge_at corners) front
         ++ (map (edge_at corners) new ++ map (edge_at corners) back))
     joint_stands e e_in =
-        by (in_either (last_item (map (edge_at corners) front))
+        by (stands_in_either e (last_item (map (edge_at corners) front))
         (map (edge_at corners) new ++ first_item (map (edge_at corners) back))
         (subst (Stands e) joint_edges e_in))
       where
-        in_either : (xs ys : List Edge) → Stands e (xs ++ ys) → Stands e xs ⊎ Stands e ys
-        in_either [] ys there = inr there
-        in_either (x ∷ xs) ys (inl one) = inl (inl one)
-        in_either (x ∷ xs) ys (inr more) = further (in_either xs ys more)
-          where
-            further : Stands e xs ⊎ Stands e ys → Stands e (x ∷ xs) ⊎ Stands e ys
-            further (inl there) = inl (inr there)
-            further (inr there) = inr there
-
         second : Stands e (map (edge_at corners) new)
             ⊎ Stands e (first_item (map (edge_at corners) back))
             → Stands e (map (edge_at corners) front
@@ -160,13 +152,15 @@ module _ (loops : List (List Point)) (corners : List Corner) (listing : IsListin
             (map (edge_at corners) new ++ map (edge_at corners) back)
             (last_stands e (map (edge_at corners) front) there)
         by (inr more) =
-            second (in_either (map (edge_at corners) new) (first_item (map (edge_at corners) back)) more)
+            second (stands_in_either e (map (edge_at corners) new) (first_item (map
+            (edge_at corners) back)) more)
 
     -- where they are not linked the loops are not apart
     pub refused : are_linked (may_follow corners)
         (joint_at n (begun_at c k) (closed_at corners c.at n ids)) ≡ false → are_apart loops ≡ false
     refused fails =
-        from (not_linked (edge_at corners) may_be_neighbours (last_item front ++ (new ++ first_item back))
+        from (not_linked (edge_at corners) may_be_neighbours (last_item front ++
+        (new ++ first_item back))
         (subst (λ l. are_linked (may_follow corners) l ≡ false) joint_is fails))
       where
         from : (e : Edge) × ((g : Edge)

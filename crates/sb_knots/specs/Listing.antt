@@ -1,6 +1,7 @@
 -- The corners of loops in the order in which the line passes them.
 
-use Rattle.std.specs.Prelude.{◌≡◌, ◌<ℤ◌, true, Bool, ℕ, zero, suc, ℤ, negsuc, List, [], ◌∷◌, map, slice_get, length, ◌+◌, ◌<◌, ◌≤◌, slice_index_or}
+use Rattle.std.specs.Prelude.{◌≡◌, ◌<ℤ◌, true, Bool, ℕ, zero, suc, ℤ, negsuc, List, [], ◌∷◌, map}
+use Rattle.std.specs.Prelude.{slice_get, length, ◌+◌, ◌<◌, ◌≤◌, slice_index_or}
 use Rattle.std.specs.Prelude.{Some}
 use Rattle.std.specs.List.{list_all}
 use Rattle.std.specs.List.Sorted.{IsPermutation}
@@ -22,7 +23,8 @@ pub record IsListing (loops : List (List Point)) (corners : List Corner) : Type 
   pub are : IsPermutation (corners_of loops) corners
   pub rising : AllOfTwo (λ b c. pass_of sweep_way b.at <ℤ pass_of sweep_way c.at) corners
 
--- the number at which the line passed the last of the first n corners; where there is none, this one
+-- the number at which the line passed the last of the first n corners; where there is none, this
+-- one
 abbrev pub passed_from : ℤ → List Corner → ℕ → ℤ
 passed_from low [] n = low
 passed_from low (c ∷ cs) zero = low
@@ -32,7 +34,8 @@ passed_from low (c ∷ cs) (suc n) = passed_from (pass_of sweep_way c.at) cs n
 abbrev pub passed_by : List Corner → ℕ → ℤ
 passed_by corners n = passed_from (negsuc 500001000000) corners n
 
--- of a corner at which two edges begin: whether the solid lies on the left of that to the point after,
+-- of a corner at which two edges begin: whether the solid lies on the left of that to the point
+-- after,
 -- if the loops are apart
 abbrev pub IsSenseAt : List (List Point) → Corner → Bool → Type 0
 IsSenseAt loops c left =
@@ -48,7 +51,8 @@ pub record IsReached (loops : List (List Point)) (corners : List Corner) (n : �
       → slice_get lefts k ≡ Some left → IsSenseAt loops c left
 
 -- there is an answer for each corner, and it is the sense, where two edges begin
-pub record HaveSenses (loops : List (List Point)) (corners : List Corner) (lefts : List Bool) : Type 0
+pub record HaveSenses (loops : List (List Point)) (corners : List Corner)
+    (lefts : List Bool) : Type 0
   where
     pub count : length lefts ≡ length corners
     pub senses : (k : ℕ) (c : Corner) (left : Bool) → slice_get corners k ≡ Some c
@@ -64,4 +68,5 @@ pub record IsSwept (loops : List (List Point)) (corners : List Corner) (lefts : 
 pub record IsFallen (corners : List Corner) : Type 0 where
   pub at : ℕ
   pub within : at + 1 < length corners
-  pub falls : (d : Corner) → key_of (slice_index_or corners (at + 1) d) ≤ key_of (slice_index_or corners at d)
+  pub falls : (d : Corner) → key_of (slice_index_or corners (at + 1) d) ≤ key_of
+      (slice_index_or corners at d)

@@ -1,8 +1,10 @@
 -- A step of the line from corner to corner, over lists of the numbers of edges.
 
-use Rattle.std.specs.Prelude.{ℕ, zero, suc, ◌+◌, ◌*◌, ◌/◌, ◌%◌, ◌<◌, ◌≤◌, Bool, true, false, ◌&&◌, not}
+use Rattle.std.specs.Prelude.{ℕ, zero, suc, ◌+◌, ◌*◌, ◌/◌, ◌%◌, ◌<◌, ◌≤◌, Bool, true, false, ◌&&◌}
+use Rattle.std.specs.Prelude.{not}
 use Rattle.std.specs.Prelude.{pos, unsigned_abs, ◌+ℤ◌, nat_lt, ◌≡◌, if◌then◌else◌}
-use Rattle.std.specs.Prelude.{List, [], ◌∷◌, ◌++◌, length, take, drop, slice_get, remove, Option, Some, None}
+use Rattle.std.specs.Prelude.{List, [], ◌∷◌, ◌++◌, length, take, drop, slice_get, remove, Option}
+use Rattle.std.specs.Prelude.{Some, None}
 use Rattle.sb_fraction.specs.declared.point.Point.{Point}
 use Rattle.sb_fraction.specs.Edges.{Edge, edge}
 use Rattle.sb_fraction.specs.Plane.{is_plan_point}
@@ -104,7 +106,8 @@ is_even_below rank Neither = false
 -- ---- edges that end
 
 -- item n, which ends at v, was taken out
-pub record IsTaken (corners : List Corner) (v : Point) (n : ℕ) (before after : List ℕ) : Type 0 where
+pub record IsTaken (corners : List Corner) (v : Point) (n : ℕ)
+    (before after : List ℕ) : Type 0 where
   pub within : n < length before
   pub ends : (id : ℕ) → slice_get before n ≡ Some id → ends_at corners v id ≡ true
   pub rest : after ≡ remove before n

@@ -1,6 +1,7 @@
 //! The corners of loops, and when the line passes them.
 
-ghost use Rattle.std.specs.Prelude.{◌≡◌, ◌<◌, ◌++◌, ◌+ℤ◌, ◌*ℤ◌, ◌≤◌, unsigned_abs, IsTrue, OnOk, IfOk, pos, length};
+ghost use Rattle.std.specs.Prelude.{◌≡◌, ◌<◌, ◌++◌, ◌+ℤ◌, ◌*ℤ◌, ◌≤◌, unsigned_abs, IsTrue, OnOk};
+ghost use Rattle.std.specs.Prelude.{IfOk, pos, length};
 ghost use Rattle.std.specs.List.{list_all};
 ghost use Rattle.std.specs.List.Sorted.{IsPermutation, IsNonDecreasingBy};
 ghost use Rattle.sb_fraction.specs.Plane.{is_plan_point};

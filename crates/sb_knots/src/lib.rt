@@ -1,7 +1,8 @@
 //! Whether the edges of loops are apart, and on which side of each loop the solid lies.
 //!
 //! The loops are normalised: bent at each point, each begun at its least. A line passes over their
-//! corners, by x and then by y, and the edges over which it stands are kept in order from below. Begin
+//! corners, by x and then by y, and the edges over which it stands are kept in order from below.
+//! Begin
 //! with [`senses`].
 #![tactic(auto)]
 

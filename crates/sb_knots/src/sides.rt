@@ -1,6 +1,7 @@
 //! The answer: apart or not, and the sense of each loop.
 
-ghost use Rattle.std.specs.Prelude.{◌≡◌, ◌↔◌, ℕ, ◌+◌, ◌<◌, ◌≤◌, map, true, false, None, IsTrue, IfOk, IfSome};
+ghost use Rattle.std.specs.Prelude.{◌≡◌, ◌↔◌, ℕ, ◌+◌, ◌<◌, ◌≤◌, map, true, false, None, IsTrue};
+ghost use Rattle.std.specs.Prelude.{IfOk, IfSome};
 ghost use Rattle.std.specs.Prelude.{length, List, slice_index_or, take};
 ghost use Rattle.std.specs.List.{list_all};
 ghost use Rattle.std.specs.List.Sorted.{IsNonDecreasingBy, IsPermutation};
@@ -15,21 +16,22 @@ ghost use Rattle.theory_sweep.specs.Corners.{Corner, corners_of};
 ghost use Rattle.sb_knots.specs.Listing.{IsListing, IsSwept, IsFallen};
 ghost use Rattle.sb_knots.specs.Steps.{key_of};
 
-use crate::corners as list;
-use crate::corners::{corners_in_order, pass_at};
+use crate::corners::{Corner, corners_in_order, pass_at};
 use crate::lists::{PointLists, Senses};
 use crate::sweep::sweep;
-use sb_fraction as fraction;
+use sb_fraction::Point;
 use sb_list::Listed;
 use std::alloc::{AllocError, Global};
 
 /// How many corners have edges with numbers of 32 bits.
 const MOST: usize = 2147483648;
 
-/// Of normalised loops, whether their edges are apart, and for each loop whether the solid lies on its
+/// Of normalised loops, whether their edges are apart, and for each loop whether the solid lies on
+/// its
 /// left: for all edges of the loop or for none.
 ///
-/// - `Ok(None)`: exactly where two edges meet otherwise than as consecutive ends, or a point is a corner
+/// - `Ok(None)`: exactly where two edges meet otherwise than as consecutive ends, or a point is a
+/// corner
 ///   twice.
 /// - `Ok(Some(senses))`: for each loop, in order, whether the solid lies left of its first edge, by
 ///   the parity of the edges of all loops.
@@ -54,7 +56,7 @@ pub fn senses(alloc: Global, loops: &PointLists) -> Result<Option<Senses>, Alloc
 fn senses_by(
     alloc: Global,
     loops: &PointLists,
-    corners: &[list::Corner],
+    corners: &[Corner],
 ) -> Result<Option<Senses>, AllocError>
     requires in_range { IsTrue (list_all (list_all is_plan_point) loops.now) }
     requires bent { IsTrue (list_all is_bent_loop loops.now) }
@@ -72,14 +74,14 @@ fn senses_by(
     match sweep(alloc, corners)? {
         None => Ok(None),
         Some(lefts) => {
-            let senses = senses_of(alloc, loops, corners, &lefts)?;
+            let senses = senses_of(alloc, loops, corners, lefts.as_slice())?;
             Ok(Some(senses))
         }
     }
 }
 
 /// Each corner is passed before the next.
-fn are_rising(corners: &[list::Corner]) -> bool
+fn are_rising(corners: &[Corner]) -> bool
     ensures rising { result ≡ true → (j : ℕ) (d : Corner) → j + 1 < length corners.now
         → key_of (slice_index_or corners.now j d) < key_of (slice_index_or corners.now (j + 1) d) }
     ensures fallen { result ≡ false → IsFallen corners.now }
@@ -96,17 +98,16 @@ fn are_rising(corners: &[list::Corner]) -> bool
 fn senses_of(
     alloc: Global,
     loops: &PointLists,
-    corners: &[list::Corner],
-    lefts: &Vec<bool>,
+    corners: &[Corner],
+    lefts: &[bool],
 ) -> Result<Senses, AllocError>
-    requires count { length lefts.now.items ≡ length corners.now }
+    requires count { length lefts.now ≡ length corners.now }
     requires sorted { IsNonDecreasingBy key_of corners.now }
     ensures { IfOk result (λ senses. IsListing loops.now corners.now
-        → IsSwept loops.now corners.now lefts.now.items
+        → IsSwept loops.now corners.now lefts.now
         → list_all is_least_first loops.now ≡ true
         → senses ≡ map (is_left_at_first (edges_of loops.now)) loops.now) }
 {
-    let lefts = lefts.as_slice();
     let mut senses = Listed::new(alloc);
     'loops: for points in loops.as_slice() {
         senses.push(sense_of(corners, lefts, points.as_slice()))?;
@@ -115,7 +116,7 @@ fn senses_of(
 }
 
 /// The answer at the first point of a loop.
-fn sense_of(corners: &[list::Corner], lefts: &[bool], points: &[fraction::Point]) -> bool
+fn sense_of(corners: &[Corner], lefts: &[bool], points: &[Point]) -> bool
     requires count { length lefts.now ≡ length corners.now }
     requires sorted { IsNonDecreasingBy key_of corners.now }
     ensures { (loops : List (List Point)) → IsListing loops corners.now

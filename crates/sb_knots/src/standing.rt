@@ -1,12 +1,15 @@
 //! The edges over which the line stands, in order from below.
 
-ghost use Rattle.std.specs.Prelude.{◌≡◌, ◌≢◌, ℕ, ◌<◌, ◌≤◌, ◌/◌, ◌++◌, ◌∷◌, [], take, drop, length, slice_get};
-ghost use Rattle.std.specs.Prelude.{remove, insert, IsTrue, OnOk, true, false, nat_lt, Option, ◌&&◌};
+ghost use Rattle.std.specs.Prelude.{◌≡◌, ◌≢◌, ℕ, ◌<◌, ◌≤◌, ◌/◌, ◌++◌, ◌∷◌, [], take, drop, length};
+ghost use Rattle.std.specs.Prelude.{slice_get};
+ghost use Rattle.std.specs.Prelude.{remove, insert, IsTrue, OnOk, true, false, nat_lt, Option};
+ghost use Rattle.std.specs.Prelude.{◌&&◌};
 ghost use Rattle.std.specs.List.{concat, list_all, list_any};
 ghost use Rattle.theory_lists.specs.Parted.{IsPartedAt};
 ghost use Rattle.sb_fraction.specs.Plane.{is_plan_point};
 ghost use Rattle.sb_blocks.specs.Places.{rank_of, IsPlace, item_before};
-ghost use Rattle.sb_knots.specs.Steps.{edge_at, is_edge, lies_under, ends_at, drop_first, ids_of, are_linked};
+ghost use Rattle.sb_knots.specs.Steps.{edge_at, is_edge, lies_under, ends_at, drop_first, ids_of};
+ghost use Rattle.sb_knots.specs.Steps.{are_linked};
 ghost use Rattle.sb_knots.specs.Steps.{may_follow, listed, IsTaken, IsLeft, IsClosed};
 
 use crate::begun::Begun;
@@ -152,7 +155,8 @@ pub(crate) fn put_begun(
     }
 }
 
-/// Whether the edges that begin may be neighbours, and the edges before and behind the place theirs.
+/// Whether the edges that begin may be neighbours, and the edges before and behind the place
+/// theirs.
 #[tactic(auto, using(crate::proofs::EditsOfIds::links))]
 pub(crate) fn may_join(corners: &[Corner], standing: &Blocks, place: Place, begun: Begun) -> bool
     requires ids { IsTrue (list_all (is_edge corners.now) (concat standing.now)) }

@@ -1,6 +1,7 @@
 //! The line passes over the corners.
 
-ghost use Rattle.std.specs.Prelude.{◌≡◌, ℕ, ◌<◌, ◌≤◌, Bool, Some, None, Ok, false, length, slice_get, IsTrue};
+ghost use Rattle.std.specs.Prelude.{◌≡◌, ℕ, ◌<◌, ◌≤◌, Bool, Some, None, Ok, false, length};
+ghost use Rattle.std.specs.Prelude.{slice_get, IsTrue};
 ghost use Rattle.std.specs.Prelude.{List, IfOk, IfSome};
 ghost use Rattle.std.specs.List.{concat, list_all, list_any};
 ghost use Rattle.theory_lists.specs.Parted.{IsPartedAt};
@@ -8,21 +9,23 @@ ghost use Rattle.sb_fraction.specs.declared.point.Point.{Point};
 ghost use Rattle.sb_fraction.specs.Plane.{is_plan_point};
 ghost use Rattle.theory_plans.specs.Plans.{are_apart};
 ghost use Rattle.theory_sweep.specs.Corners.{Corner};
-ghost use Rattle.sb_knots.specs.Steps.{is_edge, lies_under, ids_of, are_linked, may_follow, joint_at, HaveBegun};
+ghost use Rattle.sb_knots.specs.Steps.{is_edge, lies_under, ids_of, are_linked, may_follow};
+ghost use Rattle.sb_knots.specs.Steps.{joint_at, HaveBegun};
+ghost use Rattle.sb_blocks.specs.Places.{rank_of, IsPlace};
 ghost use Rattle.sb_knots.specs.Listing.{IsListing, IsSwept};
-ghost use Rattle.sb_knots.specs.Steps.{closed_at, begun_at};
+ghost use Rattle.sb_knots.specs.Steps.{closed_at, begun_at, is_even_below};
 
 use crate::begun::{Begun, edges_begun, is_even_below};
-use crate::corners as list;
+use crate::corners::Corner;
 use crate::standing::{close, may_join, place_over, put_begun};
-use sb_blocks::Blocks;
+use sb_blocks::{Blocks, Place};
 use sb_fraction::Point;
 use std::alloc::{AllocError, Global};
 
 /// Lets edges begin, if they may be neighbours of those before and behind them. Answers whether an
 /// even number of edges lies below that to the point after the corner, of two that begin.
 fn begin(
-    corners: &[list::Corner],
+    corners: &[Corner],
     standing: &mut Blocks,
     v: Point,
     begun: Begun,
@@ -44,14 +47,28 @@ fn begin(
     if !may_join(corners, standing, place, begun) {
         return Ok(None);
     }
-    let rank = standing.rank(place);
+    let even = is_even_there(standing, place, begun);
     put_begun(corners, standing, v, begun)?;
-    Ok(Some(is_even_below(rank, begun)))
+    Ok(Some(even))
+}
+
+// Of two edges that begin at the place, whether an even number lies below that to the point after.
+// Only
+// for two are the blocks gone through.
+fn is_even_there(standing: &Blocks, place: Place, begun: Begun) -> bool
+    requires { IsPlace standing.now place }
+    ensures { result ≡ is_even_below (rank_of standing.now place) begun }
+{
+    match begun {
+        Begun::Two(_, _) => is_even_below(standing.rank(place), begun),
+        Begun::One(_) => false,
+        Begun::Neither => false,
+    }
 }
 
 /// The line passes corner `k`.
 fn pass_corner(
-    corners: &[list::Corner],
+    corners: &[Corner],
     standing: &mut Blocks,
     k: usize,
 ) -> Result<Option<bool>, AllocError>
@@ -77,12 +94,10 @@ fn pass_corner(
     begin(corners, standing, c.at, begun)
 }
 
-/// The line passes over all corners. Answers for each whether an even number of edges lies below that
+/// The line passes over all corners. Answers for each whether an even number of edges lies below
+/// that
 /// to the point after it, where two begin; or `None` as soon as two neighbours may not be so.
-pub(crate) fn sweep(
-    alloc: Global,
-    corners: &[list::Corner],
-) -> Result<Option<Vec<bool>>, AllocError>
+pub(crate) fn sweep(alloc: Global, corners: &[Corner]) -> Result<Option<Vec<bool>>, AllocError>
     requires few { length corners.now ≤ 2147483648 }
     ensures knotted { result ≡ Ok None → (loops : List (List Point)) → IsListing loops corners.now
         → are_apart loops ≡ false }

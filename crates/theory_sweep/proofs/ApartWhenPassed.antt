@@ -2,11 +2,9 @@
 
 use Rattle.std.proofs.Common.{◌≡◌, ◌⊎◌, inl, inr, refl, sym, ap, ◌∙◌, arith, ℤ, pos, subst}
 use Rattle.std.proofs.Common.{◌<ℤ◌, ◌≤ℤ◌, true, List, [], ◌∷◌, map}
-use Rattle.std.specs.Ordering.{int_eq}
 use Rattle.std.specs.List.{list_all}
 use Rattle.std.proofs.lemmas.Int.{ints}
-use Rattle.std.proofs.lemmas.Bool.{or_left, or_right, and_from}
-use Rattle.std.proofs.lemmas.Bool.Decides.{Decides-int_eq}
+use Rattle.std.proofs.lemmas.Bool.{or_left, or_right}
 use Rattle.theory_lists.specs.Members.{Stands, AllOfTwo, AreOnce}
 use Rattle.theory_lists.proofs.Members.{all_stands, all_images, two_follow, two_of_images}
 use Rattle.theory_numbers.specs.Arrows.{Arrow}
@@ -32,7 +30,7 @@ use Rattle.theory_sweep.specs.Corners.{Corner, corners_of, ArePassedApart}
 use Rattle.theory_sweep.specs.Open.{IsEdgeOf, AreOpen, IsEnd, ShareEndsUpTo}
 use Rattle.theory_sweep.proofs.EdgesByCorners.{corners-at, edge_starts, edge_finishes}
 use Rattle.theory_sweep.proofs.EdgesByCorners.{corners_are_bent, IsBentAt}
-use Rattle.theory_sweep.proofs.EdgesAtACorner.{corner_at_a, corner_at_b, one_corner}
+use Rattle.theory_sweep.proofs.EdgesAtACorner.{corner_at_a, corner_at_b, one_corner, same_as_itself}
 use Rattle.theory_sweep.proofs.PointsOfRisingEdges.{passed_between, cross_whole}
 use Rattle.theory_sweep.proofs.OrderIsKept.{whole_is, whole_at_most}
 
@@ -41,12 +39,6 @@ pub two_images : {X Y : Type 0} (R : Y → Y → Type 0) (f : X → Y) (xs : Lis
     → AllOfTwo (λ x y. R (f x) (f y)) xs → AllOfTwo R (map f xs)
 two_images R f [] two = tt
 two_images R f (x ∷ xs) two = (all_images (R (f x)) f xs two.0, two_images R f xs two.1)
-
-same_as_itself : (a b : Point) → a ≡ b → is_same_point a b ≡ true
-same_as_itself a b one =
-    and_from (int_eq a.x b.x) (int_eq a.y b.y)
-    ((Decides-int_eq a.x b.x).1 (ap (λ p. p.x) one))
-    ((Decides-int_eq a.y b.y).1 (ap (λ p. p.y) one))
 
 -- a way that stays or goes back goes straight
 bend_stays : (a b c : Point) → b ≡ c → bend a b c ≡ pos 0
@@ -72,7 +64,8 @@ pub none_at_first : (d : Arrow) → IsWay d → (loops : List (List Point)) (k :
     → ((c : Corner) → Stands c (corners_of loops) → k <ℤ pass_of d c.at) → AreOpen d loops k []
 none_at_first d d_is loops k before = record {
   there = λ e e_in. absurd e_in;
-  each = λ e e_is. let later = begins e e_is.edge in let early = e_is.begun in absurd (omega (arith, ints));
+  each = λ e e_is. let later = begins e e_is.edge in let early = e_is.begun in absurd (omega
+      (arith, ints));
   sorted = tt;
   near = tt;
   met = λ e f e_is f_is other p p_is on_e on_f upto.
@@ -170,7 +163,8 @@ module _ (d : Arrow) (loops : List (List Point)) (apart : ArePassedApart d loops
 
   module _ (d_is : IsWay d) (k : ℤ) (met : ShareEndsUpTo d loops k)
       (passed : (c : Corner) → Stands c (corners_of loops) → pass_of d c.at ≤ℤ k) where
-    end_of_sense : (x e : Edge) → (e ≡ x) ⊎ (e ≡ turned_edge x) → (q : Point) → IsEnd q e → IsEnd q x
+    end_of_sense : (x e : Edge) → (e ≡ x) ⊎ (e ≡ turned_edge x) → (q : Point) → IsEnd q e
+        → IsEnd q x
     end_of_sense x e (inl one) q (inl a) = inl (sym (ap (λ g. g.a) one) ∙ a)
     end_of_sense x e (inl one) q (inr b) = inr (sym (ap (λ g. g.b) one) ∙ b)
     end_of_sense x e (inr one) q (inl a) = inr (sym (ap (λ g. g.a) one) ∙ a)
@@ -223,9 +217,11 @@ module _ (d : Arrow) (loops : List (List Point)) (apart : ArePassedApart d loops
         ends q (inl a) (inl b) = absurd (other (a ∙ sym b))
         ends q (inr a) (inr b) = absurd (other (begin_where_end x y x_in y_in (a ∙ sym b)))
         ends q (inr a) (inl b) =
-            or_left (is_same_point x.b y.a) (is_same_point y.b x.a) (same_as_itself x.b y.a (a ∙ sym b))
+            or_left (is_same_point x.b y.a) (is_same_point y.b x.a) (same_as_itself x.b y.a (a
+            ∙ sym b))
         ends q (inl a) (inr b) =
-            or_right (is_same_point x.b y.a) (is_same_point y.b x.a) (same_as_itself y.b x.a (b ∙ sym a))
+            or_right (is_same_point x.b y.a) (is_same_point y.b x.a) (same_as_itself y.b x.a (b
+            ∙ sym a))
 
         shared : (q : Point) × (IsEnd q (rise_of x x_in).risen × IsEnd q (rise_of y y_in).risen)
             → is_consecutive x y ≡ true
@@ -238,5 +234,6 @@ module _ (d : Arrow) (loops : List (List Point)) (apart : ArePassedApart d loops
     apart_when_passed =
         (apart_is loops).1 (
           corners_are_once,
-          two_follow (λ x y. x.a ≡ y.a → ⊥) MeetConsecutively (edges_of loops) meet_so starts_are_once,
+          two_follow (λ x y. x.a ≡ y.a → ⊥) MeetConsecutively
+              (edges_of loops) meet_so starts_are_once,
         )

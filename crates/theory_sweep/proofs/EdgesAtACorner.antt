@@ -1,4 +1,5 @@
--- Where no two corners are passed together two edges come to each corner and no other, and these meet
+-- Where no two corners are passed together two edges come to each corner and no other, and these
+-- meet
 -- nowhere else. So neighbours that pass the test meet at one end at most, and loops with neighbours
 -- that do not pass it are not apart.
 
@@ -33,13 +34,15 @@ use Rattle.theory_loops.proofs.TouchingHavePoint.{touch_is}
 use Rattle.theory_sweep.specs.Passing.{pass_of}
 use Rattle.theory_sweep.specs.Corners.{Corner, corners_of, ArePassedApart}
 use Rattle.theory_sweep.specs.Open.{IsEdgeOf, IsOpenAt, MeetAtOneEnd, IsEnd, may_be_neighbours}
-use Rattle.theory_sweep.proofs.EdgesByCorners.{edge_starts, edge_finishes, corners_are_bent, IsBentAt}
+use Rattle.theory_sweep.proofs.EdgesByCorners.{edge_starts, edge_finishes, corners_are_bent}
+use Rattle.theory_sweep.proofs.EdgesByCorners.{IsBentAt}
 
 same_edge : (e : Edge) (a b : Point) → a ≡ e.a → b ≡ e.b → e ≡ edge a b
 same_edge e a b same_a same_b =
     let whole : edge e.a e.b ≡ edge a b = ap₂ edge (sym same_a) (sym same_b) in whole
 
-same_as_itself : (a b : Point) → a ≡ b → is_same_point a b ≡ true
+-- equal points are one by the test
+pub same_as_itself : (a b : Point) → a ≡ b → is_same_point a b ≡ true
 same_as_itself a b one =
     and_from (int_eq a.x b.x) (int_eq a.y b.y)
     ((Decides-int_eq a.x b.x).1 (ap (λ p. p.x) one))
@@ -84,7 +87,8 @@ module _ (d : Arrow) (loops : List (List Point)) (apart : ArePassedApart d loops
       → pass_of d b.at ≡ pass_of d c.at → b ≡ c
   one_corner b c b_in c_in same =
       from
-      (one_or_two (λ x y. pass_of d x.at ≡ pass_of d y.at → ⊥) b c (corners_of loops) apart b_in c_in)
+      (one_or_two (λ x y. pass_of d x.at ≡ pass_of d y.at → ⊥) b c
+      (corners_of loops) apart b_in c_in)
     where
       from : (b ≡ c)
           ⊎ ((pass_of d b.at ≡ pass_of d c.at → ⊥) ⊎ (pass_of d c.at ≡ pass_of d b.at → ⊥)) → b ≡ c
@@ -283,7 +287,8 @@ module _ (d : Arrow) (loops : List (List Point)) (k : ℤ) where
       → may_be_neighbours e f ≡ false → are_apart loops ≡ false
   refused_are_knotted e f e_is f_is fails = false_from_ne_true (are_apart loops) clash
     where
-      parts : (is_same_point e.a f.a ≡ false) × ((is_same_point e.b f.b || not (do_touch e f)) ≡ false)
+      parts : (is_same_point e.a f.a ≡ false) × ((is_same_point e.b f.b || not (do_touch e f))
+          ≡ false)
       parts = or_parts (is_same_point e.a f.a) (is_same_point e.b f.b || not (do_touch e f)) fails
 
       more : (is_same_point e.b f.b ≡ false) × (not (do_touch e f) ≡ false)

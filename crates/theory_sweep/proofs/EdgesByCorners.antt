@@ -73,7 +73,8 @@ loops_have : (es : List Edge) (loops : List (List Point))
 loops_have es [] there = tt
 loops_have es (points ∷ loops) there =
     all-append (HasEdges es) (corners_of_loop points) (corners_of loops)
-    (loop_has es points (λ e at. there e (stands_before e (edges_of_loop points) (edges_of loops) at)))
+    (loop_has es points (λ e at. there e (stands_before e (edges_of_loop points)
+    (edges_of loops) at)))
     (loops_have es loops
     (λ e at. there e (stands_behind e (edges_of_loop points) (edges_of loops) at)))
 

@@ -18,3 +18,4 @@ pub mod PassedInOrder
 -- the side of the solid
 pub mod PassingItems
 pub mod SenseByRank
+mod Examples

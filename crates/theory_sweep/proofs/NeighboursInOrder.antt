@@ -1,9 +1,9 @@
 -- Where a relation hands on, it holds of each two items of a list of which it holds of each two
 -- neighbours.
 
-use Rattle.std.proofs.Common.{List, [], ◌∷◌, ◌++◌, sym, subst, append_assoc}
+use Rattle.std.proofs.Common.{List, [], ◌∷◌, ◌++◌, sym, subst, append_assoc, ◌⊎◌, inl, inr}
 use Rattle.std.specs.List.{AllByRecursion}
-use Rattle.theory_lists.specs.Members.{AllOfTwo}
+use Rattle.theory_lists.specs.Members.{Stands, AllOfTwo}
 use Rattle.theory_sweep.specs.Open.{AllNeighbours, last_item, first_item}
 
 module _ {X : Type 0} where
@@ -86,3 +86,13 @@ module _ {X : Type 0} where
       (subst (AllNeighbours R) (append_assoc (last_item front) mid back)
       (join_back R (last_item front ++ mid) back near_back
       (subst (AllNeighbours R) (sym (append_assoc (last_item front) mid (first_item back))) joint)))
+
+  -- what stands in two lists put together stands in one of them
+  pub stands_in_either : (x : X) (xs ys : List X) → Stands x (xs ++ ys) → Stands x xs ⊎ Stands x ys
+  stands_in_either x [] ys at = inr at
+  stands_in_either x (y ∷ xs) ys (inl same) = inl (inl same)
+  stands_in_either x (y ∷ xs) ys (inr later) = from (stands_in_either x xs ys later)
+    where
+      from : Stands x xs ⊎ Stands x ys → Stands x (y ∷ xs) ⊎ Stands x ys
+      from (inl there) = inl (inr there)
+      from (inr there) = inr there

@@ -92,7 +92,8 @@ module _ (d : Arrow) (d_is : IsWay d) (k : ℤ) (u : Arrow) (u_in : IsRational u
           over_place d d_is f f_is.rising y (value_of d y e) y_in v_in (begun f f_is) (ends f f_is)
           (same_sym (value_of d y e) (value_of d y f) same)
 
-      passed : (c : Point) → IsAt (spot_in d y (value_of d y e)) c → IsSame y (at_pass (pass_of d c))
+      passed : (c : Point) → IsAt (spot_in d y (value_of d y e)) c → IsSame y (at_pass
+          (pass_of d c))
       passed c at =
           same_place d y (value_of d y e) (at_pass (pass_of d c)) d_is v_in
           (passed_there d (spot_in d y (value_of d y e)) c at)
@@ -144,7 +145,8 @@ module _ (d : Arrow) (d_is : IsWay d) (k : ℤ) (u : Arrow) (u_in : IsRational u
       }
       from (inl (inr one)) = record {
         order = omega (arith, ints);
-        same = λ also. meet_late e f e_is f_is near u u_in after (let self = cross-self u in omega (arith, ints)) one;
+        same = λ also. meet_late e f e_is f_is near u u_in after (let self = cross-self u in omega
+            (arith, ints)) one;
       }
       from (inr above) =
           let up = order_after (at_pass k) u (line_over d e) (line_over d f) (whole_is k) u_in after

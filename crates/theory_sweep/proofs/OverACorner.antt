@@ -1,4 +1,5 @@
--- The line passes a corner: the edges that end there are taken out, and those that begin there put in
+-- The line passes a corner: the edges that end there are taken out, and those that begin there put
+-- in
 -- between the ones that lie below it and the others. Where the neighbours that this joins pass the
 -- test, the list is that of the edges over which the line stands then.
 
@@ -38,11 +39,13 @@ use Rattle.theory_sweep.proofs.EdgesAtACorner.{corner_at_a, corner_at_b, one_cor
 use Rattle.theory_sweep.proofs.NeighboursInOrder.{neighbours_follow, neighbours_of_two}
 use Rattle.theory_sweep.proofs.NeighboursInOrder.{neighbours_both, two_from_neighbours}
 use Rattle.theory_sweep.proofs.NeighboursInOrder.{neighbours_before, neighbours_behind}
-use Rattle.theory_sweep.proofs.NeighboursInOrder.{neighbours_joined}
+use Rattle.theory_sweep.proofs.NeighboursInOrder.{neighbours_joined, stands_in_either}
 use Rattle.theory_sweep.proofs.OrderIsKept.{IsInOrderAt, IsOver, two_keep_order, in_order_trans}
 use Rattle.theory_sweep.proofs.OrderIsKept.{whole_is, whole_at_most}
-use Rattle.theory_sweep.proofs.PointsOfRisingEdges.{cross_whole, passed_between, at_a, value_on_it, value_is}
-use Rattle.theory_sweep.proofs.ValuesAtACorner.{value_when, height_of, below_when, above_when, under_if_below}
+use Rattle.theory_sweep.proofs.PointsOfRisingEdges.{cross_whole, passed_between, at_a, value_on_it}
+use Rattle.theory_sweep.proofs.PointsOfRisingEdges.{value_is}
+use Rattle.theory_sweep.proofs.ValuesAtACorner.{value_when, height_of, below_when, above_when}
+use Rattle.theory_sweep.proofs.ValuesAtACorner.{under_if_below}
 use Rattle.theory_sweep.proofs.ValuesAtACorner.{same_when, level_at_a, level_at_b, meet_there}
 use Rattle.theory_sweep.proofs.ValuesAtACorner.{leads_if_below, leads_other, leads_if_left}
 
@@ -338,27 +341,20 @@ module _ (d : Arrow) (d_is : IsWay d) (loops : List (List Point)) (apart : ArePa
           later = let one = next.after in let other = e_is.goes_on in omega (arith, ints)
 
           place : Stands e (front ++ (ending ++ back)) → Stands e (front ++ (new ++ back))
-          place at = first (parted front (ending ++ back) at)
+          place at = first (stands_in_either e front (ending ++ back) at)
             where
-              parted : (xs ys : List Edge) → Stands e (xs ++ ys) → Stands e xs ⊎ Stands e ys
-              parted [] ys at = inr at
-              parted (x ∷ xs) ys (inl same) = inl (inl same)
-              parted (x ∷ xs) ys (inr more) = from (parted xs ys more)
-                where
-                  from : Stands e xs ⊎ Stands e ys → Stands e (x ∷ xs) ⊎ Stands e ys
-                  from (inl there) = inl (inr there)
-                  from (inr there) = inr there
-
               second : Stands e ending ⊎ Stands e back → Stands e (front ++ (new ++ back))
               second (inl ends) =
-                  let same = ap (pass_of d) (all_stands (λ g. g.b ≡ c.at) e ending parts.ends ends) in
+                  let same = ap (pass_of d) (all_stands (λ g. g.b
+                  ≡ c.at) e ending parts.ends ends) in
                   let on = e_is.goes_on in
                   absurd (omega (arith, ints))
-              second (inr there) = stands_behind e front (new ++ back) (stands_behind e new back there)
+              second (inr there) = stands_behind e front (new ++ back)
+                  (stands_behind e new back there)
 
               first : Stands e front ⊎ Stands e (ending ++ back) → Stands e (front ++ (new ++ back))
               first (inl there) = stands_before e front (new ++ back) there
-              first (inr more) = second (parted ending back more)
+              first (inr more) = second (stands_in_either e ending back more)
 
           from : (pass_of d e.a ≤ℤ k) ⊎ (pass_of d c.at ≤ℤ pass_of d e.a)
               → Stands e (front ++ (new ++ back))
@@ -446,7 +442,8 @@ module _ (d : Arrow) (d_is : IsWay d) (loops : List (List Point)) (apart : ArePa
               from (inl (inr same)) =
                   absurd
                   (meets
-                  (same_trans (value_when d c.at n) (height_of d c.at) (value_when d c.at g) height_in
+                  (same_trans (value_when d c.at n) (height_of d c.at)
+                  (value_when d c.at g) height_in
                   (new_level n n_in) same))
               from (inr below) =
                   absurd
@@ -456,7 +453,8 @@ module _ (d : Arrow) (d_is : IsWay d) (loops : List (List Point)) (apart : ArePa
           back_strict : (n : Edge) → Stands n new → (e : Edge) → Stands e back
               → IsBelow (height_of d c.at) (value_when d c.at e)
           back_strict n n_in e e_in =
-              by back (neighbours_behind MayBeNeighbours (last_item front) (new ++ first_item back) joint)
+              by back (neighbours_behind MayBeNeighbours (last_item front)
+              (new ++ first_item back) joint)
               back_order (λ g g_in. g_in) e_in
             where
               last_near : (xs : List Edge) (g : Edge) → Stands n xs
@@ -494,15 +492,19 @@ module _ (d : Arrow) (d_is : IsWay d) (loops : List (List Point)) (apart : ArePa
                       (first_above m g found.0 (there g (inl refl)) found.1)
                   from (m, found) (inr later) =
                       let above = first_above m g found.0 (there g (inl refl)) found.1 in
-                      let pair = all_stands (IsInOrderAt d (at_pass (pass_of d c.at)) g) e gs order.0 later in
-                      below_at_most_trans (height_of d c.at) (value_when d c.at g) (value_when d c.at e)
-                      height_in (value_in g (now.there g (in_back g (there g (inl refl)))).edge.rising)
+                      let pair = all_stands (IsInOrderAt d (at_pass
+                      (pass_of d c.at)) g) e gs order.0 later in
+                      below_at_most_trans (height_of d c.at) (value_when d c.at g)
+                      (value_when d c.at e)
+                      height_in (value_in g (now.there g (in_back g (there g
+                      (inl refl)))).edge.rising)
                       (value_in e (now.there e (in_back e e_in)).edge.rising) above pair.order
 
           abbrev Leads : Edge → Edge → Type 0
           Leads e f = leads (at_pass (pass_of d c.at)) (line_over d e) (line_over d f) ≡ true
 
-          below_leads : (e f : Edge) → IsBelow (value_when d c.at e) (value_when d c.at f) → Leads e f
+          below_leads : (e f : Edge) → IsBelow (value_when d c.at e) (value_when d c.at f)
+              → Leads e f
           below_leads e f below =
               leads_if_below d (at_pass (pass_of d c.at)) e f (whole_is (pass_of d c.at)) below
 
@@ -585,7 +587,8 @@ module _ (d : Arrow) (d_is : IsWay d) (loops : List (List Point)) (apart : ArePa
               let forth = at_most_trans (abscissa_in d p) (at_pass (pass_of d c.at))
               (at_pass (pass_of d e.a)) p_in (whole_is (pass_of d c.at)) (whole_is (pass_of d e.a))
               upto (whole_at_most (pass_of d c.at) (pass_of d e.a) late) in
-              let same = same_from_at_most (abscissa_in d p) (at_pass (pass_of d e.a)) forth between.0 in
+              let same = same_from_at_most (abscissa_in d p) (at_pass
+              (pass_of d e.a)) forth between.0 in
               (there, subst (IsAt p) there (at_a d d_is e e_is.rising p p_is on_e same))
 
           -- an edge that passes through the corner where another begins ends there or begins there
@@ -597,23 +600,14 @@ module _ (d : Arrow) (d_is : IsWay d) (loops : List (List Point)) (apart : ArePa
               same : IsSame (value_when d c.at f) (height_of d c.at)
               same = same_when d d_is c.at f f_is.rising level
 
-              in_either : (xs ys : List Edge) → Stands f (xs ++ ys) → Stands f xs ⊎ Stands f ys
-              in_either [] ys at = inr at
-              in_either (x ∷ xs) ys (inl one) = inl (inl one)
-              in_either (x ∷ xs) ys (inr more) = further (in_either xs ys more)
-                where
-                  further : Stands f xs ⊎ Stands f ys → Stands f (x ∷ xs) ⊎ Stands f ys
-                  further (inl there) = inl (inr there)
-                  further (inr there) = inr there
-
               parted_three : Stands f (front ++ (ending ++ back))
                   → Stands f front ⊎ (Stands f ending ⊎ Stands f back)
-              parted_three at = by (in_either front (ending ++ back) at)
+              parted_three at = by (stands_in_either f front (ending ++ back) at)
                 where
                   by : Stands f front ⊎ Stands f (ending ++ back)
                       → Stands f front ⊎ (Stands f ending ⊎ Stands f back)
                   by (inl there) = inl there
-                  by (inr more) = inr (in_either ending back more)
+                  by (inr more) = inr (stands_in_either f ending back more)
 
               from : Stands f front ⊎ (Stands f ending ⊎ Stands f back) → f.b ≡ c.at
               from (inl there) =
@@ -627,7 +621,8 @@ module _ (d : Arrow) (d_is : IsWay d) (loops : List (List Point)) (apart : ArePa
                   let turn = cross-turn (value_when d c.at f) (height_of d c.at) in
                   absurd (omega (arith, ints))
 
-          late_meets : (e f : Edge) → IsEdgeOf d loops e → IsEdgeOf d loops f → (p : Spot) → IsSpot p
+          late_meets : (e f : Edge) → IsEdgeOf d loops e → IsEdgeOf d loops f → (p : Spot)
+              → IsSpot p
               → is_on p e ≡ true → is_on p f ≡ true
               → IsAtMost (abscissa_in d p) (at_pass (pass_of d c.at))
               → pass_of d c.at ≤ℤ pass_of d e.a → IsBelow (at_pass k) (abscissa_in d p)
@@ -661,7 +656,8 @@ module _ (d : Arrow) (d_is : IsWay d) (loops : List (List Point)) (apart : ArePa
               order =
                   in_order_up_to d d_is loops apart bent k es now (abscissa_in d p) p_in after
                   (λ g g_in.
-                  at_most_trans (abscissa_in d p) (at_pass (pass_of d c.at)) (at_pass (pass_of d g.b))
+                  at_most_trans (abscissa_in d p) (at_pass (pass_of d c.at)) (at_pass
+                  (pass_of d g.b))
                   p_in (whole_is (pass_of d c.at)) (whole_is (pass_of d g.b)) upto
                   (whole_at_most (pass_of d c.at) (pass_of d g.b) (ends_late g g_in)))
 
@@ -697,7 +693,8 @@ module _ (d : Arrow) (d_is : IsWay d) (loops : List (List Point)) (apart : ArePa
                   let both = late_meets e f e_is f_is p p_is on_e on_f upto later after f_when in
                   (c.at, both)
               late after (inl early) (inr later) =
-                  let both = late_meets f e f_is e_is p p_is on_f on_e upto later after (inl early) in
+                  let both = late_meets f e f_is e_is p p_is on_f on_e upto later after
+                  (inl early) in
                   (c.at, (both.1, both.0))
               late after (inl early) (inl also) = (
                 e.b,

@@ -62,11 +62,13 @@ passed_first a b a_in b_in before =
     from : (int_lt a.x b.x ≡ true) ⊎ ((int_eq a.x b.x && int_lt a.y b.y) ≡ true)
         → pass_of sweep_way a <ℤ pass_of sweep_way b
     from (inl less) =
-        less_by_x a.x a.y b.x b.y (pass_of sweep_way a) (pass_of sweep_way b) (pass_is a) (pass_is b)
+        less_by_x a.x a.y b.x b.y (pass_of sweep_way a) (pass_of sweep_way b) (pass_is a)
+        (pass_is b)
         (within a.y a_parts.1) (within b.y b_parts.1) (less_from a.x b.x less)
     from (inr same) =
         let parts = and_parts (int_eq a.x b.x) (int_lt a.y b.y) same in
-        less_by_y a.x a.y b.x b.y (pass_of sweep_way a) (pass_of sweep_way b) (pass_is a) (pass_is b)
+        less_by_y a.x a.y b.x b.y (pass_of sweep_way a) (pass_of sweep_way b) (pass_is a)
+        (pass_is b)
         ((Decides-int_eq a.x b.x).0 parts.0) (less_from a.y b.y parts.1)
 
 -- two different points come one before the other

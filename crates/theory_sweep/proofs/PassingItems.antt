@@ -1,7 +1,9 @@
--- The items of a list that pass a test, as a list: two lists without an item twice have the same parity
+-- The items of a list that pass a test, as a list: two lists without an item twice have the same
+-- parity
 -- where the one has just the items of the other that pass.
 
-use Rattle.std.proofs.Common.{◌≡◌, ◌⊎◌, inl, inr, refl, sym, ap, ◌∙◌, Bool, true, false, not, List, []}
+use Rattle.std.proofs.Common.{◌≡◌, ◌⊎◌, inl, inr, refl, sym, ap, ◌∙◌, Bool, true, false, not, List}
+use Rattle.std.proofs.Common.{[]}
 use Rattle.std.proofs.Common.{◌∷◌}
 use Rattle.std.specs.List.{AllByRecursion, filter}
 use Rattle.std.proofs.lemmas.Bool.{false≢true}
@@ -41,7 +43,8 @@ module _ {X : Type 0} (test : X → Bool) where
   -- and what does both stands there
   passing_stands : (z : X) (xs : List X) → Stands z xs → test z ≡ true → Stands z (filter test xs)
   passing_stands z [] at passes = absurd at
-  passing_stands z (x ∷ xs) at passes = by (test x) refl (λ later. passing_stands z xs later passes) at
+  passing_stands z (x ∷ xs) at passes = by (test x) refl
+      (λ later. passing_stands z xs later passes) at
     where
       by : (b : Bool) → test x ≡ b → (Stands z xs → Stands z (filter test xs)) → Stands z (x ∷ xs)
           → Stands z (filter test (x ∷ xs))

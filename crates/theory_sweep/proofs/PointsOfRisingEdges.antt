@@ -105,8 +105,10 @@ module _ (d : Arrow) (d_is : IsWay d) (e : Edge) (rising : IsRising d e) where
   along_way : pos 0 <ℤ dot (span_of e) d
   along_way =
       let up = rises d e rising in
-      let swap = equal (dot_by (span_of e) d (var (span_of e).x) (var (span_of e).y) (var d.x) (var d.y))
-      (dot_by d (span_of e) (var d.x) (var d.y) (var (span_of e).x) (var (span_of e).y)) (omega arith) in
+      let swap = equal (dot_by (span_of e) d (var (span_of e).x) (var (span_of e).y) (var d.x)
+      (var d.y))
+      (dot_by d (span_of e) (var d.x) (var d.y) (var (span_of e).x) (var (span_of e).y))
+      (omega arith) in
       omega (arith, ints)
 
   -- a point on its line lies along the edge where its ends are passed before and after
@@ -127,13 +129,16 @@ module _ (d : Arrow) (d_is : IsWay d) (e : Edge) (rising : IsRising d e) where
       let way_a = by_way to_a a_level in
       let way_b = by_way to_b b_level in
       let wide = long in
-      let low = weak_negative_product (dot (span_of e) (span_of e)) (dot d to_a) (omega (arith, ints)) behind in
-      let high = weak_product (dot (span_of e) (span_of e)) (dot d to_b) (omega (arith, ints)) ahead in
+      let low = weak_negative_product (dot (span_of e) (span_of e)) (dot d to_a) (omega
+      (arith, ints)) behind in
+      let high = weak_product (dot (span_of e) (span_of e)) (dot d to_b) (omega
+      (arith, ints)) ahead in
       record {
         is = p_is;
         a_level = a_level;
         a_behind =
-            weak_negative_factor (dot (span_of e) d) (dot (span_of e) to_a) along_way (omega (arith, ints));
+            weak_negative_factor (dot (span_of e) d) (dot (span_of e) to_a) along_way (omega
+            (arith, ints));
         b_level = b_level;
         b_ahead =
             weak_factor (dot (span_of e) d) (dot (span_of e) to_b) along_way (omega (arith, ints));
@@ -177,7 +182,8 @@ module _ (d : Arrow) (d_is : IsWay d) (e : Edge) (rising : IsRising d e) where
       ahead : pos 0 ≤ℤ dot d (seen_from (spot_in d u v) e.b)
       ahead =
           let whole = far e.b in
-          let one = weak_product v.x (cross u (at_pass (pass_of d e.b))) (omega (arith, ints)) before in
+          let one = weak_product v.x (cross u (at_pass (pass_of d e.b))) (omega
+          (arith, ints)) before in
           let other = weak_product (dot d d) (v.x *ℤ cross u (at_pass (pass_of d e.b)))
           (omega (arith, ints)) one in
           omega (arith, ints)
@@ -231,7 +237,8 @@ module _ (d : Arrow) (d_is : IsWay d) (e : Edge) (rising : IsRising d e) where
       let second = ap (λ n. n *ℤ cross (span_of e) v) level in
       let short = zero_of_positive (dot (span_of e) (span_of e)) (dot v v) wide
       (whole ∙ ap₂ (λ s t. s +ℤ t) first second
-      ∙ equal (plus (times (num 0) (var (dot (span_of e) v))) (times (num 0) (var (cross (span_of e) v))))
+      ∙ equal (plus (times (num 0) (var (dot (span_of e) v))) (times (num 0) (var (cross
+      (span_of e) v))))
       (num 0) (omega arith)) in
       no_length v (omega (arith, ints))
 
@@ -265,7 +272,12 @@ module _ (d : Arrow) (d_is : IsWay d) (e : Edge) (rising : IsRising d e) where
       s : Arrow
       s = span_of e
 
-      whole : p.w *ℤ rise (record { dx = dot d (span_of e); dy = cross d (span_of e); off = dot d d *ℤ cross (span_of e) (place e.a) })
+      whole : p.w *ℤ rise (record {
+        dx = dot d (span_of e);
+        dy = cross d
+            (span_of e);
+        off = dot d d *ℤ cross (span_of e) (place e.a);
+      })
           (in_frame d p)
           ≡ dot d d *ℤ turn_at e p
       whole =

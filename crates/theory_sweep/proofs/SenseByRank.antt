@@ -1,4 +1,5 @@
--- Of loops that are apart the solid lies on the left of an edge, over which the line begins to stand as
+-- Of loops that are apart the solid lies on the left of an edge, over which the line begins to
+-- stand as
 -- it passes its end a, exactly where an even number of edges lie below it.
 
 use Rattle.std.proofs.Common.{◌≡◌, ◌⊎◌, inl, inr, refl, sym, ap, ap₂, ◌∙◌, arith, ℤ, pos, subst}
@@ -20,8 +21,10 @@ use Rattle.theory_numbers.proofs.Arrows.{cross-self}
 use Rattle.theory_numbers.proofs.Lengths.{some_length, no_length}
 use Rattle.theory_numbers.proofs.Rationals.{below_clash, at_most_from_below, number_cases}
 use Rattle.theory_numbers.proofs.Rationals.{below_irrefl}
-use Rattle.theory_numbers.proofs.Shapes.{var, num, plus, minus, times, negated, equal, cross_by, dot_is}
-use Rattle.theory_numbers.proofs.Signs.{less_from, test_less, test_not_less, at_most_from, less_or_not, order_cases}
+use Rattle.theory_numbers.proofs.Shapes.{var, num, plus, minus, times, negated, equal, cross_by}
+use Rattle.theory_numbers.proofs.Shapes.{dot_is}
+use Rattle.theory_numbers.proofs.Signs.{less_from, test_less, test_not_less, at_most_from}
+use Rattle.theory_numbers.proofs.Signs.{less_or_not, order_cases}
 use Rattle.sb_fraction.specs.declared.point.Point.{Point}
 use Rattle.sb_fraction.specs.Spots.{Spot, IsSpot}
 use Rattle.sb_fraction.specs.Edges.{Edge, span_of, seen_from, turn_at, reach_at, is_on}
@@ -44,8 +47,10 @@ use Rattle.theory_parity.proofs.TurnedLoops.{struck-turned}
 use Rattle.theory_sweep.specs.Passing.{pass_of, at_pass, IsRising}
 use Rattle.theory_sweep.specs.Corners.{ArePassedApart}
 use Rattle.theory_sweep.specs.Open.{IsEdgeOf, IsOpenAt, AreOpen}
-use Rattle.theory_sweep.proofs.ApartWhenPassed.{starts_are_once, no_way_back, ends_differ, two_images}
+use Rattle.theory_sweep.proofs.ApartWhenPassed.{starts_are_once, no_way_back, ends_differ}
+use Rattle.theory_sweep.proofs.ApartWhenPassed.{two_images}
 use Rattle.theory_sweep.proofs.OrderIsKept.{IsInOrderAt}
+use Rattle.theory_sweep.proofs.NeighboursInOrder.{stands_in_either}
 use Rattle.theory_sweep.proofs.OverACorner.{in_order_up_to}
 use Rattle.theory_sweep.proofs.PassingItems.{odd_if_passing}
 use Rattle.theory_sweep.proofs.PointsOfRisingEdges.{rises, value_is, over_place, passed_there}
@@ -63,13 +68,15 @@ half_is k = omega (arith, ints)
 from_whole : (k a : ℤ) → cross (at_pass a) (half_after k) ≡ (pos 2 *ℤ (k -ℤ a)) +ℤ pos 1
 from_whole k a =
     equal
-    (cross_by (at_pass a) (half_after k) (num 1) (var a) (num 2) (plus (times (num 2) (var k)) (num 1)))
+    (cross_by (at_pass a) (half_after k) (num 1) (var a) (num 2) (plus (times (num 2) (var k))
+    (num 1)))
     (plus (times (num 2) (minus (var k) (var a))) (num 1)) (omega arith)
 
 to_whole : (k a : ℤ) → cross (half_after k) (at_pass a) ≡ (pos 2 *ℤ (a -ℤ k)) -ℤ pos 1
 to_whole k a =
     equal
-    (cross_by (half_after k) (at_pass a) (num 2) (plus (times (num 2) (var k)) (num 1)) (num 1) (var a))
+    (cross_by (half_after k) (at_pass a) (num 2) (plus (times (num 2) (var k)) (num 1)) (num 1)
+    (var a))
     (minus (times (num 2) (minus (var a) (var k))) (num 1)) (omega arith)
 
 after_whole : (k a : ℤ) → a ≤ℤ k → IsBelow (at_pass a) (half_after k)
@@ -110,7 +117,8 @@ module _ (d : Arrow) (d_is : IsWay d) (loops : List (List Point)) (are : AreBent
   no_corner : (p : Point) → IsAt here p → ⊥
   no_corner p at =
       no_whole k (pass_of d p)
-      (same_place d (half_after k) (value_of d (half_after k) e) (at_pass (pass_of d p)) d_is value_in
+      (same_place d (half_after k) (value_of d (half_after k) e) (at_pass
+      (pass_of d p)) d_is value_in
       (passed_there d here p at))
 
   away : (p : Point) → pos 0 <ℤ dot (seen_from here p) (seen_from here p)
@@ -120,7 +128,8 @@ module _ (d : Arrow) (d_is : IsWay d) (loops : List (List Point)) (are : AreBent
 
   own_here : IsOwn e here
   own_here =
-      let parts = and_parts (int_eq (turn_at e here) (pos 0)) (int_le (reach_at e here) (pos 0)) on_here
+      let parts = and_parts (int_eq (turn_at e here) (pos 0)) (int_le (reach_at e here)
+      (pos 0)) on_here
       in
       own_from_on e here here_is ((Decides-int_eq (turn_at e here) (pos 0)).0 parts.0)
       (at_most_from (reach_at e here) (pos 0) parts.1) (away e.a) (away e.b)
@@ -171,14 +180,16 @@ module _ (d : Arrow) (k : ℤ) where
       → (pass_of d e.a ≤ℤ k) × (k <ℤ pass_of d e.b)
   reached e rising reaches = from (less_or_not k (pass_of d e.a)) (less_or_not k (pass_of d e.b))
     where
-      from : (k <ℤ pass_of d e.a) ⊎ (pass_of d e.a ≤ℤ k) → (k <ℤ pass_of d e.b) ⊎ (pass_of d e.b ≤ℤ k)
+      from : (k <ℤ pass_of d e.a) ⊎ (pass_of d e.a ≤ℤ k) → (k <ℤ pass_of d e.b) ⊎
+          (pass_of d e.b ≤ℤ k)
           → (pass_of d e.a ≤ℤ k) × (k <ℤ pass_of d e.b)
       from (inl late) (inl on) =
           absurd (false≢true (sym (ap₂ differ (after_test e.a late) (after_test e.b on)) ∙ reaches))
       from (inl late) (inr over) = let up = rising in absurd (omega (arith, ints))
       from (inr early) (inl on) = (early, on)
       from (inr early) (inr over) =
-          absurd (false≢true (sym (ap₂ differ (before_test e.a early) (before_test e.b over)) ∙ reaches))
+          absurd (false≢true (sym (ap₂ differ (before_test e.a early) (before_test e.b over))
+          ∙ reaches))
 
 -- ---- the edges, each in the sense in which it is rising
 
@@ -188,11 +199,13 @@ risen d x = if int_lt (pass_of d x.a) (pass_of d x.b) then x else turned_edge x
 risen_cases : (d : Arrow) (x : Edge) → (risen d x ≡ x) ⊎ (risen d x ≡ turned_edge x)
 risen_cases d x = by (int_lt (pass_of d x.a) (pass_of d x.b))
   where
-    by : (b : Bool) → ((if b then x else turned_edge x) ≡ x) ⊎ ((if b then x else turned_edge x) ≡ turned_edge x)
+    by : (b : Bool) → ((if b then x else turned_edge x) ≡ x) ⊎ ((if b then x else turned_edge x)
+        ≡ turned_edge x)
     by true = inl refl
     by false = inr refl
 
-stands_image : {X Y : Type 0} (f : X → Y) (x : X) (xs : List X) → Stands x xs → Stands (f x) (map f xs)
+stands_image : {X Y : Type 0} (f : X → Y) (x : X) (xs : List X) → Stands x xs → Stands (f x)
+    (map f xs)
 stands_image f x [] at = absurd at
 stands_image f x (y ∷ ys) (inl one) = inl (ap f one)
 stands_image f x (y ∷ ys) (inr later) = inr (stands_image f x ys later)
@@ -233,7 +246,8 @@ module _ (d : Arrow) (loops : List (List Point)) (apart : ArePassedApart d loops
   risen_once =
       two_images (λ a b. a ≡ b → ⊥) (risen d) (edges_of loops)
       (two_follow (λ x y. x.a ≡ y.a → ⊥) (λ x y. risen d x ≡ risen d y → ⊥) (edges_of loops)
-      (λ x y x_in y_in other same. from x y x_in y_in other same (risen_cases d x) (risen_cases d y))
+      (λ x y x_in y_in other same. from x y x_in y_in other same (risen_cases d x)
+      (risen_cases d y))
       (starts_are_once d loops apart bent))
     where
       from : (x y : Edge) → Stands x (edges_of loops) → Stands y (edges_of loops)
@@ -303,30 +317,24 @@ module _ (d : Arrow) (d_is : IsWay d) (loops : List (List Point)) (apart : ArePa
       → Stands z front
   struck_first z z_is struck =
       let parts = and_parts (reaches_past d (half_after k) z)
-      (is_below (value_of d (half_after k) z) (value_of d (half_after k) s)) (sym (lower z) ∙ struck) in
+      (is_below (value_of d (half_after k) z) (value_of d (half_after k) s)) (sym (lower z)
+      ∙ struck) in
       let over = reached d k z z_is.rising parts.0 in
       from
-      (less_from (pos 0) (cross (value_of d (half_after k) z) (value_of d (half_after k) s)) parts.1)
-      (in_either front
+      (less_from (pos 0) (cross (value_of d (half_after k) z) (value_of d
+      (half_after k) s)) parts.1)
+      (stands_in_either z front (s ∷ back)
       (subst (Stands z) split
       (now.each z (record { edge = z_is; begun = over.0; goes_on = over.1 }))))
     where
-      in_either : (xs : List Edge) → Stands z (xs ++ s ∷ back) → Stands z xs ⊎ Stands z (s ∷ back)
-      in_either [] at = inr at
-      in_either (x ∷ xs) (inl one) = inl (inl one)
-      in_either (x ∷ xs) (inr more) = further (in_either xs more)
-        where
-          further : Stands z xs ⊎ Stands z (s ∷ back) → Stands z (x ∷ xs) ⊎ Stands z (s ∷ back)
-          further (inl at) = inl (inr at)
-          further (inr at) = inr at
-
       from : IsBelow (value_of d (half_after k) z) (value_of d (half_after k) s)
           → Stands z front ⊎ Stands z (s ∷ back) → Stands z front
       from below (inl at) = at
       from below (inr (inl one)) =
           absurd
           (below_irrefl (value_of d (half_after k) s)
-          (subst (λ g. IsBelow (value_of d (half_after k) g) (value_of d (half_after k) s)) one below))
+          (subst (λ g. IsBelow (value_of d (half_after k) g) (value_of d
+          (half_after k) s)) one below))
       from below (inr (inr later)) =
           let pair = all_stands (IsInOrderAt d (half_after k) s) z back orders.0.1.0 later in
           absurd

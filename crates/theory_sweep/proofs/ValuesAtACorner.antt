@@ -25,7 +25,8 @@ use Rattle.theory_parity.specs.Below.{IsWay, spot_in, value_of}
 use Rattle.theory_parity.proofs.BelowByValue.{spot_in_is}
 use Rattle.theory_sweep.specs.Passing.{pass_of, at_pass, IsRising}
 use Rattle.theory_sweep.specs.Open.{MeetAtOneEnd, is_under}
-use Rattle.theory_sweep.proofs.PointsOfRisingEdges.{left_if_below, value_below, value_above, value_there, passed_at}
+use Rattle.theory_sweep.proofs.PointsOfRisingEdges.{left_if_below, value_below, value_above}
+use Rattle.theory_sweep.proofs.PointsOfRisingEdges.{value_there, passed_at}
 use Rattle.theory_sweep.proofs.PointsOfRisingEdges.{value_is, over_place, passed_there, same_place}
 use Rattle.theory_sweep.proofs.PointsOfRisingEdges.{rises}
 
@@ -91,8 +92,10 @@ module _ (d : Arrow) (d_is : IsWay d) (v : Point) (e : Edge) (rising : IsRising 
 
 module _ (d : Arrow) (d_is : IsWay d) (u : Arrow) (u_in : IsRational u) (e f : Edge)
     (e_is : IsRising d e) (f_is : IsRising d f)
-    (e_after : IsAtMost (at_pass (pass_of d e.a)) u) (e_before : IsAtMost u (at_pass (pass_of d e.b)))
-    (f_after : IsAtMost (at_pass (pass_of d f.a)) u) (f_before : IsAtMost u (at_pass (pass_of d f.b)))
+    (e_after : IsAtMost (at_pass (pass_of d e.a)) u) (e_before : IsAtMost u (at_pass
+    (pass_of d e.b)))
+    (f_after : IsAtMost (at_pass (pass_of d f.a)) u) (f_before : IsAtMost u (at_pass
+    (pass_of d f.b)))
   where
     -- where the line stands over two edges with one value they meet: at one end at most
     pub meet_there : IsSame (value_of d u e) (value_of d u f) → MeetAtOneEnd e f
@@ -109,7 +112,8 @@ module _ (d : Arrow) (d_is : IsWay d) (u : Arrow) (u_in : IsRational u) (e f : E
         v_in : IsRational (value_of d u e)
         v_in = value_is d u e e_is u_in
 
-        passed : (c : Point) → IsAt (spot_in d u (value_of d u e)) c → IsSame u (at_pass (pass_of d c))
+        passed : (c : Point) → IsAt (spot_in d u (value_of d u e)) c → IsSame u (at_pass
+            (pass_of d c))
         passed c at =
             same_place d u (value_of d u e) (at_pass (pass_of d c)) d_is v_in
             (passed_there d (spot_in d u (value_of d u e)) c at)
@@ -165,7 +169,11 @@ pub leads_if_left : (d : Arrow) → IsWay d → (u : Arrow) → IsRational u →
 leads_if_left d d_is u u_in e f e_is f_is same left =
     up_passes (clearance_at (line_over d e) (line_over d f) u)
     (clearance (line_over d e) (line_over d f)).y
-    (inr ((meeting_is (line_over d e) (line_over d f) u u_in).0 same, slope d d_is e f e_is f_is left))
+    (inr (
+      (meeting_is (line_over d e)
+          (line_over d f) u u_in).0 same,
+      slope d d_is e f e_is f_is left,
+    ))
   where
     slope : (d : Arrow) → IsWay d → (e f : Edge) → IsRising d e → IsRising d f
         → pos 0 <ℤ cross (span_of e) (span_of f)

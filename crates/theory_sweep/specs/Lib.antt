@@ -2,3 +2,4 @@
 pub mod Passing
 pub mod Corners
 pub mod Open
+pub mod Laws

@@ -1,6 +1,7 @@
 -- The edges over which the line stands, from below, as it passes over loops.
 
-use Rattle.std.specs.Prelude.{◌≡◌, ◌⊎◌, ℤ, pos, ◌<ℤ◌, ◌≤ℤ◌, Bool, true, false, not, ◌||◌, List, [], ◌∷◌}
+use Rattle.std.specs.Prelude.{◌≡◌, ◌⊎◌, ℤ, pos, ◌<ℤ◌, ◌≤ℤ◌, Bool, true, false, not, ◌||◌, List, []}
+use Rattle.std.specs.Prelude.{◌∷◌}
 use Rattle.std.specs.Prelude.{int_lt, ◌++◌}
 use Rattle.std.specs.List.{AllByRecursion}
 use Rattle.theory_lists.specs.Members.{Stands, AllOfTwo}

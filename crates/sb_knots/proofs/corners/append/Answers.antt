@@ -7,7 +7,8 @@ pub returns : goal.returns
 returns c =
     subst
     (λ t. OnOk c.append_from.result (c.append_from.new.list.items ≡ c.args.list.now.items ++ t))
-    (corners_of_points c.args.points.now (record { x = pos 0; y = pos 0 }) c.saturating_sub-last.result
+    (corners_of_points c.args.points.now
+    (record { x = pos 0; y = pos 0 }) c.saturating_sub-last.result
     c.saturating_sub-last.ensures
     (λ none.
     false≢true

@@ -15,7 +15,8 @@ returns-then-pass-clause-fallen c _ =
       falls = λ d.
           let before : (c.corners.i - 1) < length c.args.corners.now = omega arith in
           let first = ap key_of (c.index-corners-i.is
-          ∙ get_or_default c.args.corners.now (c.corners.i - 1) c.index-corners-i.result d before) in
+          ∙ get_or_default c.args.corners.now
+          (c.corners.i - 1) c.index-corners-i.result d before) in
           let second = ap key_of (c.index-corners-i-in-corners.is
           ∙ get_or_default c.args.corners.now c.corners.i c.index-corners-i-in-corners.result d within
           ∙ ap (λ n. slice_index_or c.args.corners.now n d) (sym next)) in

@@ -10,4 +10,5 @@ abbrev pub invariant-loops : goal.invariant-loops
 invariant-loops l =
     IsListing l.points-items l.corners → IsSwept l.points-items l.corners l.lefts
     → list_all is_least_first l.points-items ≡ true
-    → l.senses ≡ map (is_left_at_first (edges_of l.points-items)) (take l.points-index l.points-items)
+    → l.senses ≡ map (is_left_at_first (edges_of l.points-items))
+    (take l.points-index l.points-items)

@@ -3,7 +3,8 @@ use Rattle.std.specs.List.{concat, list_all, list_any}
 use Rattle.theory_lists.specs.Parted.{IsPartedAt}
 use Rattle.sb_fraction.specs.declared.point.Point.{Point}
 use Rattle.theory_sweep.specs.Corners.{Corner}
-use Rattle.sb_knots.specs.Steps.{is_edge, lies_under, ids_of, begun_at, are_linked, may_follow, joint_at}
+use Rattle.sb_knots.specs.Steps.{is_edge, lies_under, ids_of, begun_at, are_linked, may_follow}
+use Rattle.sb_knots.specs.Steps.{joint_at}
 use Rattle.sb_knots.specs.Steps.{HaveBegun, closed_at}
 use Rattle.sb_knots.proofs.BegunEdges.{begun_in, begun_over}
 use Rattle.sb_knots.proofs.EditsOfIds.{get_is}
@@ -59,7 +60,8 @@ returns-clause-begun c left answer c' at n within parted =
     (sym point) parted) in
     subst
     (λ b. HaveBegun c.args.corners.now b n
-    (closed_at c.args.corners.now c'.at n (concat c.args.standing.now)) (concat c.begin.new.standing)
+    (closed_at c.args.corners.now c'.at n (concat c.args.standing.now))
+    (concat c.begin.new.standing)
     left)
     (c.edges_begun-begun.ensures ∙ ap (λ t. begun_at t c.args.k) same)
     (subst
