@@ -10,8 +10,6 @@ mod entities;
 mod error;
 mod lent;
 mod lists;
-#[cfg(test)]
-mod tests;
 mod viewing;
 mod views;
 

@@ -1,7 +1,7 @@
 // Views as texts, to compare them with what is written by hand: a reference as `#` and its last digit,
 // `$` for none, a list in parentheses, and a space between attributes.
-use crate::{TypedList, ViewError};
 use sb_list::Listed;
+use sb_schema::{TypedList, ViewError};
 use std::alloc::AllocError;
 
 pub(crate) trait Show {

@@ -1,4 +1,4 @@
-use crate::tests::asked::answer;
+use crate::views::asked::answer;
 use std::test::Fail;
 
 // An instance of each row, in order, with exactly the row's attributes.

@@ -1,5 +1,5 @@
-use crate::tests::shown::Show;
-use crate::{
+use crate::views::shown::Show;
+use sb_schema::{
     ViewError, lent_cartesian_point_list_2d, lent_polyline, lent_rel_associates_material,
     lent_rel_defines_by_type,
 };

@@ -1,7 +1,7 @@
 -- Any item may be tested.
 use Rattle.std.proofs.Common.{◌≡◌, refl, ℕ, true, List, [], ◌∷◌}
 use Rattle.std.specs.List.{list_all, concat}
-use Rattle.sb_blocks.proofs.tests.place_of.Goals as goal
+use Rattle.tests_loops.proofs.in_blocks.place_of.Goals as goal
 
 all_true : (xs : List ℕ) → list_all (λ x. true) xs ≡ true
 all_true [] = refl

@@ -1,8 +1,6 @@
-mod parameters;
-
-use crate::step_file::table::form;
-use crate::{Form, StepError, StepFile, index};
+use sb_step::{StepError, StepFile, index};
 use std::alloc::{AllocError, Global};
+use std::str;
 use std::test::Fail;
 
 // What stands before the instances and behind them.
@@ -76,8 +74,8 @@ const INPUTS: [(&[u8], &str); 24] = [
 
 // What stands in the data section, whose first byte is byte 36, with the answer.
 const INSTANCES: [(&[u8], &str); 27] = [
-    (b"#1=A();", "#1 simple 39 40, end 43"),
-    (b"#1 = A ( ) ;", "#1 simple 41 42, end 48"),
+    (b"#1=A();", "#1 A, end 43"),
+    (b"#1 = A ( ) ;", "#1 A, end 48"),
     (b"#1=(A());", "#1 complex, end 45"),
     (b"#1=(A()B(1)_C($));", "#1 complex, end 54"),
     (b"#1=();", "syntax 40"),
@@ -93,18 +91,9 @@ const INSTANCES: [(&[u8], &str); 27] = [
     (b"#1=A(,);", "syntax 41"),
     (b"#1=A(1,);", "syntax 43"),
     (b"#1=A(1 2);", "syntax 43"),
-    (
-        b"#1=A(());#2=B((),(()));",
-        "#1 simple 39 40, #2 simple 48 49, end 59",
-    ),
-    (
-        b"#1=A($,*,1,-1.,'a''b',.T.,\"0F\",#9);",
-        "#1 simple 39 40, end 71",
-    ),
-    (
-        b"#1=A(B(1),C(($,*)),D(E(F(()))));",
-        "#1 simple 39 40, end 68",
-    ),
+    (b"#1=A(());#2=B((),(()));", "#1 A, #2 B, end 59"),
+    (b"#1=A($,*,1,-1.,'a''b',.T.,\"0F\",#9);", "#1 A, end 71"),
+    (b"#1=A(B(1),C(($,*)),D(E(F(()))));", "#1 A, end 68"),
     (b"#1=A(B());", "syntax 43"),
     (b"#1=A(B(1,2));", "syntax 44"),
     (b"#1=A(B);", "syntax 42"),
@@ -124,14 +113,13 @@ fn joined(alloc: Global, parts: &[&[u8]]) -> Result<Vec<u8>, AllocError> {
 
 fn file_shown(alloc: Global, file: &StepFile<'_>) -> Result<String, AllocError> {
     let mut text = String::new(alloc);
-    for at in 0..file.numbers.len() {
-        let (number, place) = (file.numbers[at], file.places[at]);
-        match form(place) {
-            Form::Simple(keyword_end) => {
-                let start = place.start;
-                text.push_str(&format!(in alloc; "#{number} simple {start} {keyword_end}, ")?)?;
+    for number in file.numbers() {
+        match file.keyword(*number) {
+            Some(keyword) => {
+                let keyword = str::from_utf8(keyword).unwrap_or("?");
+                text.push_str(&format!(in alloc; "#{number} {keyword}, ")?)?;
             }
-            Form::Complex => text.push_str(&format!(in alloc; "#{number} complex, ")?)?,
+            None => text.push_str(&format!(in alloc; "#{number} complex, ")?)?,
         }
     }
     let end = file.data_end();
@@ -206,7 +194,7 @@ fn closed_parentheses_do_not_count(rt: HostRuntime) -> Result<(), Fail> {
     }
     text.extend_from_slice(b");")?;
     text.extend_from_slice(TAIL)?;
-    assert_eq!(rt; shown(alloc, &text)?.as_str(), "#1 simple 39 40, end 3045");
+    assert_eq!(rt; shown(alloc, &text)?.as_str(), "#1 A, end 3045");
     Ok(())
 }
 

@@ -1,7 +1,7 @@
 ghost use Rattle.std.specs.Prelude.{true, nat_lt};
 ghost use Rattle.sb_blocks.specs.Places.{IsPlace};
 
-use crate::{Blocks, Place, Test};
+use sb_blocks::{Blocks, Place, Test};
 use std::process::Abort;
 use std::test::Fail;
 

@@ -2,9 +2,9 @@ ghost use Rattle.std.specs.Prelude.{IfOk, IfSome, IsTrue};
 ghost use Rattle.std.specs.List.{list_all};
 ghost use Rattle.sb_fraction.specs.Plane.{is_plan_point};
 
-use crate::{LoopError, PointLists, Points, plan_of};
 use sb_fraction::Point;
 use sb_list::Listed;
+use sb_loops::{LoopError, PointLists, Points, plan_of};
 use std::alloc::{AllocError, Global};
 use std::test::Fail;
 

@@ -1,6 +1,6 @@
 // Each view as a text, and each asked for by its row.
-use crate::tests::shown::{Show, tell};
-use crate::{
+use crate::views::shown::{Show, tell};
+use sb_schema::{
     ArbitraryClosedProfileDef, ArbitraryProfileDefWithVoids, Axis2Placement2d, Axis2Placement3d,
     Building, CartesianPoint, CartesianPointList2d, Direction, ExtrudedAreaSolid, IndexedPolyCurve,
     LocalPlacement, Material, MaterialLayer, MaterialLayerSet, MaterialLayerSetUsage,

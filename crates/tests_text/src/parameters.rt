@@ -1,4 +1,4 @@
-use crate::{Param, Params, ParamsError, index, params};
+use sb_step::{Param, Params, ParamsError, index, params};
 use std::alloc::{AllocError, Global};
 use std::test::Fail;
 

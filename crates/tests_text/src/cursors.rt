@@ -1,4 +1,4 @@
-use crate::{Cursor, index};
+use sb_step::{Cursor, index};
 use std::alloc::{AllocError, Global};
 use std::test::Fail;
 
