@@ -8,8 +8,7 @@ abbrev pub building : Row
 building = row (codes "IFCBUILDING" ∷ []) 12 ((6, reference_or_none) ∷ [])
 
 abbrev pub space : Row
-space =
-    row (codes "IFCSPACE" ∷ []) 11
+space = row (codes "IFCSPACE" ∷ []) 11
     ((1, string) ∷ (6, reference_or_none) ∷ (7, reference_or_none) ∷ [])
 
 abbrev pub product : Row
@@ -28,8 +27,7 @@ local_placement =
     row (codes "IFCLOCALPLACEMENT" ∷ []) 2 ((1, reference_or_none) ∷ (2, reference) ∷ [])
 
 abbrev pub axis2_placement_3d : Row
-axis2_placement_3d =
-    row (codes "IFCAXIS2PLACEMENT3D" ∷ []) 3
+axis2_placement_3d = row (codes "IFCAXIS2PLACEMENT3D" ∷ []) 3
     ((1, reference) ∷ (2, reference_or_none) ∷ (3, reference_or_none) ∷ [])
 
 abbrev pub axis2_placement_2d : Row
@@ -50,13 +48,11 @@ shape_representation =
     row (codes "IFCSHAPEREPRESENTATION" ∷ []) 4 ((2, string_or_none) ∷ (4, references) ∷ [])
 
 abbrev pub extruded_area_solid : Row
-extruded_area_solid =
-    row (codes "IFCEXTRUDEDAREASOLID" ∷ []) 4
+extruded_area_solid = row (codes "IFCEXTRUDEDAREASOLID" ∷ []) 4
     ((1, reference) ∷ (2, reference_or_none) ∷ (3, reference) ∷ (4, number) ∷ [])
 
 abbrev pub rectangle_profile_def : Row
-rectangle_profile_def =
-    row (codes "IFCRECTANGLEPROFILEDEF" ∷ []) 5
+rectangle_profile_def = row (codes "IFCRECTANGLEPROFILEDEF" ∷ []) 5
     ((3, reference_or_none) ∷ (4, number) ∷ (5, number) ∷ [])
 
 abbrev pub arbitrary_closed_profile_def : Row
@@ -101,6 +97,5 @@ abbrev pub material_layer_set : Row
 material_layer_set = row (codes "IFCMATERIALLAYERSET" ∷ []) 3 ((1, references) ∷ [])
 
 abbrev pub material_layer_set_usage : Row
-material_layer_set_usage =
-    row (codes "IFCMATERIALLAYERSETUSAGE" ∷ []) 5
+material_layer_set_usage = row (codes "IFCMATERIALLAYERSETUSAGE" ∷ []) 5
     ((1, reference) ∷ (2, enumeration) ∷ (3, enumeration) ∷ [])
