@@ -1,0 +1,16 @@
+-- The laws by topic.
+
+-- the tests of marks tell equal ones
+pub mod MarksTold
+-- what holds of chains of runs
+pub mod ChainsKeep
+-- chains in order have no seam
+pub mod NoSeamInOrder
+-- the strips of one face
+pub mod ByFace
+-- the runs of the strips of one slab
+pub mod RunsOfASlab
+-- the runs of slabs that ascend
+pub mod SlabAfterSlab
+-- their chains are trimmed
+pub mod ChainsAreTrimmed

@@ -1,0 +1,2 @@
+//! Sheets of faces: theory alone, no code.
+#![tactic(auto)]
