@@ -14,3 +14,15 @@ pub mod RunsOfASlab
 pub mod SlabAfterSlab
 -- their chains are trimmed
 pub mod ChainsAreTrimmed
+-- patches of a model are patches
+pub mod PatchesAreRegions
+-- fine cells over one slab rise
+pub mod CellsRise
+-- joinable cells are strips of slabs that ascend
+pub mod JoinableAscends
+-- plain points lie on no side
+pub mod PlainOffSides
+-- points of sides
+pub mod PointsOfSides
+-- joinable cells are joined
+pub mod JoinedCells

@@ -107,8 +107,10 @@ keys_exact p q same =
     (order_of_sides p.region.upper q.region.upper) rank.1 in (
       same_face p.mark.face q.mark.face (exact_unsigned _ _ space.0)
           (same_rank p.mark.face.kind q.mark.face.kind (exact_unsigned _ _ rank.0)),
-      (sides_exact p.region.lower q.region.lower sides.0,
-        sides_exact p.region.upper q.region.upper sides.1),
+      (
+        sides_exact p.region.lower q.region.lower sides.0,
+        sides_exact p.region.upper q.region.upper sides.1,
+      ),
     )
 
 -- the order of the keys of p and of these data
