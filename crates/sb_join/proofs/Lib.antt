@@ -1,0 +1,10 @@
+-- What the answers cite.
+
+-- items side by side
+pub mod SameItems
+-- two cells in one
+pub mod TwoInOne
+-- the order of runs
+pub mod RunsInOrder
+-- stacks of strips
+pub mod Stacked

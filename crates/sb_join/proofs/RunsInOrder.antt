@@ -1,0 +1,166 @@
+-- The order of runs is an order of cells, so that a sort by it puts them in order.
+use Rattle.std.proofs.Common.{◌≡◌, refl, sym, ◌∙◌, ap, inl, inr, ◌⊎◌, arith, ℤ, ℕ, suc, ◌<◌, ◌≤◌, pos, ◌<ℤ◌}
+use Rattle.std.proofs.Common.{Bool, true, false, List, [], ◌∷◌, length, get_or, neg_ℤ, cond, map}
+use Rattle.std.specs.List.{AllByRecursion}
+use Rattle.std.specs.declared.cmp.Ordering.{Ordering}
+use Rattle.std.specs.declared.cmp.Ordering.TheVariants.{Less, Equal, Greater}
+use Rattle.std.specs.Ordering.{is_lt, int_cmp, ordering_reverse, on, then_cmp}
+use Rattle.std.specs.Cmp.{IsTotalOrder, IsStrictWeakOrder}
+use Rattle.std.specs.List.Sorted.{IsSortedBy}
+use Rattle.std.proofs.lemmas.Int.{ints}
+use Rattle.std.proofs.lemmas.Cmp.{on_total, then_total}
+use Rattle.std.proofs.lemmas.List.Sorted.{ranks_by, sorted_far}
+use Rattle.theory_lists.specs.Members.{AllOfTwo}
+use Rattle.theory_numbers.specs.Arrows.{Arrow, cross}
+use Rattle.theory_numbers.specs.Rationals.{IsRational, IsBelow, IsSame}
+use Rattle.theory_numbers.proofs.Arrows.{cross-turn}
+use Rattle.theory_numbers.proofs.Rationals.{below_trans, number_cases, same_sym, same_trans}
+use Rattle.theory_numbers.proofs.Rationals.{at_most_below_trans, below_at_most_trans}
+use Rattle.theory_patches.proofs.NoneBetween.{at_most_from_same}
+use Rattle.sb_fraction.specs.Numbers.{order_of}
+use Rattle.sb_model.specs.declared.boundary.Cell.{Cell}
+use Rattle.sb_model.specs.Patches.{region_of}
+use Rattle.theory_faces.specs.Strips.{Strip, strip_of, strips_of}
+use Rattle.theory_faces.specs.Chains.{order_of_keys, order_of_runs, AreInOrder}
+use Rattle.theory_faces.proofs.NoSeamInOrder.{keys_total}
+use Rattle.theory_faces.proofs.PatchesAreRegions.{patch_is}
+
+-- ---- the order of two numbers
+
+-- what it answers, by where the two lie
+pub less_order : (r s : Arrow) → IsBelow r s → order_of r s ≡ Less
+less_order r s below = grind (arith, ints)
+
+pub same_order : (r s : Arrow) → IsSame r s → order_of r s ≡ Equal
+same_order r s same = grind (arith, ints)
+
+pub greater_order : (r s : Arrow) → IsBelow s r → order_of r s ≡ Greater
+greater_order r s below = let turn = cross-turn r s in grind (arith, ints)
+
+below_from : (r s : Arrow) → order_of r s ≡ Less → IsBelow r s
+below_from r s less = from (number_cases r s)
+  where
+    from : (IsBelow r s ⊎ IsSame r s) ⊎ IsBelow s r → IsBelow r s
+    from (inl (inl below)) = below
+    from (inl (inr same)) = absurd (let e = same_order r s same in cc)
+    from (inr beyond) = absurd (let e = greater_order r s beyond in cc)
+
+same_from : (r s : Arrow) → order_of r s ≡ Equal → IsSame r s
+same_from r s equal = from (number_cases r s)
+  where
+    from : (IsBelow r s ⊎ IsSame r s) ⊎ IsBelow s r → IsSame r s
+    from (inl (inl below)) = absurd (let e = less_order r s below in cc)
+    from (inl (inr same)) = same
+    from (inr beyond) = absurd (let e = greater_order r s beyond in cc)
+
+-- where a cell begins
+abbrev low_of : Cell → Arrow
+low_of c = (region_of c.patch).low
+
+low_in : (c : Cell) → IsRational (low_of c)
+low_in c = (patch_is c.patch).region.low_in
+
+abbrev order_of_lows : Cell → Cell → Ordering
+order_of_lows a b = order_of (low_of a) (low_of b)
+
+-- an order of cells
+pub lows_total : IsTotalOrder order_of_lows
+lows_total =
+    record {
+      antisymm = λ a b. turned a b (number_cases (low_of a) (low_of b));
+      trans =
+          λ a b c first second.
+          less_order (low_of a) (low_of c)
+          (below_trans (low_of a) (low_of b) (low_of c) (low_in a) (low_in b) (low_in c)
+          (below_from (low_of a) (low_of b) first) (below_from (low_of b) (low_of c) second));
+      congr =
+          λ a b c equal.
+          alike a b c (same_from (low_of a) (low_of b) equal) (number_cases (low_of b) (low_of c));
+    }
+  where
+    turned : (a b : Cell)
+        → (IsBelow (low_of a) (low_of b) ⊎ IsSame (low_of a) (low_of b))
+        ⊎ IsBelow (low_of b) (low_of a)
+        → order_of_lows a b ≡ ordering_reverse (order_of_lows b a)
+    turned a b (inl (inl below)) =
+        less_order (low_of a) (low_of b) below
+        ∙ sym (ap ordering_reverse (greater_order (low_of b) (low_of a) below))
+    turned a b (inl (inr same)) =
+        same_order (low_of a) (low_of b) same
+        ∙ sym
+        (ap ordering_reverse
+        (same_order (low_of b) (low_of a) (same_sym (low_of a) (low_of b) same)))
+    turned a b (inr beyond) =
+        greater_order (low_of a) (low_of b) beyond
+        ∙ sym (ap ordering_reverse (less_order (low_of b) (low_of a) beyond))
+
+    alike : (a b c : Cell) → IsSame (low_of a) (low_of b)
+        → (IsBelow (low_of b) (low_of c) ⊎ IsSame (low_of b) (low_of c))
+        ⊎ IsBelow (low_of c) (low_of b)
+        → order_of_lows a c ≡ order_of_lows b c
+    alike a b c same (inl (inl below)) =
+        less_order (low_of a) (low_of c)
+        (at_most_below_trans (low_of a) (low_of b) (low_of c) (low_in a) (low_in b) (low_in c)
+        (at_most_from_same (low_of a) (low_of b) same) below)
+        ∙ sym (less_order (low_of b) (low_of c) below)
+    alike a b c same (inl (inr also)) =
+        same_order (low_of a) (low_of c)
+        (same_trans (low_of a) (low_of b) (low_of c) (low_in b) same also)
+        ∙ sym (same_order (low_of b) (low_of c) also)
+    alike a b c same (inr beyond) =
+        greater_order (low_of a) (low_of c)
+        (below_at_most_trans (low_of c) (low_of b) (low_of a) (low_in c) (low_in b) (low_in a)
+        beyond
+        (at_most_from_same (low_of b) (low_of a) (same_sym (low_of a) (low_of b) same)))
+        ∙ sym (greater_order (low_of b) (low_of c) beyond)
+
+-- ---- the order of runs
+
+-- the order of the runs of cells
+abbrev pub runs_order : Cell → Cell → Ordering
+runs_order a b = order_of_runs (strip_of a) (strip_of b)
+
+pub runs_total : IsTotalOrder runs_order
+runs_total = then_total (on_total strip_of keys_total) lows_total
+
+-- so the test of less is one that a sort takes
+pub runs_ranked : IsStrictWeakOrder (λ a b. is_lt (runs_order a b))
+runs_ranked = ranks_by runs_total (λ (c : Cell). c)
+
+-- ---- each two of a sorted list
+
+module _ {X : Type 0} (R : X → X → Type 0) where
+  all_from : (xs : List X) (d : X) (P : X → Type 0)
+      → ((j : ℕ) → j < length xs → P (get_or xs j d)) → AllByRecursion P xs
+  all_from [] d P at = tt
+  all_from (x ∷ xs) d P at =
+      (at 0 (omega arith), all_from xs d P (λ j there. at (suc j) (omega arith)))
+
+  -- what holds of the items at each two places holds of each two
+  pub two_from : (xs : List X)
+      → ((i j : ℕ) (d : X) → i < j → j < length xs → R (get_or xs i d) (get_or xs j d))
+      → AllOfTwo R xs
+  two_from [] at = tt
+  two_from (x ∷ xs) at = (
+    all_from xs x (R x) (λ j there. at 0 (suc j) x (omega arith) (omega arith)),
+    two_from xs (λ i j d before there. at (suc i) (suc j) d (omega arith) (omega arith)),
+  )
+
+two_strips : (R : Strip → Strip → Type 0) (cs : List Cell)
+    → AllOfTwo (λ a b. R (strip_of a) (strip_of b)) cs → AllOfTwo R (strips_of cs)
+two_strips R [] all = tt
+two_strips R (c ∷ cs) all = (each cs all.0, two_strips R cs all.1)
+  where
+    each : (bs : List Cell) → AllByRecursion (λ b. R (strip_of c) (strip_of b)) bs
+        → AllByRecursion (R (strip_of c)) (strips_of bs)
+    each [] none = tt
+    each (b ∷ bs) some = (some.0, each bs some.1)
+
+-- the strips of cells that were sorted are in order
+pub sorted_in_order : (cs : List Cell) → IsSortedBy (λ a b. is_lt (runs_order a b)) cs
+    → AreInOrder (strips_of cs)
+sorted_in_order cs sorted =
+    two_strips (λ p q. is_lt (order_of_runs q p) ≡ false) cs
+    (two_from (λ a b. is_lt (runs_order b a) ≡ false) cs
+    (λ i j d before there.
+    sorted_far (λ a b. is_lt (runs_order a b)) runs_ranked cs sorted i j d (omega arith) there))

@@ -1,0 +1,3 @@
+-- What the joiner keeps, in reading order.
+pub mod Stacks
+pub mod Taken

@@ -1,0 +1,64 @@
+//! The order in which runs are carried on.
+
+ghost use Rattle.std.specs.Prelude.{◌≡◌, IsPermutation};
+ghost use Rattle.sb_model.specs.Boundaries.Order.{rank_of};
+ghost use Rattle.sb_model.specs.Sides.{line_of};
+ghost use Rattle.theory_faces.specs.Strips.{strip_of, strips_of};
+ghost use Rattle.theory_faces.specs.Chains.{order_of_sides as sides_order, order_of_keys as keys_order};
+ghost use Rattle.theory_faces.specs.Chains.{order_of_runs as runs_order, AreInOrder};
+
+use crate::alike::numbers;
+use sb_fraction::compare;
+use sb_model::{Cell, FaceKind, Side};
+use std::cmp::Ordering;
+
+/// Puts runs in order of their faces, their sides and where they begin.
+pub(crate) fn sort_runs(runs: &mut Vec<Cell>)
+    ensures permutation { IsPermutation runs.old.items runs.new.items }
+    ensures in_order { AreInOrder (strips_of runs.new.items) }
+{
+    runs.sort_unstable_by(|a, b| order_of_runs(a, b));
+}
+
+fn order_of_runs(a: &Cell, b: &Cell) -> Ordering
+    ensures { result ≡ runs_order (strip_of a.now) (strip_of b.now) }
+{
+    order_of_keys(a, b).then(compare(&a.patch.low, &b.patch.low))
+}
+
+fn order_of_keys(a: &Cell, b: &Cell) -> Ordering
+    ensures { result ≡ keys_order (strip_of a.now) (strip_of b.now) }
+{
+    let sides = order_of_sides(a.patch.lower, b.patch.lower).then(order_of_sides(
+        a.patch.upper,
+        b.patch.upper,
+    ));
+    let ranks = rank(a.patch.face.kind).cmp(&rank(b.patch.face.kind));
+    a.patch
+        .face
+        .space
+        .cmp(&b.patch.face.space)
+        .then(ranks.then(sides))
+}
+
+/// The place of a face among those of its space.
+fn rank(kind: FaceKind) -> u64
+    ensures { result ≡ rank_of kind }
+{
+    match kind {
+        FaceKind::Bottom => 0,
+        FaceKind::Top => 1,
+        FaceKind::Side(k) => 2 + k as u64,
+    }
+}
+
+fn order_of_sides(a: Side, b: Side) -> Ordering
+    ensures { result ≡ sides_order (line_of a) (line_of b) }
+{
+    let first = numbers(a);
+    let second = numbers(b);
+    first
+        .dx
+        .cmp(&second.dx)
+        .then(first.dy.cmp(&second.dy).then(first.off.cmp(&second.off)))
+}
