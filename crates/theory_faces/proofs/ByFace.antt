@@ -1,5 +1,5 @@
 -- The strips of one face among those of several, and what the runs of a slab keep of them.
-use Rattle.std.proofs.Common.{◌≡◌, refl, sym, ◌∙◌, ap, subst, inl, inr, ◌⊎◌, arith, ℕ, ◌<◌, ◌≤◌}
+use Rattle.std.proofs.Common.{◌≡◌, refl, sym, ◌∙◌, ap, subst, inl, inr, ◌⊎◌, arith, ◌<◌, ◌≤◌}
 use Rattle.std.proofs.Common.{Bool, true, false, ◌&&◌, if◌then◌else◌, List, [], ◌∷◌}
 use Rattle.std.specs.Prelude.{cond}
 use Rattle.std.specs.List.{AllByRecursion, filter}
@@ -8,15 +8,14 @@ use Rattle.std.proofs.lemmas.Bool.Decides.{Decides-int_eq}
 use Rattle.theory_numbers.specs.Arrows.{Arrow}
 use Rattle.theory_plane.specs.Points.{FacePoint}
 use Rattle.theory_lists.specs.Members.{Stands, AllOfTwo}
-use Rattle.theory_patches.specs.Marked.{MarkedPatch}
 use Rattle.theory_patches.specs.Sheets.{IsMarkedAt}
 use Rattle.theory_joining.specs.Cells.{is_one_run, raised, lay_under, runs_of}
-use Rattle.theory_joining.proofs.RunsMerge.{AreOneRun, one_run_from}
+use Rattle.theory_joining.proofs.RunsMerge.{one_run_from}
 use Rattle.theory_joining.proofs.RunsStayApart.{all_laid}
 use Rattle.sb_model.specs.declared.face.Face.{Face}
 use Rattle.sb_model.specs.Boundaries.Order.{rank_of}
 use Rattle.theory_faces.specs.Strips.{Mark, Strip, is_same_face, is_same_mark, is_same_number}
-use Rattle.theory_faces.specs.Strips.{have_same_ends, is_raised_by, lay, runs_over}
+use Rattle.theory_faces.specs.Strips.{have_same_ends, lay, runs_over}
 use Rattle.theory_faces.proofs.MarksTold.{mark_tells, face_tells}
 use Rattle.theory_faces.proofs.NoSeamInOrder.{same_rank, same_face}
 

@@ -1,36 +1,33 @@
 -- Of two fine cells of one face over one slab, the first of which comes first, the first is under
 -- the second: its upper side is the other's lower side, or lies below it strictly inside the slab.
 use Rattle.std.proofs.Common.{◌≡◌, refl, sym, ◌∙◌, ap, subst, inl, inr, ◌⊎◌, ⊎_elim, arith, ℤ, pos}
-use Rattle.std.proofs.Common.{◌<ℤ◌, ◌≤ℤ◌, ◌-ℤ◌, ◌*ℤ◌, Bool, true, false, List, Some, None, IsTrue}
-use Rattle.std.proofs.Common.{◌+ℤ◌, ◌&&◌, ◌||◌}
+use Rattle.std.proofs.Common.{◌<ℤ◌, ◌≤ℤ◌, ◌-ℤ◌, ◌*ℤ◌, Bool, true, false}
+use Rattle.std.proofs.Common.{◌+ℤ◌}
 use Rattle.std.proofs.lemmas.Int.{ints, by_lt_z}
-use Rattle.std.proofs.lemmas.Bool.{and_from, or_right, false≢true}
-use Rattle.std.proofs.lemmas.Option.{same_Some}
+use Rattle.std.proofs.lemmas.Bool.{or_right, false≢true}
 use Rattle.std.specs.List.{list_any}
 use Rattle.theory_lists.specs.Members.{Stands}
 use Rattle.theory_lists.proofs.Members.{any_stands}
-use Rattle.theory_numbers.specs.Arrows.{Arrow, arrow, cross, dot}
-use Rattle.theory_numbers.specs.Rationals.{IsRational, IsBelow, IsAtMost, IsSame, IsZeroForm, mediant}
-use Rattle.theory_numbers.proofs.Rationals.{mediant-IsRational, mediant_between, at_most_from_below}
-use Rattle.theory_numbers.proofs.Rationals.{same_sym, same_trans, below_irrefl, below_trans}
+use Rattle.theory_numbers.specs.Arrows.{Arrow, dot}
+use Rattle.theory_numbers.specs.Rationals.{IsRational, IsBelow, IsSame, mediant}
+use Rattle.theory_numbers.proofs.Rationals.{mediant-IsRational, mediant_between}
+use Rattle.theory_numbers.proofs.Rationals.{same_sym, same_trans}
 use Rattle.theory_numbers.proofs.Ring.{mul_comm}
 use Rattle.theory_numbers.proofs.Products.{positive_product, weak_factor}
 use Rattle.theory_plane.specs.Sides.{LineSide, IsLineSide, level, clearance, clearance_at}
 use Rattle.theory_plane.specs.Sides.{is_same_side, value_on, IsReducedSide}
-use Rattle.theory_plane.specs.Regions.{Region, is_spanned}
 use Rattle.theory_plane.proofs.Clearance.{meeting_is, value_on-IsRational, clearance-level}
 use Rattle.theory_plane.proofs.LeadsUntilMeeting.{value-zero_form}
 use Rattle.theory_plane.proofs.SameSide.{same_side_decides, meet_once}
-use Rattle.theory_joining.specs.Cells.{IsClearOver, IsUnder}
+use Rattle.theory_joining.specs.Cells.{IsClearOver}
 use Rattle.sb_fraction.specs.Edges.{Edge}
 use Rattle.sb_fraction.specs.Crossings.{cross_over, ends_over}
 use Rattle.sb_fraction.specs.Directions.{axis_x}
-use Rattle.sb_fraction.specs.Lines.{flat, line_over}
+use Rattle.sb_fraction.specs.Lines.{line_over}
 use Rattle.sb_model.specs.Building.{Building}
-use Rattle.sb_model.specs.PlanEdges.{PlanEdge, plan_edges, is_abscissa}
+use Rattle.sb_model.specs.PlanEdges.{PlanEdge, plan_edges}
 use Rattle.sb_model.specs.FineCells.{AreNeighbours, way_x, is_across_slab, IsLineOf, IsOfSpanning}
 use Rattle.theory_parity.specs.Below.{IsWay}
-use Rattle.theory_lines.specs.Slabs.{IsSlab}
 use Rattle.theory_lines.proofs.OneLiesBelow.{crossing_between, spanning_is_line}
 
 -- (1, 0) is a way

@@ -6,30 +6,29 @@ use Rattle.std.specs.List.{AllByRecursion}
 use Rattle.std.proofs.lemmas.List.Sorted.{IsPermutation-sym}
 use Rattle.theory_numbers.specs.Arrows.{Arrow}
 use Rattle.theory_numbers.specs.Rationals.{IsRational, IsBelow, IsSame}
-use Rattle.theory_numbers.proofs.Rationals.{number_cases, same_sym, same_trans, at_most_below_trans}
+use Rattle.theory_numbers.proofs.Rationals.{number_cases, same_sym, at_most_below_trans}
 use Rattle.theory_plane.specs.Sides.{LineSide, clearance_at}
 use Rattle.theory_plane.specs.Points.{FacePoint, IsFacePoint, abscissa_of}
 use Rattle.theory_plane.specs.Regions.{Region, is_inside}
-use Rattle.theory_lists.specs.Members.{Stands, AllOfTwo}
-use Rattle.theory_lists.proofs.Members.{all_stands, all_follow, two_follow, all_both}
+use Rattle.theory_lists.specs.Members.{AllOfTwo}
+use Rattle.theory_lists.proofs.Members.{all_stands, all_follow, all_both}
 use Rattle.theory_lists.proofs.InAnyOrder.{all_permuted, two_permuted}
 use Rattle.theory_patches.specs.Marked.{IsPatch}
 use Rattle.theory_patches.specs.Sheets.{Sheet, IsNoAbscissa, IsMarkedAt}
-use Rattle.theory_patches.specs.Trimmed.{IsOver, IsTrimmedList}
-use Rattle.theory_patches.proofs.MarkedAt.{Marks, none_marked, marked_first, marked_cases}
+use Rattle.theory_patches.specs.Trimmed.{IsTrimmedList}
 use Rattle.theory_patches.proofs.NoneBetween.{at_most_from_same}
 use Rattle.theory_patches.proofs.TrimmedInAnyOrder.{marked_permuted}
 use Rattle.theory_joining.specs.Runs.{AreApartIfAlike}
 use Rattle.theory_joining.specs.Joined.{AreSpacedIfAlike}
 use Rattle.theory_joining.specs.Put.{carried_on}
 use Rattle.theory_joining.proofs.GoesOn.{GoesOn, carried_on_is_patch}
-use Rattle.theory_joining.proofs.MarksOfPut.{inside_parts, inside_from, IsInsideBy}
+use Rattle.theory_joining.proofs.MarksOfPut.{inside_parts, inside_from}
 use Rattle.theory_joining.proofs.JoinedIsTrimmed.{HasListedEnds, trimmed_if_spaced}
 use Rattle.theory_faces.specs.Strips.{Mark, Strip}
 use Rattle.theory_faces.specs.Chains.{chains, AreInOrder}
 use Rattle.theory_faces.proofs.ChainsKeep.{chains_all, chains_two, SeesParts, chains_are_closed}
 use Rattle.theory_faces.proofs.ChainsKeep.{chains_are_patches, chains_mark, chains_mark_no_more}
-use Rattle.theory_faces.proofs.NoSeamInOrder.{AreInTurn, IsInTurn, IsNotAfter, HaveOneKey}
+use Rattle.theory_faces.proofs.NoSeamInOrder.{AreInTurn, IsInTurn, IsNotAfter}
 use Rattle.theory_faces.proofs.NoSeamInOrder.{in_turn_if_in_order, none_has_seam, key_sym, key_trans}
 use Rattle.theory_faces.proofs.NoSeamInOrder.{HaveNoSeamIfAlike}
 use Rattle.theory_faces.proofs.SlabAfterSlab.{AreApartAt}

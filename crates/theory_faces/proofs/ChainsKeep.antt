@@ -10,7 +10,7 @@ use Rattle.theory_plane.specs.Sides.{is_same_side}
 use Rattle.theory_plane.specs.Points.{FacePoint, IsFacePoint, abscissa_of}
 use Rattle.theory_lists.specs.Members.{AllOfTwo}
 use Rattle.theory_lists.proofs.Members.{all_follow, all_both}
-use Rattle.theory_patches.specs.Marked.{MarkedPatch, IsPatch}
+use Rattle.theory_patches.specs.Marked.{IsPatch}
 use Rattle.theory_patches.specs.Sheets.{IsMarkedAt}
 use Rattle.theory_patches.proofs.MarkedAt.{Marks, marked_first, marked_later, marked_cases}
 use Rattle.theory_patches.proofs.MarkedAt.{none_marked}

@@ -1,7 +1,7 @@
 -- Joinable cells are strips of slabs that ascend, on the sheet whose abscissae are their ends.
-use Rattle.std.proofs.Common.{◌≡◌, refl, sym, ◌∙◌, ap, subst, inl, inr, ◌⊎◌, ⊎_elim, arith, ℕ, ℤ, pos}
-use Rattle.std.proofs.Common.{◌≤ℤ◌, ◌<◌, ◌≤◌, ◌&&◌, Bool, true, false, List, [], ◌∷◌, ◌++◌, map}
-use Rattle.std.proofs.Common.{Option, Some, None, IsTrue}
+use Rattle.std.proofs.Common.{◌≡◌, refl, sym, ◌∙◌, ap, subst, inl, inr, ◌⊎◌, ⊎_elim, arith, pos}
+use Rattle.std.proofs.Common.{◌≤ℤ◌, ◌&&◌, true, false, List, [], ◌∷◌, ◌++◌, map}
+use Rattle.std.proofs.Common.{Option, Some, None}
 use Rattle.std.specs.List.{AllByRecursion}
 use Rattle.std.specs.Ordering.{int_eq}
 use Rattle.std.proofs.lemmas.Bool.{and_from}
@@ -15,8 +15,8 @@ use Rattle.theory_numbers.specs.Arrows.{Arrow, cross}
 use Rattle.theory_numbers.specs.Rationals.{IsRational, IsBelow, IsAtMost, IsSame, is_below}
 use Rattle.theory_numbers.proofs.Rationals.{below_irrefl, same_sym, same_trans}
 use Rattle.theory_numbers.proofs.Signs.{test_less}
-use Rattle.theory_plane.specs.Sides.{LineSide, IsReducedSide, level, clearance_at}
-use Rattle.theory_plane.specs.Regions.{Region, is_spanned}
+use Rattle.theory_plane.specs.Sides.{level, clearance_at}
+use Rattle.theory_plane.specs.Regions.{Region}
 use Rattle.theory_patches.specs.Marked.{IsPatch}
 use Rattle.theory_patches.specs.Sheets.{Sheet, IsNoAbscissa}
 use Rattle.theory_joining.specs.Runs.{IsRunOver}
@@ -37,7 +37,7 @@ use Rattle.sb_model.specs.Patches.{region_of}
 use Rattle.sb_model.specs.FineCells.{AreNeighbours, IsPieceOf, IsPieceOver, IsFineCell, IsOfSpanning}
 use Rattle.sb_model.specs.Boundaries.Order.{IsBefore, IsBeforeOnFace, rank_of}
 use Rattle.theory_models.specs.Abscissae.{abscissae_of}
-use Rattle.theory_models.proofs.AbscissaeListed.{is_among, abscissa_is_among, no_abscissa_is_none}
+use Rattle.theory_models.proofs.AbscissaeListed.{abscissa_is_among, no_abscissa_is_none}
 use Rattle.theory_faces.specs.Strips.{Strip, strip_of, strips_of}
 use Rattle.theory_faces.specs.Joinable.{IsFirstOfSlab, EndsBefore, AreJoinable}
 use Rattle.theory_faces.proofs.ByFace.{FacesRise}

@@ -1,13 +1,13 @@
 -- Joinable cells whose runs are put in order and carried on are joined: the patches are trimmed, and
 -- on each face they have the points, the plain points and the walks of the cells.
-use Rattle.std.proofs.Common.{◌≡◌, refl, sym, ◌∙◌, ap, subst, inl, inr, ◌⊎◌, ⊎_elim, arith, ℕ, ℤ, pos}
-use Rattle.std.proofs.Common.{neg_ℤ, ◌+ℤ◌, ◌*ℤ◌, ◌<◌, ◌==◌, Bool, true, false, ◌&&◌, List, [], ◌∷◌}
+use Rattle.std.proofs.Common.{◌≡◌, refl, sym, ◌∙◌, ap, subst, inl, inr, ◌⊎◌, arith, ℕ, ℤ, pos}
+use Rattle.std.proofs.Common.{neg_ℤ, ◌+ℤ◌, ◌*ℤ◌, ◌<◌, ◌==◌, true, false, List, [], ◌∷◌}
 use Rattle.std.proofs.Common.{map, Option, Some, None, IsTrue, IsPermutation}
 use Rattle.std.specs.Prelude.{cond, slice_get}
-use Rattle.std.specs.List.{AllByRecursion, list_any, list_all, find}
+use Rattle.std.specs.List.{AllByRecursion, list_any, find}
 use Rattle.std.specs.Ordering.{int_eq}
 use Rattle.std.proofs.lemmas.Int.{ints}
-use Rattle.std.proofs.lemmas.Bool.{and_parts, and_from, false≢true, false_from_ne_true, eq-eqb, ne_eqb}
+use Rattle.std.proofs.lemmas.Bool.{and_parts, and_from, false_from_ne_true, eq-eqb, ne_eqb}
 use Rattle.std.proofs.lemmas.Bool.Decides.{Decides-int_eq}
 use Rattle.std.proofs.lemmas.List.Sorted.{IsPermutation-sym}
 use Rattle.std.proofs.lemmas.Option.{same_Some, none-some}
@@ -16,15 +16,14 @@ use Rattle.theory_lists.specs.OneOf.{ExactlyOne, AtMostOne}
 use Rattle.theory_lists.proofs.Members.{all_stands, all_follow, all_that_stand, all_images, two_follow}
 use Rattle.theory_lists.proofs.Members.{two_of_images, one_or_two, any_stands, one_of_any, stands_at}
 use Rattle.theory_lists.proofs.Blocks.{one_of_at_most}
-use Rattle.theory_lists.proofs.InAnyOrder.{all_permuted, two_permuted, stands_permuted}
+use Rattle.theory_lists.proofs.InAnyOrder.{all_permuted, two_permuted}
 use Rattle.theory_lists.proofs.Passing.{passes_if_all}
-use Rattle.theory_numbers.specs.Arrows.{Arrow}
 use Rattle.theory_numbers.specs.Rationals.{IsRational, IsBelow, IsSame}
 use Rattle.theory_numbers.proofs.Ring.{neg-mul}
 use Rattle.theory_plane.specs.Sides.{LineSide, IsLineSide}
-use Rattle.theory_plane.specs.Points.{FacePoint, abscissa_of, is_on_side}
-use Rattle.theory_plane.specs.Regions.{Region, is_inside}
-use Rattle.theory_patches.specs.Marked.{MarkedPatch, IsPatch}
+use Rattle.theory_plane.specs.Points.{abscissa_of, is_on_side}
+use Rattle.theory_plane.specs.Regions.{is_inside}
+use Rattle.theory_patches.specs.Marked.{IsPatch}
 use Rattle.theory_patches.specs.Sheets.{Sheet, IsNoAbscissa, IsMarkedAt}
 use Rattle.theory_patches.specs.Trimmed.{IsTrimmedList, AreTrimmed as AreTrimmedOnSheet}
 use Rattle.theory_patches.proofs.TrimmedInAnyOrder.{trimmed_permuted, marked_permuted}
@@ -33,15 +32,13 @@ use Rattle.theory_joining.specs.Put.{carried_on}
 use Rattle.theory_joining.proofs.GoesOn.{GoesOn}
 use Rattle.theory_joining.proofs.RunsMerge.{AreOneRun}
 use Rattle.theory_plans.specs.LoopEdges.{edges_of}
-use Rattle.theory_plans.specs.Plans.{is_plan}
 use Rattle.theory_plans.proofs.EdgesOfPlans.{is_proper_edge}
 use Rattle.theory_plans.specs.Inside.{is_in_plan}
 use Rattle.theory_plans.proofs.EdgesOfPlans.{plan_edges_are_proper}
 use Rattle.theory_plans.proofs.StepsOfEdges.{step_is}
-use Rattle.theory_parity.specs.RegionsAlong.{is_in_region, IsOffSides}
 use Rattle.theory_parity.proofs.RegionIsFourHalves.{region_inside_throughout_off_sides}
 use Rattle.sb_fraction.specs.Spots.{Spot, IsSpot, Vector, times_w, reading, opposite}
-use Rattle.sb_fraction.specs.Edges.{Edge, is_on}
+use Rattle.sb_fraction.specs.Edges.{Edge}
 use Rattle.sb_fraction.specs.Directions.{axis_z, direction_of}
 use Rattle.sb_fraction.specs.Lines.{in_frame}
 use Rattle.sb_model.specs.declared.boundary.Cell.{Cell}
@@ -50,7 +47,7 @@ use Rattle.sb_model.specs.declared.face.FaceKind.{FaceKind}
 use Rattle.sb_model.specs.declared.face.FaceKind.TheVariants as kind
 use Rattle.sb_model.specs.declared.products.Space.{Space}
 use Rattle.sb_model.specs.declared.walk.Walk.{Walk}
-use Rattle.sb_model.specs.Solids.{Upright, is_between_heights}
+use Rattle.sb_model.specs.Solids.{Upright}
 use Rattle.sb_model.specs.Building.{Building, is_building}
 use Rattle.sb_model.specs.PlanEdges.{is_abscissa}
 use Rattle.sb_model.specs.Faces.{Surface, surface_of, space_numbered, side_of, side_over, edge_numbered}
@@ -58,17 +55,17 @@ use Rattle.sb_model.specs.Faces.{on_face, is_in_plane, is_of_face, is_of_side}
 use Rattle.sb_model.specs.Faces.{bottom_of, top_of}
 use Rattle.sb_model.specs.PlainPoints.{is_plain}
 use Rattle.sb_model.specs.Patches.{region_of, is_in_patch, surface_at, surface_in}
-use Rattle.sb_model.specs.FineCells.{IsFineCell, IsFineCellOf, IsPieceOf, IsPieceOver, way_x}
+use Rattle.sb_model.specs.FineCells.{IsFineCell, IsPieceOf, IsPieceOver, way_x}
 use Rattle.sb_model.specs.Boundaries.Trimmed.{AreTrimmed}
 use Rattle.theory_models.proofs.NumbersApart.{own_numbers}
 use Rattle.theory_models.proofs.EdgesOfProducts.{plan_of_solid}
 use Rattle.theory_faces.specs.Strips.{Mark, Strip, strip_of, strips_of, is_same_face, is_same_mark}
 use Rattle.theory_faces.specs.Strips.{runs_of_calls}
 use Rattle.theory_faces.specs.Chains.{chains, AreInOrder}
-use Rattle.theory_faces.specs.Joinable.{AreJoinable, IsTaken, is_cell_at, AreJoinedOn, AreJoined}
+use Rattle.theory_faces.specs.Joinable.{AreJoinable, IsTaken, is_cell_at}
 use Rattle.theory_faces.specs.Laws.{HasJoinedCells}
 use Rattle.theory_faces.proofs.MarksTold.{mark_tells, face_tells}
-use Rattle.theory_faces.proofs.SlabAfterSlab.{all_strips, AreOfASlab, all_listed, all_apart}
+use Rattle.theory_faces.proofs.SlabAfterSlab.{all_strips, all_listed, all_apart}
 use Rattle.theory_faces.proofs.SlabAfterSlab.{all_in_turn, all_apart_at, AreApartAt, all_of_strips}
 use Rattle.theory_faces.proofs.SlabAfterSlab.{all_have_marks, all_have_no_more, Ascend}
 use Rattle.theory_faces.proofs.ChainsAreTrimmed.{IsListed, each_chain, chains_are_trimmed}

@@ -26,3 +26,7 @@ pub mod PlainOffSides
 pub mod PointsOfSides
 -- joinable cells are joined
 pub mod JoinedCells
+-- a patch of a side from whole numbers
+pub mod PatchesOfHeights
+-- worked cases
+mod Examples

@@ -1,11 +1,11 @@
 -- Chains of runs that stand in order of their faces, their sides and their beginnings, and that
 -- follow each other where they have one face and one pair of sides, have no seam.
-use Rattle.std.proofs.Common.{◌≡◌, refl, sym, ◌∙◌, ap, subst, inl, inr, ◌⊎◌, arith, ℕ, ℤ, pos}
-use Rattle.std.proofs.Common.{Bool, true, false, ◌&&◌, List, [], ◌∷◌}
+use Rattle.std.proofs.Common.{◌≡◌, refl, sym, ◌∙◌, ap, subst, inl, inr, ◌⊎◌, arith, ℕ, pos}
+use Rattle.std.proofs.Common.{true, false, ◌&&◌, List, [], ◌∷◌}
 use Rattle.std.specs.List.{AllByRecursion}
 use Rattle.std.specs.declared.cmp.Ordering.{Ordering}
 use Rattle.std.specs.declared.cmp.Ordering.TheVariants.{Less, Equal, Greater}
-use Rattle.std.specs.Ordering.{int_eq, int_cmp, nat_cmp, is_lt, ordering_then, ordering_reverse}
+use Rattle.std.specs.Ordering.{int_cmp, nat_cmp, is_lt, ordering_then, ordering_reverse}
 use Rattle.std.specs.Cmp.{IsTotalOrder, signed_Decides}
 use Rattle.std.proofs.lemmas.Int.{ints}
 use Rattle.std.proofs.lemmas.Bool.{and_parts, and_from, false_from_ne_true, false≢true}
@@ -18,23 +18,23 @@ use Rattle.theory_numbers.proofs.Rationals.{below_or_not, at_most_below_trans, b
 use Rattle.theory_numbers.proofs.Rationals.{below_at_most_trans, below_trans}
 use Rattle.theory_numbers.proofs.Signs.{test_less}
 use Rattle.theory_plane.specs.Sides.{LineSide, clearance_at}
-use Rattle.theory_plane.specs.Regions.{Region, have_same_sides, is_seam}
+use Rattle.theory_plane.specs.Regions.{have_same_sides, is_seam}
 use Rattle.theory_plane.proofs.SameSide.{same_line}
 use Rattle.theory_lists.specs.Members.{AllOfTwo}
 use Rattle.theory_lists.proofs.Members.{all_follow, all_both}
 use Rattle.theory_patches.specs.Marked.{IsPatch}
 use Rattle.theory_patches.specs.Trimmed.{HaveNoSeam}
 use Rattle.theory_patches.proofs.NoneBetween.{at_most_from_same}
-use Rattle.theory_joining.specs.Put.{ends_where_begins, goes_on, carried_on}
-use Rattle.theory_joining.proofs.GoesOn.{GoesOn, one_sides_from}
+use Rattle.theory_joining.specs.Put.{ends_where_begins, goes_on}
+use Rattle.theory_joining.proofs.GoesOn.{one_sides_from}
 use Rattle.sb_fraction.specs.Numbers.{order_of}
 use Rattle.sb_model.specs.declared.face.Face.{Face}
 use Rattle.sb_model.specs.declared.face.FaceKind.{FaceKind}
 use Rattle.sb_model.specs.declared.face.FaceKind.TheVariants as kind
 use Rattle.sb_model.specs.Boundaries.Order.{rank_of}
 use Rattle.theory_faces.specs.Strips.{Strip, is_same_mark}
-use Rattle.theory_faces.specs.Chains.{order_of_sides, order_of_keys, order_of_runs, AreInOrder}
-use Rattle.theory_faces.proofs.MarksTold.{mark_tells, face_tells}
+use Rattle.theory_faces.specs.Chains.{order_of_sides, order_of_keys, order_of_runs}
+use Rattle.theory_faces.proofs.MarksTold.{mark_tells}
 use Rattle.theory_faces.proofs.ChainsKeep.{AreClosed}
 
 -- the two have one face and one pair of sides

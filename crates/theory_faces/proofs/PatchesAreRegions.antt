@@ -1,17 +1,17 @@
 -- A patch of a model is a patch of the theory of patches: its region is one, its ends are reduced
 -- fractions, and its sides have reduced directions.
-use Rattle.std.proofs.Common.{◌≡◌, subst, ℕ, pos, Bool, true, ◌&&◌, IsTrue}
+use Rattle.std.proofs.Common.{◌≡◌, subst, ℕ, pos, true, ◌&&◌}
 use Rattle.std.specs.Int.{IsGcd}
 use Rattle.std.specs.Prelude.{unsigned_abs, nat_le}
 use Rattle.std.proofs.lemmas.Bool.{and_parts, eqb-true}
-use Rattle.theory_numbers.specs.Divisors.{are_coprime, greatest_divisor}
+use Rattle.theory_numbers.specs.Divisors.{are_coprime}
 use Rattle.theory_numbers.specs.Fractions.{Ratio, is_lowest}
 use Rattle.theory_numbers.specs.Reduced.{IsReduced}
 use Rattle.theory_numbers.proofs.GreatestDivisor.{greatest_divisor_is}
 use Rattle.theory_numbers.proofs.LowestTerms.{lowest_is_reduced}
 use Rattle.theory_numbers.proofs.Reduced.{whole_is_reduced}
 use Rattle.theory_plane.specs.Sides.{IsLineSide, IsReducedSide}
-use Rattle.theory_plane.specs.Regions.{Region, IsRegion, is_region}
+use Rattle.theory_plane.specs.Regions.{is_region}
 use Rattle.theory_plane.proofs.Regions.{region_from}
 use Rattle.theory_patches.specs.Marked.{IsPatch}
 use Rattle.sb_fraction.specs.Bounds.{is_fraction, is_in_bounds}

@@ -1,7 +1,7 @@
 -- A plain point of a face lies on no side of a fine cell over whose slab it lies.
 use Rattle.std.proofs.Common.{◌≡◌, refl, sym, ◌∙◌, ap, ap₂, subst, inl, inr, ◌⊎◌, ⊎_elim, arith, ℤ, pos}
-use Rattle.std.proofs.Common.{◌+ℤ◌, ◌-ℤ◌, ◌*ℤ◌, ◌<ℤ◌, ◌≤ℤ◌, Bool, true, false, not, ◌&&◌, ◌||◌}
-use Rattle.std.proofs.Common.{Option, Some, None, IsTrue, int_le, int_lt}
+use Rattle.std.proofs.Common.{◌+ℤ◌, ◌-ℤ◌, ◌*ℤ◌, Bool, true, false, not, ◌&&◌, ◌||◌}
+use Rattle.std.proofs.Common.{Option, Some, None, int_le}
 use Rattle.std.specs.List.{list_any}
 use Rattle.std.specs.Ordering.{int_eq}
 use Rattle.std.proofs.lemmas.Int.{ints}
@@ -13,34 +13,34 @@ use Rattle.theory_lists.specs.Members.{Stands}
 use Rattle.theory_lists.specs.Parity.{differ}
 use Rattle.theory_lists.proofs.Members.{any_stands, one_of_any}
 use Rattle.theory_lists.proofs.Parity.{opposite_from_differ}
-use Rattle.theory_numbers.specs.Arrows.{Arrow, arrow, cross, dot}
-use Rattle.theory_numbers.specs.Rationals.{IsRational, IsBelow, IsAtMost, IsSame}
+use Rattle.theory_numbers.specs.Arrows.{Arrow, cross, dot}
+use Rattle.theory_numbers.specs.Rationals.{IsRational, IsBelow}
 use Rattle.theory_numbers.proofs.Lengths.{opposed}
 use Rattle.theory_numbers.proofs.Rationals.{same_sym, same_trans, at_most_from_below}
 use Rattle.theory_numbers.proofs.Signs.{test_at_most}
 use Rattle.theory_plane.specs.Sides.{LineSide, IsLineSide, level, value_on}
-use Rattle.theory_plane.specs.Points.{FacePoint, IsFacePoint, face_point, abscissa_of, is_on_side}
+use Rattle.theory_plane.specs.Points.{FacePoint, face_point, abscissa_of, is_on_side}
 use Rattle.theory_plane.specs.Points.{ordinate_of}
 use Rattle.theory_plane.specs.Regions.{Region}
 use Rattle.theory_patches.specs.Marked.{IsPatch}
 use Rattle.theory_plane.proofs.Points.{on_is}
 use Rattle.theory_plane.proofs.Clearance.{value_on-IsRational}
-use Rattle.sb_fraction.specs.Spots.{Spot, IsSpot, Vector, times_w, reading}
+use Rattle.sb_fraction.specs.Spots.{Spot, IsSpot, times_w, reading}
 use Rattle.sb_fraction.specs.Edges.{Edge, turn_at, reach_at, is_on, seen_from}
 use Rattle.sb_fraction.specs.Directions.{axis_x, axis_y, axis_z, direction_of}
-use Rattle.sb_fraction.specs.Lines.{in_frame, line_over, reaches_past, flat}
+use Rattle.sb_fraction.specs.Lines.{in_frame, line_over, reaches_past}
 use Rattle.theory_plans.specs.Rays.{is_left_of}
 use Rattle.sb_model.specs.declared.face.FaceKind.{FaceKind}
 use Rattle.sb_model.specs.declared.face.FaceKind.TheVariants as kind
 use Rattle.sb_model.specs.Solids.{Upright}
 use Rattle.sb_model.specs.Building.{Building}
-use Rattle.sb_model.specs.PlanEdges.{Product, PlanEdge, plan_edges, products_of}
+use Rattle.sb_model.specs.PlanEdges.{Product, plan_edges, products_of}
 use Rattle.sb_model.specs.PlanEdges.{is_abscissa}
 use Rattle.sb_model.specs.Faces.{Surface, surface_of, edge_numbered, on_face, is_of_face, side_of}
 use Rattle.sb_model.specs.PlainPoints.{is_plain, is_on_plan_edge, is_off_cuts, is_at_height}
 use Rattle.sb_model.specs.PlainPoints.{is_at_ground, is_off_side_cuts, is_off_level_cuts}
-use Rattle.sb_model.specs.FineCells.{way_x, is_across_slab, IsOfSpanning, is_cut_height, IsPieceOf}
-use Rattle.sb_model.specs.FineCells.{IsPieceOver, IsUprightPiece}
+use Rattle.sb_model.specs.FineCells.{way_x, IsOfSpanning, is_cut_height, IsPieceOf}
+use Rattle.sb_model.specs.FineCells.{IsPieceOver}
 use Rattle.theory_parity.specs.Below.{down_from, abscissa_in}
 use Rattle.theory_parity.proofs.InsideByBelow.{beyond_is_left}
 use Rattle.theory_parity.proofs.OnLineOver.{on_line_over}

@@ -1,33 +1,32 @@
 -- A point of a side's plane, over its edge and between its heights, is a point of the side.
-use Rattle.std.proofs.Common.{◌≡◌, refl, sym, ◌∙◌, ap, ap₂, subst, inl, inr, ◌⊎◌, arith, ℤ, ℕ, pos}
-use Rattle.std.proofs.Common.{neg_ℤ, ◌+ℤ◌, ◌-ℤ◌, ◌*ℤ◌, ◌<ℤ◌, ◌≤ℤ◌, Bool, true, false, ◌&&◌, ◌||◌}
-use Rattle.std.proofs.Common.{if◌then◌else◌, int_lt, int_le, IsTrue, List, Some}
-use Rattle.std.specs.Ordering.{int_eq}
+use Rattle.std.proofs.Common.{◌≡◌, refl, sym, ◌∙◌, ap, ap₂, subst, inl, inr, ◌⊎◌, arith, ℤ, pos}
+use Rattle.std.proofs.Common.{neg_ℤ, ◌+ℤ◌, ◌-ℤ◌, ◌*ℤ◌, ◌<ℤ◌, ◌≤ℤ◌, Bool, true, false, ◌&&◌}
+use Rattle.std.proofs.Common.{if◌then◌else◌, int_lt}
 use Rattle.std.proofs.lemmas.Int.{ints}
-use Rattle.std.proofs.lemmas.Bool.{and_parts, and_from, or_cases, false≢true}
+use Rattle.std.proofs.lemmas.Bool.{and_parts, and_from, or_cases}
 use Rattle.std.proofs.lemmas.Bool.Decides.{Decides-int_eq}
 use Rattle.theory_lists.specs.Parity.{differ}
 use Rattle.theory_numbers.specs.Arrows.{Arrow, arrow, cross, dot}
 use Rattle.theory_numbers.specs.Rationals.{IsRational, IsBelow, IsAtMost, is_at_most}
 use Rattle.theory_numbers.proofs.Arrows.{cross-turn}
 use Rattle.theory_numbers.proofs.Products.{weak_product}
-use Rattle.theory_numbers.proofs.Rationals.{at_most_trans, below_at_most_trans, at_most_below_trans}
+use Rattle.theory_numbers.proofs.Rationals.{below_at_most_trans, at_most_below_trans}
 use Rattle.theory_numbers.proofs.Rationals.{at_most_from_below, below_irrefl}
 use Rattle.theory_numbers.proofs.Ring.{mul-zero}
 use Rattle.theory_numbers.proofs.Shapes.{var, num, plus, minus, negated, times, equal, dot_by}
 use Rattle.theory_numbers.proofs.Signs.{at_most_from, test_at_most, test_less, test_not_less}
 use Rattle.theory_numbers.proofs.Signs.{less_from}
-use Rattle.theory_plane.specs.Sides.{LineSide, level}
+use Rattle.theory_plane.specs.Sides.{level}
 use Rattle.theory_plane.specs.Points.{face_point, abscissa_of, is_above_side, is_under_side}
 use Rattle.theory_plane.specs.Regions.{Region, is_inside}
 use Rattle.theory_joining.proofs.MarksOfPut.{inside_parts}
 use Rattle.sb_fraction.specs.Spots.{Spot, IsSpot, Vector, vector, times_w}
-use Rattle.sb_fraction.specs.Edges.{Edge, span_of, turn_at, is_on}
+use Rattle.sb_fraction.specs.Edges.{Edge, turn_at, is_on}
 use Rattle.sb_fraction.specs.Directions.{axis_z, direction_of, normal_over, step}
-use Rattle.sb_fraction.specs.Lines.{in_frame, flat, place, reaches_past, lies_after}
+use Rattle.sb_fraction.specs.Lines.{flat, reaches_past}
 use Rattle.theory_plans.proofs.StepsOfEdges.{IsStep, direction_is_level}
 use Rattle.sb_model.specs.Solids.{Upright, is_between_heights}
-use Rattle.sb_model.specs.Faces.{Surface, side_over, on_face, is_in_plane}
+use Rattle.sb_model.specs.Faces.{side_over, on_face, is_in_plane}
 use Rattle.sb_model.specs.FineCells.{number_at, leads_over, is_across_slab}
 use Rattle.theory_parity.specs.Below.{abscissa_in}
 use Rattle.theory_parity.proofs.InsideByBelow.{turn_by_span}

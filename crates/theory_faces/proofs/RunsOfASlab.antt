@@ -1,30 +1,29 @@
 -- The runs of the strips of one slab, on several faces: they lie over the slab; of one face each is
 -- under all that follow; those of one mark are apart; and they mark what the strips mark.
-use Rattle.std.proofs.Common.{◌≡◌, refl, sym, ◌∙◌, ap, subst, inl, inr, ◌⊎◌, arith, pos, ◌<ℤ◌}
-use Rattle.std.proofs.Common.{◌≤ℤ◌, Bool, true, false, ◌&&◌, List, [], ◌∷◌, map, ◌↔◌}
+use Rattle.std.proofs.Common.{◌≡◌, refl, sym, ◌∙◌, ap, subst, inl, inr, arith, pos, ◌<ℤ◌}
+use Rattle.std.proofs.Common.{true, false, List, [], ◌∷◌, map}
 use Rattle.std.specs.List.{AllByRecursion}
 use Rattle.std.proofs.lemmas.Int.{ints}
-use Rattle.std.proofs.lemmas.Bool.{and_parts, false≢true}
+use Rattle.std.proofs.lemmas.Bool.{and_parts}
 use Rattle.theory_numbers.specs.Arrows.{Arrow}
 use Rattle.theory_numbers.specs.Rationals.{IsRational, IsBelow, mediant}
 use Rattle.theory_numbers.proofs.Rationals.{mediant-IsRational, mediant_between, below_irrefl}
-use Rattle.theory_numbers.proofs.Rationals.{below_at_most_trans, at_most_from_below, below_trans}
+use Rattle.theory_numbers.proofs.Rationals.{below_trans}
 use Rattle.theory_plane.specs.Sides.{LineSide, clearance_at, value_on}
 use Rattle.theory_plane.specs.Points.{FacePoint, IsFacePoint, abscissa_of, ordinate_of, is_on_side}
 use Rattle.theory_plane.specs.Points.{is_above_side, is_under_side}
-use Rattle.theory_plane.specs.Regions.{Region, is_inside, is_spanned}
+use Rattle.theory_plane.specs.Regions.{is_inside}
 use Rattle.theory_plane.proofs.Clearance.{clearance-turn, clearance-self, higher_is}
 use Rattle.theory_plane.proofs.Clearance.{value_on-IsRational}
 use Rattle.theory_plane.proofs.Points.{above_is, under_is}
 use Rattle.theory_lists.specs.Members.{Stands, AllOfTwo}
 use Rattle.theory_lists.proofs.Members.{all_stands, all_follow, two_follow, all_images}
-use Rattle.theory_patches.specs.Marked.{MarkedPatch}
 use Rattle.theory_patches.specs.Sheets.{Sheet, IsMarkedAt}
 use Rattle.theory_joining.specs.Runs.{IsRunOver, IsInSlab, AreApartIfAlike}
-use Rattle.theory_joining.specs.Cells.{IsClearOver, IsUnder, IsOfCuts, runs_of, raised}
+use Rattle.theory_joining.specs.Cells.{IsUnder, IsOfCuts, runs_of}
 use Rattle.theory_joining.proofs.MarksOfPut.{inside_parts, IsInsideBy}
 use Rattle.theory_joining.proofs.RunsStayApart.{runs_are_runs, runs_rise, runs_are_settled}
-use Rattle.theory_joining.proofs.RunsStayApart.{runs_are_apart, run_is_open, all_laid}
+use Rattle.theory_joining.proofs.RunsStayApart.{runs_are_apart, run_is_open}
 use Rattle.theory_joining.proofs.RunsKeepMarks.{runs_mark, runs_mark_no_more}
 use Rattle.theory_joining.proofs.RunsOfCells.{listed_is_of_cuts}
 use Rattle.sb_model.specs.declared.face.Face.{Face}
@@ -32,7 +31,7 @@ use Rattle.theory_faces.specs.Strips.{Mark, Strip, is_same_mark, runs_over}
 use Rattle.theory_faces.proofs.MarksTold.{mark_tells, face_tells}
 use Rattle.theory_faces.proofs.NoSeamInOrder.{HaveOneKey}
 use Rattle.theory_faces.proofs.ByFace.{is_of, of_face, all_pass_there, all_filtered, two_filtered}
-use Rattle.theory_faces.proofs.ByFace.{two_by_face, marked_of_face, marked_in_whole, HasEnds}
+use Rattle.theory_faces.proofs.ByFace.{two_by_face, marked_of_face, marked_in_whole}
 use Rattle.theory_faces.proofs.ByFace.{runs_alike, FacesRise, runs_of_face}
 
 -- of one face the first is under the second

@@ -1,22 +1,22 @@
 -- The runs of slabs that ascend: each begins and ends at an abscissa; those of one mark are apart;
 -- those of one face and one pair of sides follow each other; no two of one face contain a point
 -- whose abscissa is none of the sheet's; and they mark what the strips mark.
-use Rattle.std.proofs.Common.{◌≡◌, refl, sym, ◌∙◌, ap, subst, inl, inr, ◌⊎◌, ⊎_elim, true, false}
+use Rattle.std.proofs.Common.{◌≡◌, refl, sym, subst, inl, ⊎_elim, true, false}
 use Rattle.std.proofs.Common.{List, [], ◌∷◌, ◌++◌}
 use Rattle.std.specs.List.{AllByRecursion}
 use Rattle.theory_numbers.specs.Arrows.{Arrow}
 use Rattle.theory_numbers.specs.Rationals.{IsRational, IsBelow, IsAtMost}
 use Rattle.theory_numbers.proofs.Rationals.{below_irrefl, below_at_most_trans, below_trans}
 use Rattle.theory_plane.specs.Points.{FacePoint, IsFacePoint, abscissa_of, is_on_side}
-use Rattle.theory_plane.specs.Regions.{Region, is_inside}
+use Rattle.theory_plane.specs.Regions.{is_inside}
 use Rattle.theory_lists.specs.Members.{Stands, AllOfTwo}
 use Rattle.theory_lists.proofs.Members.{all_stands, all_follow, two_follow, all_that_stand}
 use Rattle.theory_lists.proofs.Blocks.{all-append, two-append, stands_before, stands_behind}
-use Rattle.theory_patches.specs.Marked.{MarkedPatch, IsPatch}
+use Rattle.theory_patches.specs.Marked.{IsPatch}
 use Rattle.theory_patches.specs.Sheets.{Sheet, IsMarkedAt}
 use Rattle.theory_patches.proofs.MarkedAt.{marked_in_first, marked_in_second, marked_in_either}
 use Rattle.theory_joining.specs.Runs.{IsRunOver, IsInSlab, AreApartIfAlike}
-use Rattle.theory_joining.specs.Cells.{raised, is_one_run, runs_of}
+use Rattle.theory_joining.specs.Cells.{raised, runs_of}
 use Rattle.theory_joining.proofs.MarksOfPut.{inside_parts}
 use Rattle.theory_joining.proofs.RunsMerge.{AreOneRun, one_run_from}
 use Rattle.theory_joining.proofs.RunsStayApart.{all_laid}

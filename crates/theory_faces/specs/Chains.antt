@@ -1,7 +1,7 @@
 -- Chains: runs that are listed by face, by sides and then by where they begin become patches. A
 -- run goes on with the next one where that begins as it ends, with its sides and its mark.
 
-use Rattle.std.specs.Prelude.{◌≡◌, false, ℤ, ℕ, List, [], ◌∷◌, if◌then◌else◌}
+use Rattle.std.specs.Prelude.{◌≡◌, false, List, [], ◌∷◌, if◌then◌else◌}
 use Rattle.std.specs.declared.cmp.Ordering.{Ordering}
 use Rattle.std.specs.Ordering.{nat_cmp, int_cmp, then_cmp, on, is_lt}
 use Rattle.theory_lists.specs.Members.{AllOfTwo}

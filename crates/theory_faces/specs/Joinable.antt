@@ -1,6 +1,6 @@
 -- What a joiner is given, and what it makes of it.
 
-use Rattle.std.specs.Prelude.{◌≡◌, Bool, ◌&&◌, true, false, List, Some, None, IsTrue}
+use Rattle.std.specs.Prelude.{◌≡◌, Bool, ◌&&◌, true, false, List, Some}
 use Rattle.std.specs.List.{AllByRecursion, list_any}
 use Rattle.theory_lists.specs.Members.{Stands, AllOfTwo}
 use Rattle.theory_lists.specs.OneOf.{ExactlyOne}
@@ -10,9 +10,9 @@ use Rattle.sb_model.specs.declared.boundary.Cell.{Cell}
 use Rattle.sb_model.specs.declared.face.FaceKind.{FaceKind}
 use Rattle.sb_model.specs.declared.products.Space.{Space}
 use Rattle.sb_model.specs.Building.{Building}
-use Rattle.sb_model.specs.Faces.{Surface, surface_of, space_numbered, is_in_plane, is_of_face}
+use Rattle.sb_model.specs.Faces.{Surface, surface_of, is_in_plane, is_of_face}
 use Rattle.sb_model.specs.PlainPoints.{is_plain}
-use Rattle.sb_model.specs.Patches.{region_of, is_in_patch, is_same_kind}
+use Rattle.sb_model.specs.Patches.{region_of, is_in_patch}
 use Rattle.sb_model.specs.FineCells.{IsFineCell}
 use Rattle.sb_model.specs.Boundaries.Order.{IsBefore}
 use Rattle.sb_model.specs.Boundaries.Trimmed.{AreTrimmed}

@@ -1,6 +1,6 @@
 -- The laws of faces.
 
-use Rattle.std.specs.Prelude.{◌≡◌, true, List, Some, IsPermutation, IsTrue}
+use Rattle.std.specs.Prelude.{List, IsPermutation, IsTrue}
 use Rattle.sb_fraction.specs.Spots.{Vector}
 use Rattle.sb_model.specs.declared.boundary.Cell.{Cell}
 use Rattle.sb_model.specs.Building.{Building, is_building}

@@ -1,6 +1,6 @@
 -- The sheet of a face over a slab: the abscissae of its direction, and the lines that cut it there.
 
-use Rattle.std.specs.Prelude.{◌≡◌, ℤ, Bool, true, List, [], ◌∷◌, map, if◌then◌else◌}
+use Rattle.std.specs.Prelude.{List, [], ◌∷◌, if◌then◌else◌}
 use Rattle.theory_numbers.specs.Arrows.{Arrow}
 use Rattle.theory_numbers.specs.Rationals.{IsBelow}
 use Rattle.theory_plane.specs.Sides.{LineSide, level}

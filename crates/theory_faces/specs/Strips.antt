@@ -1,6 +1,6 @@
 -- Strips: the patches of cells, marked with their faces and walks; cells side by side become runs.
 
-use Rattle.std.specs.Prelude.{ℤ, ℕ, Bool, true, false, ◌&&◌, ◌==◌, List, [], ◌∷◌, ◌++◌, map}
+use Rattle.std.specs.Prelude.{Bool, true, false, ◌&&◌, ◌==◌, List, [], ◌∷◌, ◌++◌, map}
 use Rattle.std.specs.Prelude.{if◌then◌else◌}
 use Rattle.std.specs.Ordering.{int_eq}
 use Rattle.theory_numbers.specs.Fractions.{Ratio}
