@@ -8,7 +8,9 @@ use Rattle.std.specs.Ordering.{is_lt, int_cmp, ordering_reverse, on, then_cmp}
 use Rattle.std.specs.Cmp.{IsTotalOrder, IsStrictWeakOrder}
 use Rattle.std.specs.List.Sorted.{IsSortedBy}
 use Rattle.std.proofs.lemmas.Int.{ints}
-use Rattle.std.proofs.lemmas.Cmp.{on_total, then_total}
+use Rattle.std.proofs.lemmas.Cmp.{on_total, then_total, nat_cmp_total}
+use Rattle.sb_model.specs.Boundaries.Order.{rank_of}
+use Rattle.sb_join.specs.Listing.{order_of_faces, order_of_patches, AreListed}
 use Rattle.std.proofs.lemmas.List.Sorted.{ranks_by, sorted_far}
 use Rattle.theory_lists.specs.Members.{AllOfTwo}
 use Rattle.theory_numbers.specs.Arrows.{Arrow, cross}
@@ -123,6 +125,22 @@ runs_order a b = order_of_runs (strip_of a) (strip_of b)
 pub runs_total : IsTotalOrder runs_order
 runs_total = then_total (on_total strip_of keys_total) lows_total
 
+-- the order of the patches of cells
+abbrev pub patches_order : Cell → Cell → Ordering
+patches_order a b = order_of_patches (strip_of a) (strip_of b)
+
+faces_total : IsTotalOrder order_of_faces
+faces_total =
+    then_total (on_total (λ (p : Strip). p.mark.face.space) nat_cmp_total)
+    (on_total (λ (p : Strip). rank_of p.mark.face.kind) nat_cmp_total)
+
+pub patches_total : IsTotalOrder patches_order
+patches_total =
+    then_total (on_total strip_of faces_total) (then_total lows_total (on_total strip_of keys_total))
+
+pub patches_ranked : IsStrictWeakOrder (λ a b. is_lt (patches_order a b))
+patches_ranked = ranks_by patches_total (λ (c : Cell). c)
+
 -- so the test of less is one that a sort takes
 pub runs_ranked : IsStrictWeakOrder (λ a b. is_lt (runs_order a b))
 runs_ranked = ranks_by runs_total (λ (c : Cell). c)
@@ -164,3 +182,13 @@ sorted_in_order cs sorted =
     (two_from (λ a b. is_lt (runs_order b a) ≡ false) cs
     (λ i j d before there.
     sorted_far (λ a b. is_lt (runs_order a b)) runs_ranked cs sorted i j d (omega arith) there))
+
+-- and the strips of patches that were sorted are listed
+pub sorted_is_listed : (cs : List Cell) → IsSortedBy (λ a b. is_lt (patches_order a b)) cs
+    → AreListed (strips_of cs)
+sorted_is_listed cs sorted =
+    two_strips (λ p q. is_lt (order_of_patches q p) ≡ false) cs
+    (two_from (λ a b. is_lt (patches_order b a) ≡ false) cs
+    (λ i j d before there.
+    sorted_far (λ a b. is_lt (patches_order a b)) patches_ranked cs sorted i j d (omega arith)
+    there))

@@ -1,3 +1,4 @@
 -- What the joiner keeps, in reading order.
 pub mod Stacks
 pub mod Taken
+pub mod Listing

@@ -6,10 +6,12 @@ ghost use Rattle.sb_fraction.specs.Spots.{Vector};
 ghost use Rattle.sb_model.specs.declared.boundary.Cell.{Cell as CellValue};
 ghost use Rattle.sb_model.specs.Building.{Building, is_building};
 ghost use Rattle.theory_faces.specs.Joinable.{AreJoinable, AreJoined};
+ghost use Rattle.theory_faces.specs.Strips.{strips_of};
 ghost use Rattle.sb_join.specs.Taken.{HasTaken};
+ghost use Rattle.sb_join.specs.Listing.{AreListed};
 
 use crate::chains::patches_of;
-use crate::orders::sort_runs;
+use crate::orders::{sort_patches, sort_runs};
 use crate::runs::{append, listed, runs_of};
 use sb_model::{Cell, Cells};
 use std::alloc::{AllocError, Global};
@@ -54,7 +56,8 @@ impl Joiner {
         Ok(Joiner { runs })
     }
 
-    /// The trimmed patches of the cells, with their walks and without keys.
+    /// The trimmed patches of the cells, with their walks and without keys: by space, face, where
+    /// they begin, and their sides.
     ///
     /// For every model for which the cells that were taken are fine cells, on faces that are read
     /// along one direction, slab after slab and in order: two patches of one face with equal walks
@@ -65,11 +68,13 @@ impl Joiner {
         ensures joined { (m : Building) (d : Vector) (calls : List (List CellValue))
             → IsTrue (is_building m) → HasTaken calls self → AreJoinable m d calls
             → IfOk result (AreJoined m calls) }
+        ensures listed { IfOk result (λ answer. AreListed (strips_of answer)) }
         ensures no_keys { IfOk result (AllByRecursion (λ c. c.key ≡ None)) }
     {
         let mut runs = self.runs;
         sort_runs(&mut runs);
-        let patches = patches_of(runs)?;
+        let mut patches = patches_of(runs)?;
+        sort_patches(&mut patches);
         listed(patches)
     }
 }

@@ -1,4 +1,4 @@
-//! The order in which runs are carried on.
+//! The orders in which runs are carried on and patches are listed.
 
 ghost use Rattle.std.specs.Prelude.{◌≡◌, IsPermutation};
 ghost use Rattle.sb_model.specs.Boundaries.Order.{rank_of};
@@ -6,6 +6,8 @@ ghost use Rattle.sb_model.specs.Sides.{line_of};
 ghost use Rattle.theory_faces.specs.Strips.{strip_of, strips_of};
 ghost use Rattle.theory_faces.specs.Chains.{order_of_sides as sides_order, order_of_keys as keys_order};
 ghost use Rattle.theory_faces.specs.Chains.{order_of_runs as runs_order, AreInOrder};
+ghost use Rattle.sb_join.specs.Listing.{order_of_faces as faces_order};
+ghost use Rattle.sb_join.specs.Listing.{order_of_patches as patches_order, AreListed};
 
 use crate::alike::numbers;
 use sb_fraction::compare;
@@ -24,6 +26,28 @@ fn order_of_runs(a: &Cell, b: &Cell) -> Ordering
     ensures { result ≡ runs_order (strip_of a.now) (strip_of b.now) }
 {
     order_of_keys(a, b).then(compare(&a.patch.low, &b.patch.low))
+}
+
+/// Puts patches in the order in which they are listed: by face, by where they begin, and by their
+/// sides.
+pub(crate) fn sort_patches(patches: &mut Vec<Cell>)
+    ensures permutation { IsPermutation patches.old.items patches.new.items }
+    ensures in_order { AreListed (strips_of patches.new.items) }
+{
+    patches.sort_unstable_by(|a, b| order_of_patches(a, b));
+}
+
+fn order_of_patches(a: &Cell, b: &Cell) -> Ordering
+    ensures { result ≡ patches_order (strip_of a.now) (strip_of b.now) }
+{
+    order_of_faces(a, b).then(compare(&a.patch.low, &b.patch.low).then(order_of_keys(a, b)))
+}
+
+fn order_of_faces(a: &Cell, b: &Cell) -> Ordering
+    ensures { result ≡ faces_order (strip_of a.now) (strip_of b.now) }
+{
+    let ranks = rank(a.patch.face.kind).cmp(&rank(b.patch.face.kind));
+    a.patch.face.space.cmp(&b.patch.face.space).then(ranks)
 }
 
 fn order_of_keys(a: &Cell, b: &Cell) -> Ordering
