@@ -8,3 +8,5 @@ pub mod TwoInOne
 pub mod RunsInOrder
 -- stacks of strips
 pub mod Stacked
+-- whole numbers as fractions
+pub mod Wholes

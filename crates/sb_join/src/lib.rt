@@ -10,5 +10,7 @@ mod chains;
 mod joiner;
 mod orders;
 mod runs;
+#[cfg(test)]
+mod tests;
 
 pub use joiner::Joiner;
