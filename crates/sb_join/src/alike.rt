@@ -149,7 +149,7 @@ fn meets(end: &Fraction, begin: &Fraction) -> bool
 {
     match compare(end, begin) {
         Ordering::Equal => true,
-        _ => false,
+        Ordering::Less | Ordering::Greater => false,
     }
 }
 

@@ -511,7 +511,8 @@ reads_down x y z = omega (arith, ints)
 reads_up : (x y z : ℤ) → ((x *ℤ pos 0) +ℤ (y *ℤ pos 0)) +ℤ (z *ℤ pos 1) ≡ z
 reads_up x y z = omega (arith, ints)
 
-bottom_height : (s : Upright) (f : Surface) → surface_of s kind.Bottom ≡ Some f → (p : Spot)
+-- a point of Bottom's plane is at its height
+pub bottom_height : (s : Upright) (f : Surface) → surface_of s kind.Bottom ≡ Some f → (p : Spot)
     → is_in_plane f p ≡ true → int_eq p.z (s.z0 *ℤ p.w) ≡ true
 bottom_height s f f_is p plane =
     let same : is_in_plane (bottom_of s) p ≡ true =
@@ -522,7 +523,8 @@ bottom_height s f f_is p plane =
     let turned = neg-mul s.z0 p.w in
     (Decides-int_eq p.z (s.z0 *ℤ p.w)).1 (omega (arith, ints))
 
-top_height : (s : Upright) (f : Surface) → surface_of s kind.Top ≡ Some f → (p : Spot)
+-- and one of Top's
+pub top_height : (s : Upright) (f : Surface) → surface_of s kind.Top ≡ Some f → (p : Spot)
     → is_in_plane f p ≡ true → int_eq p.z (s.z1 *ℤ p.w) ≡ true
 top_height s f f_is p plane =
     let same : is_in_plane (top_of s) p ≡ true =

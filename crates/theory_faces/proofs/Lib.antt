@@ -30,3 +30,5 @@ pub mod JoinedCells
 pub mod PatchesOfHeights
 -- worked cases
 mod Examples
+-- trimmed on a sheet, and level patches
+pub mod SheetsOfFaces

@@ -5,7 +5,18 @@
 //! `specs/Laws.antt`.
 #![tactic(auto)]
 
-ghost use Rattle.theory_faces.specs.Laws.{HasJoinedCells};
+ghost use Rattle.theory_faces.specs.Laws.{HasJoinedCells, HasOneTrimmed, HasLevelRegionInside};
+
+/// Two patches of a face are trimmed, by the definition of models, exactly where they are apart and
+/// without a seam on the sheet of its direction's abscissae. Nothing else cites both definitions.
+pub fn trimmed_on_sheets()
+    ensures { HasOneTrimmed }
+{}
+
+/// A patch of Bottom or Top whose points off finitely many lines are plain lies in its face.
+pub fn level_regions()
+    ensures { HasLevelRegionInside }
+{}
 
 /// Cells joined: whoever puts the runs of fine cells in order of their faces, sides and beginnings,
 /// and carries each on with the next where it may, has the trimmed patches of the model.
