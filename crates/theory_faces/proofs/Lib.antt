@@ -32,3 +32,5 @@ pub mod PatchesOfHeights
 mod Examples
 -- trimmed on a sheet, and level patches
 pub mod SheetsOfFaces
+-- plain is off the cuts
+pub mod PlainOffCuts

@@ -171,8 +171,8 @@ plain_is_no_abscissa m s (kind.Side k) f p is plain =
 
 -- ---- Bottom and Top
 
--- a point over the slab on the line of an edge that spans it lies on the edge
-on_spanning : (m : Building) (low high : Arrow) → IsRational low → IsRational high
+-- a point over the slab on the line of an edge that spans it lies on a plan edge
+pub on_spanning : (m : Building) (low high : Arrow) → IsRational low → IsRational high
     → IsBelow low high → (side : LineSide) → IsLineSide side
     → IsOfSpanning m low high side → (p : Spot) → IsSpot p
     → IsBelow low (abscissa_of (plan_point p)) → IsBelow (abscissa_of (plan_point p)) high
@@ -261,7 +261,7 @@ on_level z u v w on =
     omega (arith, ints)
 
 -- a plain point of a side lies on no height that cuts it
-upright_off : (m : Building) (e : Edge) (f : Surface) (p : Spot) → IsSideOver e f
+pub upright_off : (m : Building) (e : Edge) (f : Surface) (p : Spot) → IsSideOver e f
     → is_off_side_cuts m (Some e) p ≡ true → (z : ℤ) → is_cut_height m z ≡ true
     → is_on_side (level z) (on_face f p) ≡ false
 upright_off m e f p over off z cut =

@@ -1,12 +1,12 @@
 -- Trimmed on a sheet is trimmed of the model; and a level patch of plain points lies in its face.
-use Rattle.std.proofs.Common.{◌≡◌, refl, sym, ◌∙◌, ap, subst, inl, inr, ◌⊎◌, ⊎_elim, arith, ℤ, pos, neg_ℤ}
-use Rattle.std.proofs.Common.{◌+ℤ◌, ◌*ℤ◌, Bool, true, false}
+use Rattle.std.proofs.Common.{◌≡◌, sym, ◌∙◌, ap, subst, inl, inr, arith, ℤ, pos, neg_ℤ}
+use Rattle.std.proofs.Common.{◌+ℤ◌, ◌*ℤ◌, true, false}
 use Rattle.std.proofs.lemmas.Int.{ints}
 use Rattle.std.proofs.lemmas.Bool.Decides.{Decides-int_eq}
 use Rattle.theory_numbers.proofs.Ring.{neg-mul}
 use Rattle.sb_fraction.specs.Directions.{axis_z}
 use Rattle.sb_model.specs.Solids.{Upright}
-use Rattle.std.proofs.Common.{◌&&◌, ◌↔◌, List, Some}
+use Rattle.std.proofs.Common.{List, Some}
 use Rattle.std.specs.List.{AllByRecursion}
 use Rattle.std.specs.Ordering.{int_eq}
 use Rattle.std.proofs.lemmas.Bool.{and_parts, and_from}
@@ -17,25 +17,19 @@ use Rattle.theory_plane.specs.Sides.{LineSide, IsLineSide}
 use Rattle.theory_plane.specs.Points.{abscissa_of, is_on_side}
 use Rattle.theory_plane.specs.Regions.{is_inside}
 use Rattle.theory_patches.specs.Sheets.{IsOffCuts}
-use Rattle.theory_patches.specs.Trimmed.{AreApart, HaveNoSeam}
 use Rattle.theory_plans.specs.Inside.{is_in_plan}
 use Rattle.theory_parity.proofs.RegionIsFourHalves.{region_inside_throughout_off_sides}
-use Rattle.sb_fraction.specs.Spots.{Spot, IsSpot, Vector, spot, opposite, times_w}
-use Rattle.sb_fraction.specs.Lines.{in_frame}
-use Rattle.sb_model.specs.declared.face.FaceKind.{FaceKind}
+use Rattle.sb_fraction.specs.Spots.{Spot, IsSpot, spot, opposite, times_w}
 use Rattle.sb_model.specs.declared.face.FaceKind.TheVariants as kind
 use Rattle.sb_model.specs.declared.patch.Patch.{Patch}
 use Rattle.sb_model.specs.declared.products.Space.{Space}
-use Rattle.sb_model.specs.Building.{Building}
 use Rattle.sb_model.specs.PlanEdges.{is_abscissa}
 use Rattle.sb_model.specs.Faces.{Surface, surface_of, is_in_plane, is_of_face, on_face}
-use Rattle.sb_model.specs.PlainPoints.{is_plain, is_off_cuts}
-use Rattle.sb_model.specs.Patches.{region_of, is_in_patch, surface_at}
+use Rattle.sb_model.specs.PlainPoints.{is_off_cuts}
+use Rattle.sb_model.specs.Patches.{region_of, is_in_patch}
 use Rattle.sb_model.specs.FineCells.{way_x}
-use Rattle.sb_model.specs.Boundaries.Trimmed.{AreTrimmed}
 use Rattle.theory_models.proofs.AbscissaeListed.{no_abscissa_is_none, none_is_no_abscissa}
 use Rattle.theory_models.proofs.EdgesOfProducts.{plan_of_solid}
-use Rattle.theory_faces.specs.Sheets.{sheet_along}
 use Rattle.theory_faces.specs.Laws.{HasOneTrimmed, HasLevelRegionInside}
 use Rattle.theory_faces.proofs.CellsRise.{way_x_is}
 use Rattle.theory_faces.proofs.PlainOffSides.{IsLevel, bottom_is_level, top_is_level, level_point}

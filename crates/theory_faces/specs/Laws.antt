@@ -3,7 +3,7 @@
 use Rattle.std.specs.Prelude.{◌≡◌, ◌↔◌, ◌⊎◌, true, List, Some, IsPermutation, IsTrue}
 use Rattle.std.specs.List.{AllByRecursion}
 use Rattle.theory_numbers.specs.Arrows.{Arrow}
-use Rattle.theory_numbers.specs.Rationals.{IsRational}
+use Rattle.theory_numbers.specs.Rationals.{IsRational, IsBelow}
 use Rattle.theory_plane.specs.Sides.{LineSide, IsLineSide}
 use Rattle.theory_patches.specs.Sheets.{IsOffCuts}
 use Rattle.theory_patches.specs.Trimmed.{AreApart, HaveNoSeam}
@@ -13,12 +13,14 @@ use Rattle.sb_model.specs.declared.face.FaceKind.{FaceKind}
 use Rattle.sb_model.specs.declared.face.FaceKind.TheVariants as kind
 use Rattle.sb_model.specs.declared.patch.Patch.{Patch}
 use Rattle.sb_model.specs.declared.products.Space.{Space}
+use Rattle.sb_model.specs.Solids.{Upright}
 use Rattle.sb_model.specs.Building.{Building, is_building}
+use Rattle.sb_model.specs.FineCells.{AreNeighbours}
 use Rattle.sb_model.specs.Faces.{Surface, surface_of, is_in_plane, is_of_face, on_face}
 use Rattle.sb_model.specs.PlainPoints.{is_plain}
 use Rattle.sb_model.specs.Patches.{region_of, is_in_patch, surface_at}
 use Rattle.sb_model.specs.Boundaries.Trimmed.{AreTrimmed}
-use Rattle.theory_faces.specs.Sheets.{sheet_along}
+use Rattle.theory_faces.specs.Sheets.{sheet_along, sheet_over, IsOverSlab}
 use Rattle.theory_faces.specs.Strips.{Strip, strips_of, runs_of_calls}
 use Rattle.theory_faces.specs.Chains.{chains, AreInOrder}
 use Rattle.theory_faces.specs.Joinable.{AreJoinable, AreJoined}
@@ -35,6 +37,17 @@ HasOneTrimmed =
     → AreTrimmed m p q
     ↔ (AreApart (sheet_along m d) (region_of p) (region_of q)
     × HaveNoSeam (region_of p) (region_of q))
+
+-- over a slab, a point of a face is plain exactly where it is off the cuts of the face there. The
+-- line of an edge cuts Bottom and Top only over slabs that the edge spans: beyond its ends a plain
+-- point may lie on it
+abbrev pub HasPlainOffCuts : Type 0
+HasPlainOffCuts =
+    (m : Building) (s : Upright) (k : FaceKind) (f : Surface) (low high : Arrow) (p : Spot)
+    → surface_of s k ≡ Some f → IsRational low → IsRational high → IsBelow low high
+    → AreNeighbours m f.across low high → IsSpot p → IsOverSlab f low high p
+    → is_of_face s k p ≡ true
+    → (is_plain m s k p ≡ true) ↔ IsOffCuts (sheet_over m k f.across low high) (on_face f p)
 
 -- a patch of Bottom or Top whose points off finitely many abscissae and sides are plain lies inside
 -- the loops of its space

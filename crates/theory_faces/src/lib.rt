@@ -5,12 +5,19 @@
 //! `specs/Laws.antt`.
 #![tactic(auto)]
 
-ghost use Rattle.theory_faces.specs.Laws.{HasJoinedCells, HasOneTrimmed, HasLevelRegionInside};
+ghost use Rattle.theory_faces.specs.Laws.{HasJoinedCells, HasOneTrimmed, HasPlainOffCuts};
+ghost use Rattle.theory_faces.specs.Laws.{HasLevelRegionInside};
 
 /// Two patches of a face are trimmed, by the definition of models, exactly where they are apart and
 /// without a seam on the sheet of its direction's abscissae. Nothing else cites both definitions.
 pub fn trimmed_on_sheets()
     ensures { HasOneTrimmed }
+{}
+
+/// Over a slab a point of a face is plain exactly where it is off the abscissae of the face's
+/// direction and off the lines or heights that cut the face there.
+pub fn plain_points()
+    ensures { HasPlainOffCuts }
 {}
 
 /// A patch of Bottom or Top whose points off finitely many lines are plain lies in its face.
