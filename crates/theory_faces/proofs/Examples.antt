@@ -139,9 +139,9 @@ one_point : chains
 unfolding cross
 one_point = refl
 
--- the side at a T-joint: beyond wall 30 lie room 8 up to u = 3,000 and room 9 from u = 3,100 on, and
--- between them wall 31 ends, which the walk does not pass. A height of a product far away cuts each
--- slab at 1,000, and an end of another cuts the first part at u = 700
+-- the side at a T-joint: beyond wall 30 lie room 21 up to u = 3,950 and room 22 from u = 4,050 on,
+-- and between them wall 31 ends, which the walk does not pass. A height of a product far away cuts
+-- each slab at 1,000, and an end of another cuts the first part at u = 700
 abbrev joint : ℤ → ℤ → ℤ → ℤ → List Item → ℤ → End → Strip
 joint low high from to items depth found =
     strip (kind.Side 1) low high (level from) (level to) items depth found
@@ -152,17 +152,17 @@ through = item 30 0 (ratio (pos 200000) (pos 1)) ∷ []
 abbrev slab : ℤ → ℤ → List Item → ℤ → End → List Strip
 slab low high items depth found =
     joint low high (pos 0) (pos 1000) items depth found
-    ∷ joint low high (pos 1000) (pos 3000) items depth found ∷ []
+    ∷ joint low high (pos 1000) (pos 2500) items depth found ∷ []
 
 -- each slab has one run, and the four runs are three patches
 three_patches : chains
     (all_runs
-    (slab (pos 0) (pos 700) through (pos 200) (end.Space 8)
-    ∷ slab (pos 700) (pos 3000) through (pos 200) (end.Space 8)
-    ∷ slab (pos 3000) (pos 3100) [] (pos 0) (end.Solid 31)
-    ∷ slab (pos 3100) (pos 6000) through (pos 200) (end.Space 9) ∷ []))
-    ≡ joint (pos 0) (pos 3000) (pos 0) (pos 3000) through (pos 200) (end.Space 8)
-    ∷ joint (pos 3000) (pos 3100) (pos 0) (pos 3000) [] (pos 0) (end.Solid 31)
-    ∷ joint (pos 3100) (pos 6000) (pos 0) (pos 3000) through (pos 200) (end.Space 9) ∷ []
+    (slab (pos 0) (pos 700) through (pos 200) (end.Space 21)
+    ∷ slab (pos 700) (pos 3950) through (pos 200) (end.Space 21)
+    ∷ slab (pos 3950) (pos 4050) [] (pos 200) (end.Solid 31)
+    ∷ slab (pos 4050) (pos 8000) through (pos 200) (end.Space 22) ∷ []))
+    ≡ joint (pos 0) (pos 3950) (pos 0) (pos 2500) through (pos 200) (end.Space 21)
+    ∷ joint (pos 3950) (pos 4050) (pos 0) (pos 2500) [] (pos 200) (end.Solid 31)
+    ∷ joint (pos 4050) (pos 8000) (pos 0) (pos 2500) through (pos 200) (end.Space 22) ∷ []
 unfolding cross
 three_patches = refl

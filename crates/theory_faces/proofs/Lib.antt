@@ -34,3 +34,4 @@ mod Examples
 pub mod SheetsOfFaces
 -- plain is off the cuts
 pub mod PlainOffCuts
+mod FineCellExamples
