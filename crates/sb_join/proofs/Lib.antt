@@ -10,3 +10,7 @@ pub mod RunsInOrder
 pub mod Stacked
 -- whole numbers as fractions
 pub mod Wholes
+-- products within 128 bits
+pub mod ProductsFit
+-- which patch begins lower
+pub mod Starts

@@ -10,7 +10,8 @@ use Rattle.std.specs.List.Sorted.{IsSortedBy}
 use Rattle.std.proofs.lemmas.Int.{ints}
 use Rattle.std.proofs.lemmas.Cmp.{on_total, then_total, nat_cmp_total}
 use Rattle.sb_model.specs.Boundaries.Order.{rank_of}
-use Rattle.sb_join.specs.Listing.{order_of_faces, order_of_patches, AreListed}
+use Rattle.theory_plane.proofs.Clearance.{value_on-IsRational}
+use Rattle.sb_join.specs.Listing.{start_of, slope_of, order_of_faces, order_of_patches, AreListed}
 use Rattle.std.proofs.lemmas.List.Sorted.{ranks_by, sorted_far}
 use Rattle.theory_lists.specs.Members.{AllOfTwo}
 use Rattle.theory_numbers.specs.Arrows.{Arrow, cross}
@@ -55,6 +56,59 @@ same_from r s equal = from (number_cases r s)
     from (inl (inr same)) = same
     from (inr beyond) = absurd (let e = greater_order r s beyond in cc)
 
+-- by a number that each cell has
+module _ (num : Cell → Arrow) (num_in : (c : Cell) → IsRational (num c)) where
+  -- an order of cells
+  pub numbers_total : IsTotalOrder (λ a b. order_of (num a) (num b))
+  numbers_total =
+      record {
+        antisymm = λ a b. turned a b (number_cases (num a) (num b));
+        trans =
+            λ a b c first second.
+            less_order (num a) (num c)
+            (below_trans (num a) (num b) (num c) (num_in a) (num_in b) (num_in c)
+            (below_from (num a) (num b) first) (below_from (num b) (num c) second));
+        congr =
+            λ a b c equal.
+            alike a b c (same_from (num a) (num b) equal) (number_cases (num b) (num c));
+      }
+    where
+      turned : (a b : Cell)
+          → (IsBelow (num a) (num b) ⊎ IsSame (num a) (num b))
+          ⊎ IsBelow (num b) (num a)
+          → order_of (num a) (num b) ≡ ordering_reverse (order_of (num b) (num a))
+      turned a b (inl (inl below)) =
+          less_order (num a) (num b) below
+          ∙ sym (ap ordering_reverse (greater_order (num b) (num a) below))
+      turned a b (inl (inr same)) =
+          same_order (num a) (num b) same
+          ∙ sym
+          (ap ordering_reverse
+          (same_order (num b) (num a) (same_sym (num a) (num b) same)))
+      turned a b (inr beyond) =
+          greater_order (num a) (num b) beyond
+          ∙ sym (ap ordering_reverse (less_order (num b) (num a) beyond))
+
+      alike : (a b c : Cell) → IsSame (num a) (num b)
+          → (IsBelow (num b) (num c) ⊎ IsSame (num b) (num c))
+          ⊎ IsBelow (num c) (num b)
+          → order_of (num a) (num c) ≡ order_of (num b) (num c)
+      alike a b c same (inl (inl below)) =
+          less_order (num a) (num c)
+          (at_most_below_trans (num a) (num b) (num c) (num_in a) (num_in b) (num_in c)
+          (at_most_from_same (num a) (num b) same) below)
+          ∙ sym (less_order (num b) (num c) below)
+      alike a b c same (inl (inr also)) =
+          same_order (num a) (num c)
+          (same_trans (num a) (num b) (num c) (num_in b) same also)
+          ∙ sym (same_order (num b) (num c) also)
+      alike a b c same (inr beyond) =
+          greater_order (num a) (num c)
+          (below_at_most_trans (num c) (num b) (num a) (num_in c) (num_in b) (num_in a)
+          beyond
+          (at_most_from_same (num b) (num a) (same_sym (num a) (num b) same)))
+          ∙ sym (greater_order (num b) (num c) beyond)
+
 -- where a cell begins
 abbrev low_of : Cell → Arrow
 low_of c = (region_of c.patch).low
@@ -62,59 +116,17 @@ low_of c = (region_of c.patch).low
 low_in : (c : Cell) → IsRational (low_of c)
 low_in c = (patch_is c.patch).region.low_in
 
-abbrev order_of_lows : Cell → Cell → Ordering
-order_of_lows a b = order_of (low_of a) (low_of b)
+lows_total : IsTotalOrder (λ a b. order_of (low_of a) (low_of b))
+lows_total = numbers_total low_of low_in
 
--- an order of cells
-pub lows_total : IsTotalOrder order_of_lows
-lows_total =
-    record {
-      antisymm = λ a b. turned a b (number_cases (low_of a) (low_of b));
-      trans =
-          λ a b c first second.
-          less_order (low_of a) (low_of c)
-          (below_trans (low_of a) (low_of b) (low_of c) (low_in a) (low_in b) (low_in c)
-          (below_from (low_of a) (low_of b) first) (below_from (low_of b) (low_of c) second));
-      congr =
-          λ a b c equal.
-          alike a b c (same_from (low_of a) (low_of b) equal) (number_cases (low_of b) (low_of c));
-    }
-  where
-    turned : (a b : Cell)
-        → (IsBelow (low_of a) (low_of b) ⊎ IsSame (low_of a) (low_of b))
-        ⊎ IsBelow (low_of b) (low_of a)
-        → order_of_lows a b ≡ ordering_reverse (order_of_lows b a)
-    turned a b (inl (inl below)) =
-        less_order (low_of a) (low_of b) below
-        ∙ sym (ap ordering_reverse (greater_order (low_of b) (low_of a) below))
-    turned a b (inl (inr same)) =
-        same_order (low_of a) (low_of b) same
-        ∙ sym
-        (ap ordering_reverse
-        (same_order (low_of b) (low_of a) (same_sym (low_of a) (low_of b) same)))
-    turned a b (inr beyond) =
-        greater_order (low_of a) (low_of b) beyond
-        ∙ sym (ap ordering_reverse (less_order (low_of b) (low_of a) beyond))
+-- where its lower side begins, and how it rises
+start_in : (c : Cell) → IsRational (start_of (strip_of c))
+start_in c =
+    value_on-IsRational (region_of c.patch).lower (low_of c) (patch_is c.patch).region.lower_in
+    (low_in c)
 
-    alike : (a b c : Cell) → IsSame (low_of a) (low_of b)
-        → (IsBelow (low_of b) (low_of c) ⊎ IsSame (low_of b) (low_of c))
-        ⊎ IsBelow (low_of c) (low_of b)
-        → order_of_lows a c ≡ order_of_lows b c
-    alike a b c same (inl (inl below)) =
-        less_order (low_of a) (low_of c)
-        (at_most_below_trans (low_of a) (low_of b) (low_of c) (low_in a) (low_in b) (low_in c)
-        (at_most_from_same (low_of a) (low_of b) same) below)
-        ∙ sym (less_order (low_of b) (low_of c) below)
-    alike a b c same (inl (inr also)) =
-        same_order (low_of a) (low_of c)
-        (same_trans (low_of a) (low_of b) (low_of c) (low_in b) same also)
-        ∙ sym (same_order (low_of b) (low_of c) also)
-    alike a b c same (inr beyond) =
-        greater_order (low_of a) (low_of c)
-        (below_at_most_trans (low_of c) (low_of b) (low_of a) (low_in c) (low_in b) (low_in a)
-        beyond
-        (at_most_from_same (low_of b) (low_of a) (same_sym (low_of a) (low_of b) same)))
-        ∙ sym (greater_order (low_of b) (low_of c) beyond)
+slope_in : (c : Cell) → IsRational (slope_of (strip_of c))
+slope_in c = (patch_is c.patch).region.lower_in
 
 -- ---- the order of runs
 
@@ -136,7 +148,10 @@ faces_total =
 
 pub patches_total : IsTotalOrder patches_order
 patches_total =
-    then_total (on_total strip_of faces_total) (then_total lows_total (on_total strip_of keys_total))
+    then_total (on_total strip_of faces_total)
+    (then_total lows_total
+    (then_total (numbers_total (λ c. start_of (strip_of c)) start_in)
+    (numbers_total (λ c. slope_of (strip_of c)) slope_in)))
 
 pub patches_ranked : IsStrictWeakOrder (λ a b. is_lt (patches_order a b))
 patches_ranked = ranks_by patches_total (λ (c : Cell). c)

@@ -13,6 +13,7 @@ ghost use Rattle.theory_faces.specs.Strips.{are_same_items as are_one_list};
 ghost use Rattle.theory_faces.specs.Strips.{is_same_end as is_one_end, is_same_walk as is_one_walk};
 ghost use Rattle.theory_faces.specs.Strips.{is_same_face as is_one_face, is_same_mark};
 ghost use Rattle.theory_faces.specs.Strips.{is_same_number, strip_of, is_raised_by as is_run_on};
+ghost use Rattle.sb_join.specs.Sizes.{HasHeight};
 
 use sb_fraction::{Fraction, compare};
 use sb_model::{Cell, End, Face, FaceKind, Item, Side, Walk};
@@ -31,6 +32,7 @@ pub(crate) fn numbers(side: Side) -> SideNumbers
     ensures dx { result.dx ≡ (line_of side).dx }
     ensures dy { result.dy ≡ (line_of side).dy }
     ensures off { result.off ≡ (line_of side).off }
+    ensures height { HasHeight side }
 {
     match side {
         Side::OnLine(line) => SideNumbers {

@@ -12,5 +12,6 @@ mod orders;
 mod runs;
 #[cfg(test)]
 mod tests;
+mod values;
 
 pub use joiner::Joiner;

@@ -8,8 +8,10 @@ ghost use Rattle.theory_faces.specs.Chains.{order_of_sides as sides_order, order
 ghost use Rattle.theory_faces.specs.Chains.{order_of_runs as runs_order, AreInOrder};
 ghost use Rattle.sb_join.specs.Listing.{order_of_faces as faces_order};
 ghost use Rattle.sb_join.specs.Listing.{order_of_patches as patches_order, AreListed};
+ghost use Rattle.sb_join.specs.Listing.{order_on_face as face_order};
 
 use crate::alike::numbers;
+use crate::values::order_of_starts;
 use sb_fraction::compare;
 use sb_model::{Cell, FaceKind, Side};
 use std::cmp::Ordering;
@@ -40,7 +42,19 @@ pub(crate) fn sort_patches(patches: &mut Vec<Cell>)
 fn order_of_patches(a: &Cell, b: &Cell) -> Ordering
     ensures { result ≡ patches_order (strip_of a.now) (strip_of b.now) }
 {
-    order_of_faces(a, b).then(compare(&a.patch.low, &b.patch.low).then(order_of_keys(a, b)))
+    match order_of_faces(a, b) {
+        Ordering::Equal => order_on_face(a, b),
+        other => other,
+    }
+}
+
+fn order_on_face(a: &Cell, b: &Cell) -> Ordering
+    ensures { result ≡ face_order (strip_of a.now) (strip_of b.now) }
+{
+    match compare(&a.patch.low, &b.patch.low) {
+        Ordering::Equal => order_of_starts(a, b),
+        other => other,
+    }
 }
 
 fn order_of_faces(a: &Cell, b: &Cell) -> Ordering

@@ -1,6 +1,6 @@
 -- The ends of patches can be compared.
 use Rattle.sb_join.proofs.TwoInOne.{low_size}
-use Rattle.sb_join.proofs.orders.order_of_patches.Goals as goal
+use Rattle.sb_join.proofs.orders.order_on_face.Goals as goal
 
 pub compare-requires-clause-first_size : goal.compare-requires-clause-first_size
 compare-requires-clause-first_size c = low_size c.args.a.now.patch
