@@ -57,7 +57,7 @@ impl Joiner {
     }
 
     /// The trimmed patches of the cells, with their walks and without keys: by space, face, where
-    /// they begin, and their sides.
+    /// they begin, and v.
     ///
     /// For every model for which the cells that were taken are fine cells, on faces that are read
     /// along one direction, slab after slab and in order: two patches of one face with equal walks

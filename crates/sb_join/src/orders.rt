@@ -30,8 +30,7 @@ fn order_of_runs(a: &Cell, b: &Cell) -> Ordering
     order_of_keys(a, b).then(compare(&a.patch.low, &b.patch.low))
 }
 
-/// Puts patches in the order in which they are listed: by face, by where they begin, and by their
-/// sides.
+/// Puts patches in the order in which they are listed: by face, by where they begin, and in v.
 pub(crate) fn sort_patches(patches: &mut Vec<Cell>)
     ensures permutation { IsPermutation patches.old.items patches.new.items }
     ensures in_order { AreListed (strips_of patches.new.items) }
