@@ -1,10 +1,10 @@
 -- The order of runs is an order of cells, so that a sort by it puts them in order.
-use Rattle.std.proofs.Common.{◌≡◌, refl, sym, ◌∙◌, ap, inl, inr, ◌⊎◌, arith, ℤ, ℕ, suc, ◌<◌, ◌≤◌, pos, ◌<ℤ◌}
-use Rattle.std.proofs.Common.{Bool, true, false, List, [], ◌∷◌, length, get_or, neg_ℤ, cond, map}
+use Rattle.std.proofs.Common.{◌≡◌, sym, ◌∙◌, ap, inl, inr, ◌⊎◌, arith, ℕ, suc, ◌<◌}
+use Rattle.std.proofs.Common.{false, List, [], ◌∷◌, length, get_or}
 use Rattle.std.specs.List.{AllByRecursion}
 use Rattle.std.specs.declared.cmp.Ordering.{Ordering}
 use Rattle.std.specs.declared.cmp.Ordering.TheVariants.{Less, Equal, Greater}
-use Rattle.std.specs.Ordering.{is_lt, int_cmp, ordering_reverse, on, then_cmp}
+use Rattle.std.specs.Ordering.{is_lt, ordering_reverse}
 use Rattle.std.specs.Cmp.{IsTotalOrder, IsStrictWeakOrder}
 use Rattle.std.specs.List.Sorted.{IsSortedBy}
 use Rattle.std.proofs.lemmas.Int.{ints}
@@ -14,7 +14,7 @@ use Rattle.theory_plane.proofs.Clearance.{value_on-IsRational}
 use Rattle.sb_join.specs.Listing.{start_of, slope_of, order_of_faces, order_of_patches, AreListed}
 use Rattle.std.proofs.lemmas.List.Sorted.{ranks_by, sorted_far}
 use Rattle.theory_lists.specs.Members.{AllOfTwo}
-use Rattle.theory_numbers.specs.Arrows.{Arrow, cross}
+use Rattle.theory_numbers.specs.Arrows.{Arrow}
 use Rattle.theory_numbers.specs.Rationals.{IsRational, IsBelow, IsSame}
 use Rattle.theory_numbers.proofs.Arrows.{cross-turn}
 use Rattle.theory_numbers.proofs.Rationals.{below_trans, number_cases, same_sym, same_trans}
@@ -24,7 +24,7 @@ use Rattle.sb_fraction.specs.Numbers.{order_of}
 use Rattle.sb_model.specs.declared.boundary.Cell.{Cell}
 use Rattle.sb_model.specs.Patches.{region_of}
 use Rattle.theory_faces.specs.Strips.{Strip, strip_of, strips_of}
-use Rattle.theory_faces.specs.Chains.{order_of_keys, order_of_runs, AreInOrder}
+use Rattle.theory_faces.specs.Chains.{order_of_runs, AreInOrder}
 use Rattle.theory_faces.proofs.NoSeamInOrder.{keys_total}
 use Rattle.theory_faces.proofs.PatchesAreRegions.{patch_is}
 

@@ -1,6 +1,6 @@
 -- Stacks of strips: what a cell more on top changes, and what is laid cell by cell.
-use Rattle.std.proofs.Common.{◌≡◌, refl, sym, ◌∙◌, ap, ap₂, ℕ, zero, suc, ◌-◌, ◌<◌, ◌≤◌, arith, List, []}
-use Rattle.std.proofs.Common.{◌∷◌, ◌++◌, map, reverse, take, length, get_or, false, if◌then◌else◌}
+use Rattle.std.proofs.Common.{◌≡◌, refl, sym, ◌∙◌, ap, ap₂, ℕ, suc, ◌≤◌, arith, List, []}
+use Rattle.std.proofs.Common.{◌∷◌, ◌++◌, map, take, length, get_or, false, if◌then◌else◌}
 use Rattle.std.proofs.Common.{Ok, Err, IfOk, OnOk, Result}
 use Rattle.std.proofs.Math.Seq.{take-suc}
 use Rattle.std.proofs.lemmas.List.{reverse-append, map-append}

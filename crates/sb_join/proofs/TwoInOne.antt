@@ -1,5 +1,5 @@
 -- Two cells in one, along v or along u, are a patch; and the sizes of a patch.
-use Rattle.std.proofs.Common.{◌≡◌, refl, sym, ◌∙◌, ap, ap₂, subst, Bool, true, ◌&&◌, if◌then◌else◌, List}
+use Rattle.std.proofs.Common.{◌≡◌, refl, sym, ap, subst, true, ◌&&◌, if◌then◌else◌}
 use Rattle.std.proofs.Common.{[], ◌∷◌, IsTrue}
 use Rattle.std.specs.List.{AllByRecursion}
 use Rattle.std.specs.Ordering.{int_eq}
@@ -13,7 +13,7 @@ use Rattle.theory_plane.specs.Regions.{is_region}
 use Rattle.theory_plane.proofs.Regions.{region_passes}
 use Rattle.theory_joining.specs.Runs.{IsRunOver}
 use Rattle.theory_joining.specs.Cells.{is_one_run, raised, runs_of}
-use Rattle.theory_joining.specs.Put.{goes_on, carried_on}
+use Rattle.theory_joining.specs.Put.{goes_on}
 use Rattle.theory_joining.proofs.RunsMerge.{AreOneRun, one_run_from}
 use Rattle.theory_joining.proofs.RunsStayApart.{runs_are_runs}
 use Rattle.theory_joining.proofs.GoesOn.{carried_on_is_patch, goes_on_from}

@@ -1,5 +1,5 @@
 -- Between two heights stands a patch.
-use Rattle.std.proofs.Common.{FitsSigned, w32, rules, sym, ◌∙◌, ap, arith, ◌≡◌, pos}
+use Rattle.std.proofs.Common.{FitsSigned, w32, rules, ◌∙◌, ap, arith, pos}
 use Rattle.std.proofs.lemmas.Int.{ints, to_z-of_z}
 use Rattle.std.proofs.lemmas.Bool.{le-leb}
 use Rattle.theory_numbers.specs.Fractions.{whole}

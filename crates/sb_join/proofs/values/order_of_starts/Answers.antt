@@ -3,8 +3,6 @@ use Rattle.std.proofs.Common.{FitsSigned, rules, ap, ap₂, ◌∙◌, ◌+ℤ�
 use Rattle.std.specs.Int.{w128}
 use Rattle.std.specs.Ordering.{int_cmp, ordering_then}
 use Rattle.std.proofs.lemmas.Int.{to_z-of_z}
-use Rattle.theory_plane.specs.Sides.{line}
-use Rattle.sb_join.specs.Sizes.{HasSizes}
 use Rattle.sb_join.proofs.TwoInOne.{parts_of}
 use Rattle.sb_join.proofs.Starts.{numbers_have_sizes, order_by_gap}
 use Rattle.sb_join.proofs.values.order_of_starts.Goals as goal

@@ -1,5 +1,5 @@
 -- The runs of one call more.
-use Rattle.std.proofs.Common.{sym, ◌∙◌, ap}
+use Rattle.std.proofs.Common.{◌∙◌, ap}
 use Rattle.theory_faces.specs.Strips.{strips_of, runs_over}
 use Rattle.sb_join.proofs.Stacked.{taken_more}
 use Rattle.sb_join.proofs.joiner.Joiner.advance.Goals as goal

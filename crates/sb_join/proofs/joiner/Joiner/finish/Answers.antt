@@ -1,8 +1,7 @@
 -- The law of joined cells, for each model.
-use Rattle.std.proofs.Common.{sym, ◌∙◌, subst, ◌≡◌, List, IsPermutation, reverse}
+use Rattle.std.proofs.Common.{sym, ◌∙◌, subst, List, IsPermutation, reverse}
 use Rattle.std.proofs.lemmas.List.Sorted.{IsPermutation-map, IsPermutation-reverse}
 use Rattle.std.proofs.lemmas.List.Sorted.{IsPermutation-sym, IsPermutation-trans}
-use Rattle.sb_model.specs.declared.boundary.Cell.{Cell}
 use Rattle.theory_faces.specs.Strips.{Strip, strip_of, strips_of}
 use Rattle.theory_faces.specs.Joinable.{AreJoined}
 use Rattle.theory_faces.proofs.JoinedCells.{has_joined_cells}
