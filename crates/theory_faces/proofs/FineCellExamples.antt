@@ -1,5 +1,16 @@
 -- Which pieces are fine cells, and which are not: on the model of one box, 4,000 by 3,000 and 2,500
 -- high, on the ground.
+use Rattle.std.proofs.Common.{◌-ℤ◌, ◌*ℤ◌, ◌&&◌, subst, int_lt, [], ◌∷◌, inl, inr, sym}
+use Rattle.std.proofs.lemmas.Bool.{and_parts, and_from}
+use Rattle.theory_lists.specs.Members.{Stands}
+use Rattle.theory_numbers.specs.Rationals.{is_below}
+use Rattle.theory_numbers.proofs.Signs.{less_from, test_less}
+use Rattle.theory_plane.specs.Points.{FacePoint, face_point, is_on_side, is_above_side, is_under_side}
+use Rattle.theory_plane.specs.Regions.{is_inside, is_spanned}
+use Rattle.theory_plans.specs.Rectangles.{rectangle}
+use Rattle.theory_plans.proofs.InsideRectangle.{inside_rectangle}
+use Rattle.sb_model.specs.PlanEdges.{PlanEdge, plan_edges}
+use Rattle.sb_model.specs.FineCells.{way_x, IsOfSpanning, IsLevelPiece}
 use Rattle.std.proofs.Common.{◌≡◌, refl, ◌∙◌, ap, arith, ℕ, ℤ, pos, ◌<ℤ◌, true}
 use Rattle.std.proofs.Common.{false}
 use Rattle.std.proofs.lemmas.Int.{ints}
@@ -12,7 +23,7 @@ use Rattle.theory_plane.specs.Sides.{LineSide, line, level, clearance}
 use Rattle.theory_plane.specs.Regions.{Region}
 use Rattle.sb_fraction.specs.Edges.{edge}
 use Rattle.sb_fraction.specs.Directions.{axis_x, direction_of, runs_along, step}
-use Rattle.sb_fraction.specs.Lines.{span_along}
+use Rattle.sb_fraction.specs.Lines.{span_along, line_over}
 use Rattle.sb_model.specs.FineCells.{is_across_slab, is_cut_height, IsUprightPiece, IsLineOf}
 use Rattle.theory_models.proofs.ExampleModels.{plan_point, block, box}
 
@@ -104,3 +115,139 @@ part_is_refused : IsUprightPiece box (block 0 4000 0 3000 2500)
 part_is_refused piece =
     let to : pos 1000 ≡ piece.to = ap (λ (l : LineSide). l.off) piece.upper in
     false≢true (ap (is_cut_height box) to ∙ piece.last)
+
+-- ---- pieces of Bottom and Top
+
+abbrev edge_of_box : ℕ → ℕ → ℕ → ℕ → PlanEdge
+edge_of_box x0 y0 x1 y1 = record { edge = edge (plan_point x0 y0) (plan_point x1 y1); product = 20 }
+
+abbrev floor : Region
+floor = record { low = at 0; high = at 4000; lower = level (pos 0); upper = level (pos 3000) }
+
+-- its plan edges are four
+four_edges : plan_edges box
+    ≡ edge_of_box 0 0 4000 0 ∷ edge_of_box 4000 0 4000 3000 ∷ edge_of_box 4000 3000 0 3000
+    ∷ edge_of_box 0 3000 0 0 ∷ []
+four_edges = refl
+
+-- the line of the front edge is v = 0, that of the back edge v = 3,000
+front_line : IsOfSpanning box (at 0) (at 4000) (level (pos 0))
+unfolding cross dot clearance span_along
+front_line = (edge_of_box 0 0 4000 0, (inl refl, (refl, (refl, refl))))
+
+back_line : IsOfSpanning box (at 0) (at 4000) (level (pos 3000))
+unfolding cross dot clearance span_along
+back_line = (edge_of_box 4000 3000 0 3000, (inr (inr (inl refl)), (refl, (refl, refl))))
+
+abbrev is_off : FacePoint → PlanEdge → Type 0
+is_off point e = is_on_side (line_over way_x e.edge) point ≡ false
+
+-- a point of the floor lies strictly between the two
+between_lines : (u v w : ℤ) → is_inside floor (face_point u v w) ≡ true
+    → (pos 0 <ℤ v) × (v <ℤ (pos 3000 *ℤ w))
+between_lines u v w inside =
+    let parts =
+    and_parts (is_spanned floor (rational u w))
+    (is_above_side (level (pos 0)) (face_point u v w)
+    && is_under_side (level (pos 3000)) (face_point u v w)) inside
+    in
+    let sides =
+    and_parts (is_above_side (level (pos 0)) (face_point u v w))
+    (is_under_side (level (pos 3000)) (face_point u v w)) parts.1
+    in
+    let above = less_from (pos 0 *ℤ w) ((pos 1 *ℤ v) -ℤ (pos 0 *ℤ u)) sides.0 in
+    let below = less_from ((pos 1 *ℤ v) -ℤ (pos 0 *ℤ u)) (pos 3000 *ℤ w) sides.1 in
+    (omega (arith, ints), omega (arith, ints))
+
+-- and strictly between the ends
+spanned : (u v w : ℤ) → is_inside floor (face_point u v w) ≡ true
+    → (pos 0 <ℤ u) × (u <ℤ (pos 4000 *ℤ w))
+unfolding cross
+spanned u v w inside =
+    let parts =
+    and_parts (is_spanned floor (rational u w))
+    (is_above_side (level (pos 0)) (face_point u v w)
+    && is_under_side (level (pos 3000)) (face_point u v w)) inside
+    in
+    let ends =
+    and_parts (is_below (at 0) (rational u w)) (is_below (rational u w) (at 4000)) parts.0
+    in
+    let after = less_from (pos 0) ((pos 1 *ℤ u) -ℤ (pos 0 *ℤ w)) ends.0 in
+    let before = less_from (pos 0) ((w *ℤ pos 4000) -ℤ (u *ℤ pos 1)) ends.1 in
+    (omega (arith, ints), omega (arith, ints))
+
+right : is_across_slab axis_x (at 0) (at 4000) (edge (plan_point 4000 0) (plan_point 4000 3000)) ≡ false
+unfolding cross
+right = refl
+
+left : is_across_slab axis_x (at 0) (at 4000) (edge (plan_point 0 3000) (plan_point 0 0)) ≡ false
+unfolding cross
+left = refl
+
+-- so it lies on neither line
+off_front : (u v w : ℤ) → pos 0 <ℤ v → is_off (face_point u v w) (edge_of_box 0 0 4000 0)
+unfolding cross dot span_along
+off_front u v w above =
+    test_not_equal ((pos 4000 *ℤ v) -ℤ (pos 0 *ℤ u)) (pos 0 *ℤ w)
+    (λ (same : ((pos 4000 *ℤ v) -ℤ (pos 0 *ℤ u)) ≡ (pos 0 *ℤ w)). omega (arith, ints))
+
+off_back : (u v w : ℤ) → v <ℤ (pos 3000 *ℤ w)
+    → is_off (face_point u v w) (edge_of_box 4000 3000 0 3000)
+unfolding cross dot span_along
+off_back u v w below =
+    test_not_equal ((pos 4000 *ℤ v) -ℤ (pos 0 *ℤ u)) (pos 12000000 *ℤ w)
+    (λ (same : ((pos 4000 *ℤ v) -ℤ (pos 0 *ℤ u)) ≡ (pos 12000000 *ℤ w)). omega (arith, ints))
+
+off_each : (u v w : ℤ) → is_inside floor (face_point u v w) ≡ true
+    → (e : PlanEdge) → Stands e (plan_edges box)
+    → is_across_slab axis_x (at 0) (at 4000) e.edge ≡ true → is_off (face_point u v w) e
+off_each u v w inside e at_e spans = from at_e spans
+  where
+    bounds : (pos 0 <ℤ v) × (v <ℤ (pos 3000 *ℤ w))
+    bounds = between_lines u v w inside
+
+    from : Stands e (plan_edges box) → is_across_slab axis_x (at 0) (at 4000) e.edge ≡ true
+        → is_off (face_point u v w) e
+    from (inl same) across = subst (is_off (face_point u v w)) (sym same) (off_front u v w bounds.0)
+    from (inr (inl same)) across =
+        absurd
+        (false≢true
+        (sym right ∙ ap (λ (g : PlanEdge). is_across_slab axis_x (at 0) (at 4000) g.edge) (sym same)
+        ∙ across))
+    from (inr (inr (inl same))) across =
+        subst (is_off (face_point u v w)) (sym same) (off_back u v w bounds.1)
+    from (inr (inr (inr (inl same)))) across =
+        absurd
+        (false≢true
+        (sym left ∙ ap (λ (g : PlanEdge). is_across_slab axis_x (at 0) (at 4000) g.edge) (sym same)
+        ∙ across))
+    from (inr (inr (inr (inr none)))) across = absurd none
+
+-- the whole floor of the box is a piece
+whole_floor : IsLevelPiece box (rectangle (pos 0) (pos 4000) (pos 0) (pos 3000) ∷ []) floor
+whole_floor =
+    record {
+      lower = front_line;
+      upper = back_line;
+      undivided = λ e at_e spans point point_in inside.
+          off_each point.u point.v point.w inside e at_e spans;
+      inside = λ p p_is at_p.
+          inside_rectangle (pos 0) (pos 4000) (pos 0) (pos 3000) p (omega (arith, ints))
+          (omega (arith, ints)) p_is
+          ∙ within p.x p.y p.w at_p;
+    }
+  where
+    within : (x y w : ℤ) → is_inside floor (face_point x y w) ≡ true
+        → ((int_lt (pos 0 *ℤ w) x && int_lt x (pos 4000 *ℤ w))
+        && (int_lt (pos 0 *ℤ w) y && int_lt y (pos 3000 *ℤ w))) ≡ true
+    within x y w at_p =
+        let bounds = between_lines x y w at_p in
+        let ends = spanned x y w at_p in
+        and_from (int_lt (pos 0 *ℤ w) x && int_lt x (pos 4000 *ℤ w))
+        (int_lt (pos 0 *ℤ w) y && int_lt y (pos 3000 *ℤ w))
+        (and_from (int_lt (pos 0 *ℤ w) x) (int_lt x (pos 4000 *ℤ w))
+        (test_less (pos 0 *ℤ w) x (omega (arith, ints)))
+        (test_less x (pos 4000 *ℤ w) (omega (arith, ints))))
+        (and_from (int_lt (pos 0 *ℤ w) y) (int_lt y (pos 3000 *ℤ w))
+        (test_less (pos 0 *ℤ w) y (omega (arith, ints)))
+        (test_less y (pos 3000 *ℤ w) (omega (arith, ints))))
