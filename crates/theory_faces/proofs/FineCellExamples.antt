@@ -1,6 +1,6 @@
 -- Which pieces are fine cells, and which are not: on the model of one box, 4,000 by 3,000 and 2,500
 -- high, on the ground.
-use Rattle.std.proofs.Common.{◌-ℤ◌, ◌*ℤ◌, ◌&&◌, subst, int_lt, [], ◌∷◌, inl, inr, sym}
+use Rattle.std.proofs.Common.{◌-ℤ◌, ◌*ℤ◌, ◌&&◌, subst, int_lt, List, [], ◌∷◌, inl, inr, sym}
 use Rattle.std.proofs.lemmas.Bool.{and_parts, and_from}
 use Rattle.theory_lists.specs.Members.{Stands}
 use Rattle.theory_numbers.specs.Rationals.{is_below}
@@ -24,6 +24,7 @@ use Rattle.theory_plane.specs.Regions.{Region}
 use Rattle.sb_fraction.specs.Edges.{edge}
 use Rattle.sb_fraction.specs.Directions.{axis_x, direction_of, runs_along, step}
 use Rattle.sb_fraction.specs.Lines.{span_along, line_over}
+use Rattle.sb_fraction.specs.declared.point.Point.{Point}
 use Rattle.sb_model.specs.FineCells.{is_across_slab, is_cut_height, IsUprightPiece, IsLineOf}
 use Rattle.theory_models.proofs.ExampleModels.{plan_point, block, box}
 
@@ -251,3 +252,35 @@ whole_floor =
         (and_from (int_lt (pos 0 *ℤ w) y) (int_lt y (pos 3000 *ℤ w))
         (test_less (pos 0 *ℤ w) y (omega (arith, ints)))
         (test_less y (pos 3000 *ℤ w) (omega (arith, ints))))
+
+-- the lines of two edges are apart from v = 1,500
+off_front_line : IsLineOf (level (pos 1500)) (edge (plan_point 0 0) (plan_point 4000 0)) → ⊥
+unfolding cross dot clearance span_along
+off_front_line same = let first = same.0 in absurd (omega (arith, ints))
+
+off_back_line : IsLineOf (level (pos 1500)) (edge (plan_point 4000 3000) (plan_point 0 3000)) → ⊥
+unfolding cross dot clearance span_along
+off_back_line same = let first = same.0 in absurd (omega (arith, ints))
+
+abbrev half_floor : Region
+half_floor = record { low = at 0; high = at 4000; lower = level (pos 0); upper = level (pos 1500) }
+
+-- half of it is none: no edge that spans lies on the line between the halves
+no_middle_line : (e : PlanEdge) → Stands e (plan_edges box)
+    → is_across_slab axis_x (at 0) (at 4000) e.edge ≡ true
+    → IsLineOf (level (pos 1500)) e.edge → ⊥
+no_middle_line e (inl same) spans on =
+    off_front_line (subst (λ (g : PlanEdge). IsLineOf (level (pos 1500)) g.edge) same on)
+no_middle_line e (inr (inl same)) spans on =
+    false≢true
+    (sym right ∙ ap (λ (g : PlanEdge). is_across_slab axis_x (at 0) (at 4000) g.edge) (sym same) ∙ spans)
+no_middle_line e (inr (inr (inl same))) spans on =
+    off_back_line (subst (λ (g : PlanEdge). IsLineOf (level (pos 1500)) g.edge) same on)
+no_middle_line e (inr (inr (inr (inl same)))) spans on =
+    false≢true
+    (sym left ∙ ap (λ (g : PlanEdge). is_across_slab axis_x (at 0) (at 4000) g.edge) (sym same) ∙ spans)
+no_middle_line e (inr (inr (inr (inr none)))) spans on = none
+
+half_floor_is_refused : (loops : List (List Point)) → IsLevelPiece box loops half_floor → ⊥
+half_floor_is_refused loops piece =
+    let upper = piece.upper in no_middle_line upper.0 upper.1.0 upper.1.1.0 upper.1.1.1
