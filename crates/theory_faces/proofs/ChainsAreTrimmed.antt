@@ -31,7 +31,7 @@ use Rattle.theory_faces.proofs.ChainsKeep.{chains_are_patches, chains_mark, chai
 use Rattle.theory_faces.proofs.NoSeamInOrder.{AreInTurn, IsInTurn, IsNotAfter}
 use Rattle.theory_faces.proofs.NoSeamInOrder.{in_turn_if_in_order, none_has_seam, key_sym, key_trans}
 use Rattle.theory_faces.proofs.NoSeamInOrder.{HaveNoSeamIfAlike}
-use Rattle.theory_faces.proofs.SlabAfterSlab.{AreApartAt}
+use Rattle.theory_faces.proofs.Slabs.SlabAfterSlab.{AreApartAt}
 
 module _ (sheet : Sheet) where
   -- the strip begins and ends at an abscissa

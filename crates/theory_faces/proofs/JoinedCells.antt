@@ -65,21 +65,21 @@ use Rattle.theory_faces.specs.Chains.{chains, AreInOrder}
 use Rattle.theory_faces.specs.Joinable.{AreJoinable, IsTaken, is_cell_at}
 use Rattle.theory_faces.specs.Laws.{HasJoinedCells}
 use Rattle.theory_faces.proofs.MarksTold.{mark_tells, face_tells}
-use Rattle.theory_faces.proofs.SlabAfterSlab.{all_strips, all_listed, all_apart}
-use Rattle.theory_faces.proofs.SlabAfterSlab.{all_in_turn, all_apart_at, AreApartAt, all_of_strips}
-use Rattle.theory_faces.proofs.SlabAfterSlab.{all_have_marks, all_have_no_more, Ascend}
+use Rattle.theory_faces.proofs.Slabs.SlabAfterSlab.{all_strips, all_listed, all_apart}
+use Rattle.theory_faces.proofs.Slabs.SlabAfterSlab.{all_in_turn, all_apart_at, AreApartAt, all_of_strips}
+use Rattle.theory_faces.proofs.Slabs.SlabAfterSlab.{all_have_marks, all_have_no_more, Ascend}
 use Rattle.theory_faces.proofs.ChainsAreTrimmed.{IsListed, each_chain, chains_are_trimmed}
 use Rattle.theory_faces.proofs.ChainsAreTrimmed.{chains_apart_at, chains_have_marks}
 use Rattle.theory_faces.proofs.ChainsAreTrimmed.{chains_have_no_more}
 use Rattle.theory_faces.proofs.PatchesAreRegions.{patch_is}
-use Rattle.theory_faces.proofs.CellsRise.{way_x_is}
-use Rattle.theory_faces.proofs.JoinableAscends.{joinable_ascends, sheet_of_ends, ends_of, none_of_sheet}
-use Rattle.theory_faces.proofs.JoinableAscends.{strip_of_cell, stands_of_image, image_stands}
-use Rattle.theory_faces.proofs.JoinableAscends.{stands_in_all}
-use Rattle.theory_faces.proofs.PlainOffSides.{plain_off_uppers, plain_is_no_abscissa, IsLevel}
-use Rattle.theory_faces.proofs.PlainOffSides.{bottom_is_level, top_is_level, level_point, frame_point}
-use Rattle.theory_faces.proofs.PlainOffSides.{plan_point}
-use Rattle.theory_faces.proofs.PointsOfSides.{IsOnSide, spans_between, on_side_is_of_side}
+use Rattle.theory_faces.proofs.Slabs.CellsRise.{way_x_is}
+use Rattle.theory_faces.proofs.Slabs.JoinableAscends.{joinable_ascends, sheet_of_ends, ends_of, none_of_sheet}
+use Rattle.theory_faces.proofs.Slabs.JoinableAscends.{strip_of_cell, stands_of_image, image_stands}
+use Rattle.theory_faces.proofs.Slabs.JoinableAscends.{stands_in_all}
+use Rattle.theory_faces.proofs.Points.PlainOffSides.{plain_off_uppers, plain_is_no_abscissa, IsLevel}
+use Rattle.theory_faces.proofs.Points.PlainOffSides.{bottom_is_level, top_is_level, level_point, frame_point}
+use Rattle.theory_faces.proofs.Points.PlainOffSides.{plan_point}
+use Rattle.theory_faces.proofs.Points.PointsOfSides.{IsOnSide, spans_between, on_side_is_of_side}
 
 -- ---- the space with a number
 

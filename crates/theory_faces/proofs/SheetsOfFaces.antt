@@ -31,9 +31,9 @@ use Rattle.sb_model.specs.FineCells.{way_x}
 use Rattle.theory_models.proofs.AbscissaeListed.{no_abscissa_is_none, none_is_no_abscissa}
 use Rattle.theory_models.proofs.EdgesOfProducts.{plan_of_solid}
 use Rattle.theory_faces.specs.Laws.{HasOneTrimmed, HasLevelRegionInside}
-use Rattle.theory_faces.proofs.CellsRise.{way_x_is}
-use Rattle.theory_faces.proofs.PlainOffSides.{IsLevel, bottom_is_level, top_is_level, level_point}
-use Rattle.theory_faces.proofs.PlainOffSides.{frame_point, plan_point}
+use Rattle.theory_faces.proofs.Slabs.CellsRise.{way_x_is}
+use Rattle.theory_faces.proofs.Points.PlainOffSides.{IsLevel, bottom_is_level, top_is_level, level_point}
+use Rattle.theory_faces.proofs.Points.PlainOffSides.{frame_point, plan_point}
 use Rattle.theory_faces.proofs.JoinedCells.{bottom_height, top_height}
 
 -- ---- trimmed

@@ -1,5 +1,5 @@
 -- The law is its lemma.
-use Rattle.theory_faces.proofs.PlainOffCuts.{has_plain_off_cuts}
+use Rattle.theory_faces.proofs.Points.PlainOffCuts.{has_plain_off_cuts}
 use Rattle.theory_faces.proofs.plain_points.Goals as goal
 
 -- the law

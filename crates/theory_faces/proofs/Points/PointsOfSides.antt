@@ -30,7 +30,7 @@ use Rattle.sb_model.specs.Faces.{side_over, on_face, is_in_plane}
 use Rattle.sb_model.specs.FineCells.{number_at, leads_over, is_across_slab}
 use Rattle.theory_parity.specs.Below.{abscissa_in}
 use Rattle.theory_parity.proofs.InsideByBelow.{turn_by_span}
-use Rattle.theory_faces.proofs.PlainOffSides.{on_if_reached}
+use Rattle.theory_faces.proofs.Points.PlainOffSides.{on_if_reached}
 
 -- ---- over an edge
 

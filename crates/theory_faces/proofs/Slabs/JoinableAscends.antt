@@ -41,10 +41,10 @@ use Rattle.theory_models.proofs.AbscissaeListed.{abscissa_is_among, no_abscissa_
 use Rattle.theory_faces.specs.Strips.{Strip, strip_of, strips_of}
 use Rattle.theory_faces.specs.Joinable.{IsFirstOfSlab, EndsBefore, AreJoinable}
 use Rattle.theory_faces.proofs.ByFace.{FacesRise}
-use Rattle.theory_faces.proofs.RunsOfASlab.{AreOfSlab, IsUnderOnFace}
-use Rattle.theory_faces.proofs.SlabAfterSlab.{all_strips, AreOfASlab, StripsEndBefore, Ascend}
+use Rattle.theory_faces.proofs.Slabs.RunsOfASlab.{AreOfSlab, IsUnderOnFace}
+use Rattle.theory_faces.proofs.Slabs.SlabAfterSlab.{all_strips, AreOfASlab, StripsEndBefore, Ascend}
 use Rattle.theory_faces.proofs.PatchesAreRegions.{patch_is}
-use Rattle.theory_faces.proofs.CellsRise.{level_sides_rise, heights_rise}
+use Rattle.theory_faces.proofs.Slabs.CellsRise.{level_sides_rise, heights_rise}
 
 -- ---- lists of images
 

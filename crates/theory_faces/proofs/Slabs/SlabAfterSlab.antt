@@ -25,10 +25,10 @@ use Rattle.theory_faces.specs.Strips.{Mark, Strip, is_same_mark, runs_over, all_
 use Rattle.theory_faces.proofs.MarksTold.{mark_tells}
 use Rattle.theory_faces.proofs.NoSeamInOrder.{AreInTurn}
 use Rattle.theory_faces.proofs.ByFace.{of_face, is_of, all_pass_there, stands_in_whole}
-use Rattle.theory_faces.proofs.RunsOfASlab.{AreOfSlab, IsUnderOnFace, slab_runs, runs_lie_over}
-use Rattle.theory_faces.proofs.RunsOfASlab.{runs_under, runs_apart, runs_have_marks}
-use Rattle.theory_faces.proofs.RunsOfASlab.{runs_have_no_more, under_has_other_key}
-use Rattle.theory_faces.proofs.RunsOfASlab.{under_has_other_points}
+use Rattle.theory_faces.proofs.Slabs.RunsOfASlab.{AreOfSlab, IsUnderOnFace, slab_runs, runs_lie_over}
+use Rattle.theory_faces.proofs.Slabs.RunsOfASlab.{runs_under, runs_apart, runs_have_marks}
+use Rattle.theory_faces.proofs.Slabs.RunsOfASlab.{runs_have_no_more, under_has_other_key}
+use Rattle.theory_faces.proofs.Slabs.RunsOfASlab.{under_has_other_points}
 use Rattle.theory_faces.proofs.MarksTold.{face_tells}
 
 -- all strips of several lists

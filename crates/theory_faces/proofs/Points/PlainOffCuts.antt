@@ -44,11 +44,11 @@ use Rattle.theory_lines.proofs.EdgesOverASlab.{reaching_spans}
 use Rattle.theory_lines.proofs.OneLiesBelow.{spanning_is_line}
 use Rattle.theory_faces.specs.Sheets.{lines_across, heights_of, IsOverSlab}
 use Rattle.theory_faces.specs.Laws.{HasPlainOffCuts}
-use Rattle.theory_faces.proofs.CellsRise.{way_x_is}
-use Rattle.theory_faces.proofs.PlainOffSides.{IsLevel, bottom_is_level, top_is_level, level_point}
-use Rattle.theory_faces.proofs.PlainOffSides.{frame_point, plan_point, on_spanning, upright_off}
-use Rattle.theory_faces.proofs.PlainOffSides.{IsSideOver, side_is_over, side_height}
-use Rattle.theory_faces.proofs.PlainOffSides.{plain_is_no_abscissa}
+use Rattle.theory_faces.proofs.Slabs.CellsRise.{way_x_is}
+use Rattle.theory_faces.proofs.Points.PlainOffSides.{IsLevel, bottom_is_level, top_is_level, level_point}
+use Rattle.theory_faces.proofs.Points.PlainOffSides.{frame_point, plan_point, on_spanning, upright_off}
+use Rattle.theory_faces.proofs.Points.PlainOffSides.{IsSideOver, side_is_over, side_height}
+use Rattle.theory_faces.proofs.Points.PlainOffSides.{plain_is_no_abscissa}
 
 not_true : (b : Bool) → not b ≡ true → b ≡ false
 not_true true answer = absurd (false≢true answer)

@@ -46,7 +46,7 @@ use Rattle.theory_parity.proofs.InsideByBelow.{beyond_is_left}
 use Rattle.theory_parity.proofs.OnLineOver.{on_line_over}
 use Rattle.theory_lines.proofs.EdgesOverASlab.{spanning_reaches}
 use Rattle.theory_lines.proofs.OneLiesBelow.{spanning_is_line}
-use Rattle.theory_faces.proofs.CellsRise.{way_x_is, value_of_line}
+use Rattle.theory_faces.proofs.Slabs.CellsRise.{way_x_is, value_of_line}
 
 -- ---- a point on the line of an edge
 
