@@ -8,8 +8,6 @@ pub mod TwoInOne
 pub mod RunsInOrder
 -- stacks of strips
 pub mod Stacked
--- whole numbers as fractions
-pub mod Wholes
 -- products within 128 bits
 pub mod ProductsFit
 -- which patch begins lower

@@ -10,8 +10,6 @@ mod chains;
 mod joiner;
 mod orders;
 mod runs;
-#[cfg(test)]
-mod tests;
 mod values;
 
 pub use joiner::Joiner;

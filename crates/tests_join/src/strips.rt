@@ -1,8 +1,8 @@
 ghost use Rattle.std.specs.Prelude.{◌≡◌, ◌<◌, pos, IfOk};
 ghost use Rattle.theory_numbers.specs.Fractions.{whole as whole_number};
 
-use crate::Joiner;
 use sb_fraction::Fraction;
+use sb_join::Joiner;
 use sb_list::Listed;
 use sb_model::{Cell, Cells, End, Face, FaceKind, Item, Items, Patch, Side, Walk};
 use std::alloc::{AllocError, Global};

@@ -4,7 +4,7 @@ use Rattle.std.proofs.lemmas.Int.{ints, to_z-of_z}
 use Rattle.std.proofs.lemmas.Bool.{le-leb}
 use Rattle.theory_numbers.specs.Fractions.{whole}
 use Rattle.theory_faces.proofs.PatchesOfHeights.{is_patch_of_heights}
-use Rattle.sb_join.proofs.tests.part.Goals as goal
+use Rattle.tests_join.proofs.strips.part.Goals as goal
 
 pub invariant_of-result : goal.invariant_of-result
 invariant_of-result c =
