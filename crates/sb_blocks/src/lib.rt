@@ -11,8 +11,6 @@ mod changes;
 mod place;
 mod reads;
 mod search;
-#[cfg(test)]
-mod tests;
 
 pub use blocks::Blocks;
 pub use place::Place;

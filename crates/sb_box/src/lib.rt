@@ -7,8 +7,6 @@
 
 mod boundaries;
 mod extent;
-#[cfg(test)]
-mod tests;
 
 pub use boundaries::box_boundaries;
 pub use extent::Extent;

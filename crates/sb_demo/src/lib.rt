@@ -11,8 +11,6 @@ mod demo;
 mod error;
 mod numbering;
 mod relations;
-#[cfg(test)]
-mod tests;
 
 pub use demo::demo_text;
 pub use error::DemoError;

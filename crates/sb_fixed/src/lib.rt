@@ -13,8 +13,6 @@ mod parts;
 mod printing;
 mod reading;
 mod rounding;
-#[cfg(test)]
-mod tests;
 
 pub use laws::{printed_is_read_back, rounding_is_one_number, tokens_are_decimals};
 pub use lengths::{OutOfRange, micrometres, nanometres, ratio};

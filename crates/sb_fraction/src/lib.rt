@@ -14,8 +14,6 @@ mod products;
 mod side;
 mod span;
 mod steps;
-#[cfg(test)]
-mod tests;
 mod unit;
 
 pub use direction::{Direction, Line};

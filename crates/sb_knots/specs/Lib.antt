@@ -1,3 +1,3 @@
 -- What is said here beside the definitions of plans.
-pub mod Sizes
-pub mod Pairs
+pub mod Steps
+pub mod Listing

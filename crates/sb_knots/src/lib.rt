@@ -1,14 +1,20 @@
 //! Whether the edges of loops are apart, and on which side of each loop the solid lies.
 //!
-//! The loops are normalised: bent at each point, each begun at its least. All pairs of edges are
-//! looked at, and for each loop all edges that a ray from it may strike. Begin with [`senses`].
+//! The loops are normalised: bent at each point, each begun at its least. A line passes over their
+//! corners, by x and then by y, and the edges over which it stands are kept in order from below.
+//! Begin
+//! with [`senses`].
 #![tactic(auto)]
 
+mod begun;
+mod corners;
 mod edges;
 mod lists;
 mod meeting;
 mod sides;
 mod sizes;
+mod standing;
+mod sweep;
 
 pub use lists::{PointLists, Points, Senses};
 pub use sides::senses;

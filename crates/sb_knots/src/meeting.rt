@@ -1,57 +1,35 @@
-//! Whether two edges meet otherwise than as consecutive ends.
+//! Which edges may be neighbours, and which lie below a point.
 
-ghost use Rattle.std.specs.Prelude.{◌≡◌, ◌≤◌, ◌*ℤ◌, ◌&&◌, pos, int_le, unsigned_abs, IsTrue};
-ghost use Rattle.std.specs.Ordering.{int_eq};
-ghost use Rattle.std.specs.List.{list_all};
+ghost use Rattle.std.specs.Prelude.{◌≡◌, ◌≤◌, ◌*ℤ◌, unsigned_abs, IsTrue, int_lt, pos};
 ghost use Rattle.sb_fraction.specs.Plane.{is_plan_point};
 ghost use Rattle.sb_fraction.specs.Spots.{spot_at};
 ghost use Rattle.sb_fraction.specs.Edges.{turn_at, reach_at, is_on};
 ghost use Rattle.theory_plans.specs.Plans as plans;
-ghost use Rattle.sb_knots.specs.Pairs.{is_apart};
+ghost use Rattle.theory_sweep.specs.Open as sweep;
 
 use crate::edges::LoopEdge;
-use crate::sizes::{At, wide_product};
+use crate::sizes::{Way, wide_product};
 use sb_fraction::Point;
 
-/// Whether no two edges begin at one point, and none touch but where one begins as the other ends.
-pub(crate) fn are_apart(edges: &[LoopEdge]) -> bool
-    ensures { result ≡ plans.is_of_each_two is_apart edges.now }
+/// Two edges may be neighbours: both begin at one point, or both end there, or they do not touch.
+pub(crate) fn may_be_neighbours(e: LoopEdge, f: LoopEdge) -> bool
+    ensures { result ≡ sweep.may_be_neighbours e f }
 {
-    for i in 0..edges.len() {
-        if !is_apart_from(edges[i], &edges[i + 1..]) {
-            return false;
-        }
-    }
-    true
+    is_same_point(e.a, f.a) || is_same_point(e.b, f.b) || !do_touch(e, f)
 }
 
-fn is_apart_from(e: LoopEdge, others: &[LoopEdge]) -> bool
-    ensures { result ≡ list_all (is_apart e) others.now }
+/// The edge lies below the point.
+pub(crate) fn is_under(v: Point, e: LoopEdge) -> bool
+    requires { IsTrue (is_plan_point v) }
+    ensures { result ≡ sweep.is_under v e }
 {
-    for f in others {
-        if !is_apart(e, *f) {
-            return false;
-        }
-    }
-    true
+    turn(e, v) > 0
 }
 
-fn is_apart(e: LoopEdge, f: LoopEdge) -> bool
-    ensures { result ≡ is_apart e f }
-{
-    !is_same_point(e.a, f.a) && (is_consecutive(e, f) || !do_touch(e, f))
-}
-
-fn is_same_point(a: Point, b: Point) -> bool
+pub(crate) fn is_same_point(a: Point, b: Point) -> bool
     ensures { result ≡ plans.is_same_point a b }
 {
     a.x == b.x && a.y == b.y
-}
-
-fn is_consecutive(e: LoopEdge, f: LoopEdge) -> bool
-    ensures { result ≡ plans.is_consecutive e f }
-{
-    is_same_point(e.b, f.a) || is_same_point(f.b, e.a)
 }
 
 fn do_touch(e: LoopEdge, f: LoopEdge) -> bool
@@ -64,36 +42,32 @@ fn do_touch(e: LoopEdge, f: LoopEdge) -> bool
         || (is_parted(e, f) && is_parted(f, e))
 }
 
-#[tactic(auto, using(crate::proofs::NumbersFit::numbers))]
 fn is_on(p: Point, e: LoopEdge) -> bool
     requires { IsTrue (is_plan_point p) }
     ensures { result ≡ is_on (spot_at p) e }
 {
-    let p = At::point(p);
-    is_level(turn(e, p), reach(e, p))
-}
-
-fn is_level(turn: i64, reach: i64) -> bool
-    ensures { result ≡ (int_eq turn (pos 0) && int_le reach (pos 0)) }
-{
-    turn == 0 && reach <= 0
+    let level = turn(e, p) == 0;
+    let between = reach(e, p) <= 0;
+    level && between
 }
 
 fn is_parted(e: LoopEdge, f: LoopEdge) -> bool
     ensures { result ≡ plans.is_parted e f }
 {
-    wide_product(turn(e, At::point(f.a)), turn(e, At::point(f.b))) < 0
+    wide_product(turn(e, f.a), turn(e, f.b)) < 0
 }
 
-pub(crate) fn turn(e: LoopEdge, p: At) -> i64
-    ensures value { result ≡ turn_at e p }
-    ensures size { unsigned_abs result ≤ 8000000000000 }
+fn turn(e: LoopEdge, p: Point) -> i64
+    requires { IsTrue (is_plan_point p) }
+    ensures value { result ≡ turn_at e (spot_at p) }
+    ensures size { unsigned_abs result ≤ 2000000000000 }
 {
-    p.seen(e.a).cross(p.seen(e.b))
+    Way::seen(p, e.a).cross(Way::seen(p, e.b))
 }
 
-fn reach(e: LoopEdge, p: At) -> i64
-    ensures value { result ≡ reach_at e p }
+fn reach(e: LoopEdge, p: Point) -> i64
+    requires { IsTrue (is_plan_point p) }
+    ensures { result ≡ reach_at e (spot_at p) }
 {
-    p.seen(e.a).dot(p.seen(e.b))
+    Way::seen(p, e.a).dot(Way::seen(p, e.b))
 }

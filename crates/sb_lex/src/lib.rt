@@ -15,8 +15,6 @@ mod names;
 mod next_answer;
 mod numbers;
 mod quoted;
-#[cfg(test)]
-mod tests;
 
 pub use crate::kinds::{BadToken, Kind, Mark, Token, Word};
 pub use crate::laws::tokens_are_one_list;

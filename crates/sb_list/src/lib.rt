@@ -7,8 +7,6 @@
 #![tactic(auto)]
 
 mod listed;
-#[cfg(test)]
-mod tests;
 mod text;
 
 pub use listed::Listed;

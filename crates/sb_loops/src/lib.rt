@@ -11,8 +11,6 @@ mod error;
 mod normalising;
 mod planning;
 mod straightening;
-#[cfg(test)]
-mod tests;
 mod turning;
 
 pub use error::LoopError;

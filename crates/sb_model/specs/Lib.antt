@@ -14,5 +14,6 @@ pub mod PlainPoints
 pub mod Passages
 pub mod Walks
 pub mod Patches
+pub mod FineCells
 -- what is true of lists of boundaries
 pub mod Boundaries

@@ -16,7 +16,7 @@ use sb_fraction::Point;
 
 /// From the least to the greatest of some readings.
 #[derive(Clone, Copy)]
-pub(crate) struct Extent {
+pub struct Extent {
     pub low: i64,
     pub high: i64,
 }
@@ -24,7 +24,7 @@ pub(crate) struct Extent {
 /// The extent of a prism along an axis: from the least `p·axis` of its corners to the greatest, in
 /// millimetres (mm) along an axis of length 1.
 #[tactic(auto, using(crate::proofs::ReadingsFit::readings))]
-pub(crate) fn extent_of(prism: &Prism, along: Axis) -> Extent
+pub fn extent_of(prism: &Prism, along: Axis) -> Extent
     requires axis_in { IsShortAxis along }
     ensures low { result.low ≡ low_along prism.now (axis_vector along) }
     ensures high { result.high ≡ high_along prism.now (axis_vector along) }

@@ -24,13 +24,12 @@ mod patch_points;
 mod prism;
 mod products;
 mod side_line;
-#[cfg(test)]
-mod tests;
 mod walk;
 
 pub use boundary::{Boundaries, Boundary, Cell, Cells};
 pub use building::{Model, ModelError};
 pub use corner::{Corner, Corners};
+pub use extent::{Extent, extent_of};
 pub use face::{Face, FaceKind, Side};
 pub use frame::{Frame, Turn};
 pub use label::Label;

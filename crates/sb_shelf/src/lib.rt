@@ -16,8 +16,6 @@ mod places;
 mod shelf;
 mod steady;
 mod streams;
-#[cfg(test)]
-mod tests;
 mod whole_input;
 mod whole_output;
 

@@ -25,6 +25,11 @@ number_in (Some (param.Int text)) = Some text
 number_in (Some (param.Real text)) = Some text
 number_in _ = None
 
+-- an integer, as it stands
+abbrev pub integer_in : Option Param → Option (List ℕ)
+integer_in (Some (param.Int text)) = Some text
+integer_in _ = None
+
 -- an enumeration, without its points
 abbrev pub enumeration_in : Option Param → Option (List ℕ)
 enumeration_in (Some (param.Enumeration text)) = Some text
@@ -66,6 +71,11 @@ abbrev pub number_text : Kind → List ℕ → Option (List ℕ)
 number_text kind.Integer text = Some text
 number_text kind.Real text = Some text
 number_text _ text = None
+
+-- of an integer the text
+abbrev pub integer_text : Kind → List ℕ → Option (List ℕ)
+integer_text kind.Integer text = Some text
+integer_text _ text = None
 
 -- of an enumeration what is inside
 abbrev pub enumeration_text : Kind → List ℕ → Option (List ℕ)

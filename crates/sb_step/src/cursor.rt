@@ -1,6 +1,8 @@
 ghost use Rattle.std.specs.Prelude.{◌≡◌, ◌↔◌, ℕ, nat_eq, List, [], drop, None, IfSome, IsTrue};
 ghost use Rattle.std.specs.Prelude.{◌≤◌, length};
 ghost use Rattle.std.specs.Map.{lookup};
+ghost use Rattle.std.specs.Option.{option_copied};
+ghost use Rattle.sb_step.specs.Records.Spans.{keyword_of};
 ghost use Rattle.sb_step.specs.declared.parameters.param.Param.{Param};
 ghost use Rattle.sb_step.specs.Params.Parameters.{HasParameters};
 ghost use Rattle.sb_step.specs.Params.ParamsAnswers.{AwaitsByForm, SaysByForm, AwaitsList, ListSays};
@@ -12,9 +14,9 @@ ghost use Rattle.sb_step.specs.Cursor.{AreLeft, StandsAt, ListBehind, Left, Left
 use crate::kinds::is_close;
 use crate::parameters::reading::next;
 use crate::passing::{following, pass};
-use crate::step_file::StepFile;
 use crate::step_file::records::Form;
 use crate::step_file::table::form;
+use crate::step_file::{StepFile, keyword_at};
 use sb_lex::{Lexer, Token, tokens_are_one_list};
 use std::marker::Model;
 
@@ -67,12 +69,51 @@ impl<'a> StepFile<'a> {
     }
 }
 
+/// An instance, found by its number.
+#[derive(Drop)]
+pub struct Instance<'a> {
+    /// The keyword as it stands; a complex record has none.
+    pub keyword: Option<&'a [u8]>,
+    /// A cursor before its parameters.
+    pub parameters: Cursor<'a>,
+}
+
+impl<'a> StepFile<'a> {
+    /// The keyword and the parameters of the instance of this number, in one look-up: what `keyword`
+    /// and `cursor` answer. `None` exactly where no instance has the number.
+    pub fn instance(&self, number: u32) -> Option<Instance<'a>>
+        ensures missing { (result ≡ None)
+            ↔ (lookup (nat_eq number) self.now.file.instances ≡ None) }
+        ensures keyword { IfSome result (λ i. option_copied i.keyword ≡ keyword_of self.now number) }
+        ensures parameters { IfSome result (λ i. HasParameters self.now number i.parameters) }
+    {
+        match self.find(number) {
+            Some(place) => {
+                let keyword = keyword_at(self.text.bytes, place);
+                let parameters = by_form(self.text.bytes, form(place));
+                Some(Instance {
+                    keyword,
+                    parameters,
+                })
+            }
+            None => None,
+        }
+    }
+}
+
 impl<'a> Cursor<'a> {
     /// Whether no parameter is left.
     pub fn is_done(&self) -> bool
         ensures { IsTrue result ↔ (self.now ≡ []) }
     {
         self.place.next.is_none()
+    }
+
+    /// Another cursor before the same parameters.
+    pub fn copy(&self) -> Cursor<'a>
+        ensures { result ≡ self.now }
+    {
+        standing_at(self.place.bytes, self.place.next)
     }
 
     /// Passes over one parameter, whatever it holds, where one is left.

@@ -7,9 +7,9 @@ ghost use Rattle.sb_step.specs.Forms.{reference_in, reference_or_none_in, number
 ghost use Rattle.std.specs.Prelude.{ℕ, slice_range, IsTrue};
 ghost use Rattle.sb_step.specs.KindTests.{is_keyword as is_keyword_of};
 ghost use Rattle.sb_step.specs.Forms.{enumeration_in, string_in, enumeration_text, is_string as is_string_of};
-ghost use Rattle.sb_step.specs.Forms.{is_null_in, is_dollar as is_dollar_of};
+ghost use Rattle.sb_step.specs.Forms.{is_null_in, is_dollar as is_dollar_of, integer_in};
 ghost use Rattle.std.specs.Prelude.{◌≤◌, length, IfOk, OnOk, OnErr};
-ghost use Rattle.sb_step.specs.Forms.{name_of, name_or_none_of, number_text};
+ghost use Rattle.sb_step.specs.Forms.{name_of, name_or_none_of, number_text, integer_text};
 
 use crate::cursor::{Cursor, inside};
 use crate::kinds::{is_keyword, is_open};
@@ -72,6 +72,16 @@ impl<'a> Cursor<'a> {
         ensures left { self.new ≡ drop 1 self.old }
     {
         let value = self.number_text();
+        self.skip();
+        value
+    }
+
+    /// The same of an integer alone.
+    pub fn integer(&mut self) -> Option<&'a [u8]>
+        ensures value { option_copied result ≡ integer_in (slice_get self.old 0) }
+        ensures left { self.new ≡ drop 1 self.old }
+    {
+        let value = self.integer_text();
         self.skip();
         value
     }
@@ -198,6 +208,15 @@ impl<'a> Cursor<'a> {
             None => None,
         }
     }
+
+    fn integer_text(&self) -> Option<&'a [u8]>
+        ensures { option_copied result ≡ integer_in (slice_get self.now 0) }
+    {
+        match self.place.next {
+            Some(token) => integer_in(token.kind, &self.place.bytes[token.start..token.end]),
+            None => None,
+        }
+    }
 }
 
 /// The typed parameter that begins with this token, if one does.
@@ -314,6 +333,15 @@ fn number_in<'a>(kind: Kind, text: &'a [u8]) -> Option<&'a [u8]>
 {
     match kind {
         Kind::Integer | Kind::Real => Some(text),
+        _ => None,
+    }
+}
+
+fn integer_in<'a>(kind: Kind, text: &'a [u8]) -> Option<&'a [u8]>
+    ensures { option_copied result ≡ integer_text kind text.now }
+{
+    match kind {
+        Kind::Integer => Some(text),
         _ => None,
     }
 }

@@ -3,8 +3,6 @@
 #![tactic(auto)]
 
 mod cursor;
-#[cfg(test)]
-mod cursor_tests;
 mod error;
 mod forms;
 mod indexing;
@@ -13,10 +11,8 @@ mod laws;
 mod parameters;
 mod passing;
 mod step_file;
-#[cfg(test)]
-mod tests;
 
-pub use crate::cursor::Cursor;
+pub use crate::cursor::{Cursor, Instance};
 pub use crate::error::{ParamsError, StepError};
 pub use crate::forms::Typed;
 pub use crate::indexing::index;

@@ -106,7 +106,7 @@ impl<'a> StepFile<'a> {
     }
 }
 
-fn keyword_at(bytes: &[u8], place: Place) -> Option<&[u8]>
+pub(crate) fn keyword_at(bytes: &[u8], place: Place) -> Option<&[u8]>
     requires { PlaceLies (length bytes.now) place }
     ensures { option_copied result ≡ spec.keyword_by bytes.now place.start (form_of place) }
 {

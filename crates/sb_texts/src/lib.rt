@@ -8,8 +8,6 @@ mod bytes;
 mod numbers;
 mod pieces;
 mod references;
-#[cfg(test)]
-mod tests;
 
 pub use bytes::{append, append_repeated};
 pub use numbers::{append_number, append_padded, append_reference, append_signed, append_whole};

@@ -15,7 +15,7 @@ use Rattle.sb_lex.specs.Bytes as byte
 use Rattle.theory_bytes.specs.Insides.{inside_of}
 use Rattle.theory_bytes.proofs.InsidesAreBetween.{inside-between}
 use Rattle.sb_step.specs.Cursor.{StandsAt, ListBehind}
-use Rattle.sb_step.specs.Forms.{reference_in, reference_or_none_in, number_in, enumeration_in, is_null_in, is_dollar, name_of, name_or_none_of, number_text, enumeration_text}
+use Rattle.sb_step.specs.Forms.{reference_in, reference_or_none_in, number_in, integer_in, enumeration_in, is_null_in, is_dollar, name_of, name_or_none_of, number_text, integer_text, enumeration_text}
 use Rattle.sb_step.proofs.KindsSay.{mark_says}
 use Rattle.sb_step.proofs.ParameterLists.WhatListsSay.{SaysOn, TypedSays, says_on, list_on_mark}
 use Rattle.sb_step.proofs.ParameterLists.ParametersAreUnique.{parameter_once}
@@ -134,6 +134,24 @@ pub number_is : (bytes : List ℕ) (t : Token) (ps : List Param) → StandsAt by
     → number_in (slice_get ps 0) ≡ number_text t.kind (slice_range bytes t.start t.end)
 number_is =
     told_by_token number_in number_text number_says (λ ps text. refl) (λ name text p. refl)
+
+integer_says : (k : Kind) (text : List ℕ) (p : Param) → Says k text p
+    → integer_in (Some p) ≡ integer_text k text
+integer_says kind.Integer text p says = ap (λ q. integer_in (Some q)) says
+integer_says kind.Real text p says = ap (λ q. integer_in (Some q)) says
+integer_says kind.Str text p says = ap (λ q. integer_in (Some q)) says.2
+integer_says kind.Enumeration text p says = ap (λ q. integer_in (Some q)) says.2
+integer_says kind.Binary text p says = ap (λ q. integer_in (Some q)) says.2
+integer_says (kind.Name n) text p says = ap (λ q. integer_in (Some q)) says
+integer_says (kind.Mark mark.Dollar) text p says = ap (λ q. integer_in (Some q)) says
+integer_says (kind.Mark mark.Asterisk) text p says = ap (λ q. integer_in (Some q)) says
+integer_says _ text p says = absurd says
+
+-- an integer is the text of one
+pub integer_is : (bytes : List ℕ) (t : Token) (ps : List Param) → StandsAt bytes t ps
+    → integer_in (slice_get ps 0) ≡ integer_text t.kind (slice_range bytes t.start t.end)
+integer_is =
+    told_by_token integer_in integer_text integer_says (λ ps text. refl) (λ name text p. refl)
 
 inside_is : (q : ℕ) (s text : List ℕ) → Encloses (q ∷ []) s text → s ≡ inside_of text
 inside_is q s text e = sym (inside-between q q s) ∙ ap inside_of (sym e.whole)

@@ -1,0 +1,4 @@
+-- What the answers cite.
+
+-- whole numbers as fractions
+pub mod Wholes

@@ -1,0 +1,5 @@
+-- What the joiner keeps, in reading order.
+pub mod Stacks
+pub mod Sizes
+pub mod Taken
+pub mod Listing

@@ -1,8 +1,0 @@
--- The first points are in range.
-use Rattle.std.specs.Bool.{IsTrue}
-use Rattle.std.specs.List.{list_all}
-use Rattle.sb_fraction.specs.Plane.{is_plan_point}
-use Rattle.sb_loops.proofs.tests.loop_of.Given as goal
-
-abbrev pub invariant-loop-x : goal.invariant-loop-x
-invariant-loop-x l = IsTrue (list_all is_plan_point l.points)

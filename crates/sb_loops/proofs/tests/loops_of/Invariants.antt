@@ -1,8 +1,0 @@
--- The first loops are in range.
-use Rattle.std.specs.Bool.{IsTrue}
-use Rattle.std.specs.List.{list_all}
-use Rattle.sb_fraction.specs.Plane.{is_plan_point}
-use Rattle.sb_loops.proofs.tests.loops_of.Given as goal
-
-abbrev pub invariant-loop-row : goal.invariant-loop-row
-invariant-loop-row l = IsTrue (list_all (list_all is_plan_point) l.loops)

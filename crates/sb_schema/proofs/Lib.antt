@@ -1,0 +1,3 @@
+mod BegunIsTold
+mod ItemsGiveLists
+mod Examples

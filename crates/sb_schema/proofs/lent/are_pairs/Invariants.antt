@@ -1,0 +1,10 @@
+use Rattle.std.proofs.Common.{◌≡◌, is_some, length}
+use Rattle.sb_schema.specs.Forms.{pair_in}
+use Rattle.sb_schema.specs.Forms.{each}
+use Rattle.sb_schema.proofs.lent.are_pairs.Given as goal
+
+abbrev pub invariant-items : goal.invariant-items
+invariant-items l = is_some (each pair_in l.initial.items) ≡ is_some (each pair_in l.items)
+
+abbrev pub decreases-items : goal.decreases-items
+decreases-items l = length l.items

@@ -1,0 +1,5 @@
+pub mod Forms
+pub mod Table
+pub mod Rows
+pub mod Views
+pub mod Steps

@@ -1,0 +1,13 @@
+use Rattle.std.proofs.Common.{slice_get, sym, ap, ◌∙◌, subst}
+use Rattle.sb_step.specs.Cursor.{AreLeft}
+use Rattle.sb_step.specs.Forms.{integer_in}
+use Rattle.sb_step.proofs.Cursors.FormsByToken.{integer_is}
+use Rattle.sb_step.proofs.cursor.Cursor.integer_text.Goals as goal
+
+pub returns-in-Some : goal.returns-in-Some
+returns-in-Some c =
+    let place = c.self.inside.place in
+    c.integer_in.ensures
+    ∙ sym (integer_is place.bytes.now c.in-Some.token place.left.0
+    (subst (λ n. AreLeft place.bytes.now n place.left.0) c.in-Some.is c.self.invariant))
+    ∙ ap (λ ps. integer_in (slice_get ps 0)) c.self.view_is
