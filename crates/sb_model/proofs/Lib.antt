@@ -9,6 +9,10 @@ mod ReadingsFit
 mod FoundByNumber
 mod NumbersInOrder
 mod TurnsInCode
-mod StraightCorners
+mod LinesOfSides
+mod CornersFit
+mod EndsOfPatches
+mod EdgesOfSides
+mod PointsInPatches
 -- and what the ranges are
 mod ExampleRanges

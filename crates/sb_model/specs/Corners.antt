@@ -1,10 +1,9 @@
 -- The corners of patches, in the order in which they are listed.
 
-use Rattle.std.specs.Prelude.{ℤ, pos, ◌+ℤ◌, ◌-ℤ◌, ◌*ℤ◌, Bool, true, false, ◌&&◌, Option, Some, None}
+use Rattle.std.specs.Prelude.{ℤ, ◌+ℤ◌, ◌-ℤ◌, ◌*ℤ◌, Bool, ◌&&◌, Option, Some, None}
 use Rattle.std.specs.Prelude.{if◌then◌else◌}
 use Rattle.std.specs.Ordering.{int_eq}
 use Rattle.theory_numbers.specs.Fractions.{Ratio, reduced, whole}
-use Rattle.theory_lists.specs.Parity.{differ}
 use Rattle.theory_plane.specs.Sides.{LineSide}
 use Rattle.sb_model.specs.declared.corner.Corner.{Corner}
 use Rattle.sb_model.specs.declared.corner.Corners.{Corners}
@@ -14,7 +13,7 @@ use Rattle.sb_model.specs.declared.face.FaceKind.TheVariants as kind
 use Rattle.sb_model.specs.declared.face.Side.{Side}
 use Rattle.sb_model.specs.declared.patch.Patch.{Patch}
 use Rattle.sb_model.specs.declared.products.Space.{Space}
-use Rattle.sb_fraction.specs.Spots.{inner}
+use Rattle.sb_fraction.specs.Spots.{Vector, inner}
 use Rattle.sb_fraction.specs.Edges.{Edge}
 use Rattle.sb_model.specs.Sides.{line_of}
 use Rattle.sb_model.specs.Building.{Building}
@@ -29,11 +28,11 @@ level_corner z u l = record {
   z = whole z;
 }
 
--- the point of the side face over an edge, at u along its direction and at the height z
-unfoldable pub side_corner : Edge → Ratio → ℤ → Corner
-side_corner e u z =
-    let d = direction_of e in
-    let across = offset_of e *ℤ u.den in
+-- the point at u along a direction d on the line with this offset, p·(-dy, dx), at the height z:
+-- (u·d + offset·(-dy, dx))/(d·d)
+unfoldable pub corner_along : Vector → ℤ → Ratio → ℤ → Corner
+corner_along d offset u z =
+    let across = offset *ℤ u.den in
     let scale = inner d d *ℤ u.den in
     record {
       x = reduced ((u.num *ℤ d.x) -ℤ (across *ℤ d.y)) scale;
@@ -80,12 +79,17 @@ forward e = listed e.low_upper e.low_lower e.high_lower e.high_upper
 abbrev pub backward : Ends → Corners
 backward e = listed e.high_upper e.high_lower e.low_lower e.low_upper
 
--- those of a patch of the side face over this edge: forward where it runs along its direction
+-- those of a patch of a side face over the line of this direction and offset: forward where its edge
+-- runs along the direction
+abbrev pub corners_along : Vector → ℤ → Bool → Patch → Option Corners
+corners_along d offset along p =
+    let ends = ends_by (λ u side. corner_along d offset u (line_of side).off) p in
+    if along then Some (forward ends) else Some (backward ends)
+
+-- those of a patch of the side face over this edge
 abbrev pub side_corners : Option Edge → Patch → Option Corners
 side_corners None p = None
-side_corners (Some e) p =
-    let ends = ends_by (λ u side. side_corner e u (line_of side).off) p in
-    if runs_along e then Some (forward ends) else Some (backward ends)
+side_corners (Some e) p = corners_along (direction_of e) (offset_of e) (runs_along e) p
 
 -- those of a patch of a face of this space
 abbrev pub corners_of_kind : Space → FaceKind → Patch → Option Corners
@@ -103,24 +107,3 @@ corners_in (Some s) p = corners_of_kind s p.face.kind p
 -- of the model
 abbrev pub corners_of : Building → Patch → Option Corners
 corners_of m p = corners_in (space_numbered m p.face.space) p
-
--- a line of direction (1, 0), or a height
-abbrev pub is_level_side : Side → Bool
-is_level_side side = int_eq (line_of side).dy (pos 0) && int_eq (line_of side).dx (pos 1)
-
--- the edge runs along x, or along y
-abbrev pub is_straight_edge : Option Edge → Bool
-is_straight_edge None = false
-is_straight_edge (Some e) = differ (int_eq e.a.x e.b.x) (int_eq e.a.y e.b.y)
-
--- the face is Bottom or Top, or over an edge along x or y
-abbrev pub is_straight_face : Option Space → FaceKind → Bool
-is_straight_face None k = false
-is_straight_face (Some s) (kind.Side k) = is_straight_edge (edge_numbered s.prism k)
-is_straight_face (Some s) _ = true
-
--- sides along x, and a face along x or y
-abbrev pub is_straight : Building → Patch → Bool
-is_straight m p =
-    (is_level_side p.lower && is_level_side p.upper)
-    && is_straight_face (space_numbered m p.face.space) p.face.kind

@@ -2,6 +2,7 @@
 pub mod Frames
 pub mod Solids
 pub mod Sides
+pub mod SideLines
 pub mod Building
 pub mod Numbering
 pub mod Labels

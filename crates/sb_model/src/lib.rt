@@ -9,6 +9,7 @@ mod band;
 mod boundary;
 mod building;
 mod corner;
+mod corner_numbers;
 mod extent;
 mod face;
 mod frame;
@@ -19,8 +20,10 @@ mod loops;
 mod numbering;
 mod outline;
 mod patch;
+mod patch_points;
 mod prism;
 mod products;
+mod side_line;
 mod walk;
 
 pub use boundary::{Boundaries, Boundary, Cell, Cells};
@@ -36,6 +39,7 @@ pub use loops::Loops;
 pub use sb_loops::{LoopError, PointLists, Points};
 pub use outline::corners;
 pub use patch::Patch;
+pub use patch_points::inside;
 pub use prism::Prism;
 pub use products::{
     Element, Elements, FillKind, Filling, Fillings, Opening, Openings, Space, Spaces,

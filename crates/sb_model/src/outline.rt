@@ -1,26 +1,29 @@
 //! The corners of patches.
 
-ghost use Rattle.std.specs.Prelude.{◌≡◌, int_lt, slice_get, IsTrue, Some};
-ghost use Rattle.std.specs.Ordering.{int_eq};
-ghost use Rattle.sb_fraction.specs.Bounds.{is_fraction};
+ghost use Rattle.std.specs.Prelude.{◌≡◌, ◌≤◌, ◌<ℤ◌, ◌+ℤ◌, ◌-ℤ◌, ◌*ℤ◌, pos, slice_get, unsigned_abs, IsTrue, Some, is_some};
+ghost use Rattle.theory_numbers.specs.Fractions.{reduced, whole as whole_number};
 ghost use Rattle.theory_plans.specs.LoopEdges.{edges_of};
+ghost use Rattle.theory_plans.specs.Plans.{is_plan};
+ghost use Rattle.sb_fraction.specs.Plane.{is_plan_point, are_two_points};
 ghost use Rattle.sb_fraction.specs.Edges.{edge};
-ghost use Rattle.sb_model.specs.Sides.{line_of};
-ghost use Rattle.sb_model.specs.Faces.{is_face_of};
-ghost use Rattle.sb_fraction.specs.Directions.{runs_along};
-ghost use Rattle.sb_model.specs.Corners.{level_corner, side_corner};
-ghost use Rattle.theory_numbers.specs.Fractions.{whole as whole_number};
-ghost use Rattle.sb_model.specs.Corners.{listed as corners_listed};
-ghost use Rattle.sb_model.specs.Corners.{corners_of, is_level_side, is_straight, is_straight_edge};
-ghost use Rattle.sb_model.specs.Corners.{corners_in, side_corners, is_straight_face};
+ghost use Rattle.sb_fraction.specs.Lines.{arrow_along, flat};
+ghost use Rattle.sb_fraction.specs.Spots.{inner};
+ghost use Rattle.sb_model.specs.Sides.{line_of, is_abscissa_size, greatest_offset};
+ghost use Rattle.theory_plane.specs.Sides.{line as line_along};
+ghost use Rattle.sb_model.specs.Faces.{is_face_of, has_face};
+ghost use Rattle.sb_model.specs.Corners.{level_corner, corner_along, listed as corners_listed};
+ghost use Rattle.sb_model.specs.Corners.{corners_of, corners_in, side_corners, corners_along};
 
 use crate::building::Model;
 use crate::corner::{Corner, Corners};
+use crate::corner_numbers::{level_value, line_through, placed_along, whole};
 use crate::face::{FaceKind, Side};
 use crate::loops::Loops;
 use crate::patch::Patch;
 use crate::products::Space;
-use sb_fraction::{Fraction, Point};
+use crate::side_line::{SideLine, line_of_side};
+use sb_fraction::{Fraction, Line, Point};
+use sb_points::heading_of;
 
 /// The corners of a patch, in millimetres (mm) of the building's coordinates.
 ///
@@ -30,17 +33,15 @@ use sb_fraction::{Fraction, Point};
 /// equal to the one before it is left out.
 pub fn corners(model: &Model, patch: &Patch) -> Corners
     requires face { IsTrue (is_face_of model.now patch.now.face) }
-    requires straight { IsTrue (is_straight model.now patch.now) }
     ensures { Some result ≡ corners_of model.now patch.now }
 {
     outline_of(model.space(patch.face.space).unwrap(), patch)
 }
 
 /// The corners of a patch of a face of this space.
+#[tactic(auto, using(crate::proofs::EndsOfPatches::ends))]
 fn outline_of(space: &Space, patch: &Patch) -> Corners
-    requires lower { IsTrue (is_level_side patch.now.lower) }
-    requires upper { IsTrue (is_level_side patch.now.upper) }
-    requires face { IsTrue (is_straight_face (Some space.now) patch.now.face.kind) }
+    requires face { IsTrue (has_face (Some space.now) patch.now.face.kind) }
     ensures { Some result ≡ corners_in (Some space.now) patch.now }
 {
     match patch.face.kind {
@@ -52,7 +53,8 @@ fn outline_of(space: &Space, patch: &Patch) -> Corners
 
 /// The corners of a patch of the side face over edge `k`.
 fn side_outline(loops: &Loops, k: usize, patch: &Patch) -> Corners
-    requires { IsTrue (is_straight_edge (slice_get (edges_of loops.now) k)) }
+    requires is_plan { IsTrue (is_plan loops.now) }
+    requires there { IsTrue (is_some (slice_get (edges_of loops.now) k)) }
     ensures { Some result ≡ side_corners (slice_get (edges_of loops.now) k) patch.now }
 {
     let (a, b) = loops.edge(k).unwrap();
@@ -61,11 +63,22 @@ fn side_outline(loops: &Loops, k: usize, patch: &Patch) -> Corners
 
 /// The corners of a patch of the side face over this edge.
 fn over_edge(a: Point, b: Point, patch: &Patch) -> Corners
-    requires { IsTrue (is_straight_edge (Some (edge a b))) }
+    requires a_in { IsTrue (is_plan_point a) }
+    requires b_in { IsTrue (is_plan_point b) }
+    requires apart { IsTrue (are_two_points a.x a.y b.x b.y) }
     ensures { Some result ≡ side_corners (Some (edge a b)) patch.now }
 {
-    let ends = side_ends(patch, a, b);
-    if is_along(a, b) {
+    let heading = heading_of(a, b);
+    over_line(line_through(a, heading.direction), heading.is_along, patch)
+}
+
+/// The corners of a patch of the side face over this line.
+fn over_line(line: Line, is_along: bool, patch: &Patch) -> Corners
+    requires { unsigned_abs line.off ≤ greatest_offset }
+    ensures { Some result ≡ corners_along (flat (arrow_along line.dir)) line.off is_along patch.now }
+{
+    let ends = side_ends(patch, line);
+    if is_along {
         forward(&ends)
     } else {
         backward(&ends)
@@ -81,14 +94,6 @@ struct Ends {
     high_upper: Corner,
 }
 
-/// A whole number as a fraction.
-#[tactic(auto, using(crate::proofs::StraightCorners::corner_rules))]
-fn whole(z: i64) -> Fraction
-    ensures { result ≡ whole_number z }
-{
-    Fraction::new(z as i128, 1)
-}
-
 /// The value of a level side: the same at each u.
 fn value_of(side: Side) -> i64
     ensures { result ≡ (line_of side).off }
@@ -99,106 +104,61 @@ fn value_of(side: Side) -> i64
     }
 }
 
-/// The point of a level face at u on a level side.
-#[tactic(auto, using(crate::proofs::StraightCorners::corner_rules))]
-fn level_point(u: Fraction, side: Side, z: i32) -> Corner
-    requires along_x { IsTrue (is_level_side side) }
-    requires lowest { IsTrue (is_fraction u) }
-    ensures { result ≡ level_corner z u (line_of side) }
+/// The point of a level face at u on a side.
+#[tactic(auto, using(crate::proofs::EndsOfPatches::ends), unfolding(crate::specs::Corners::level_corner))]
+fn level_point(u: Fraction, side: SideLine, z: i32) -> Corner
+    requires { IsTrue (is_abscissa_size u) }
+    ensures { result ≡ level_corner z u (line_along side.dx side.dy side.off) }
 {
     Corner {
         x: u,
-        y: whole(value_of(side)),
+        y: level_value(side, &u),
         z: whole(z as i64),
     }
 }
 
-/// Whether an edge runs along x.
-fn is_along_x(a: Point, b: Point) -> bool
-    ensures { result ≡ int_eq a.y b.y }
-{
-    a.y == b.y
-}
-
-/// Whether an edge runs towards greater x.
-fn is_rightward(a: Point, b: Point) -> bool
-    ensures { result ≡ int_lt a.x b.x }
-{
-    a.x < b.x
-}
-
-/// Whether an edge runs towards greater y.
-fn is_upward(a: Point, b: Point) -> bool
-    ensures { result ≡ int_lt a.y b.y }
-{
-    a.y < b.y
-}
-
-/// Whether an edge along x or y runs along its direction, and not against it.
-fn is_along(a: Point, b: Point) -> bool
-    requires { IsTrue (is_straight_edge (Some (edge a b))) }
-    ensures { result ≡ runs_along (edge a b) }
-{
-    if is_along_x(a, b) {
-        is_rightward(a, b)
-    } else {
-        is_upward(a, b)
-    }
-}
-
-/// The point of the side face over an edge along x or y, at u on a side of a patch.
-fn side_point(a: Point, b: Point, u: Fraction, side: Side) -> Corner
-    requires straight { IsTrue (is_straight_edge (Some (edge a b))) }
-    requires lowest { IsTrue (is_fraction u) }
-    ensures { result ≡ side_corner (edge a b) u (line_of side).off }
-{
-    if is_along_x(a, b) {
-        Corner {
-            x: u,
-            y: whole(a.y as i64),
-            z: whole(value_of(side)),
-        }
-    } else {
-        Corner {
-            x: whole(a.x as i64),
-            y: u,
-            z: whole(value_of(side)),
-        }
-    }
-}
-
 /// The corners of a patch of a level face at the height z.
-#[tactic(auto, using(crate::proofs::StraightCorners::end_rules))]
+#[tactic(auto, using(crate::proofs::EndsOfPatches::ends))]
 fn level_ends(patch: &Patch, z: i32) -> Ends
-    requires lower_along_x { IsTrue (is_level_side patch.now.lower) }
-    requires upper_along_x { IsTrue (is_level_side patch.now.upper) }
     ensures low_lower { result.low_lower ≡ level_corner z patch.now.low (line_of patch.now.lower) }
     ensures low_upper { result.low_upper ≡ level_corner z patch.now.low (line_of patch.now.upper) }
     ensures high_lower { result.high_lower ≡ level_corner z patch.now.high (line_of patch.now.lower) }
     ensures high_upper { result.high_upper ≡ level_corner z patch.now.high (line_of patch.now.upper) }
 {
+    let lower = line_of_side(patch.lower);
+    let upper = line_of_side(patch.upper);
     Ends {
-        low_lower: level_point(patch.low, patch.lower, z),
-        low_upper: level_point(patch.low, patch.upper, z),
-        high_lower: level_point(patch.high, patch.lower, z),
-        high_upper: level_point(patch.high, patch.upper, z),
+        low_lower: level_point(patch.low, lower, z),
+        low_upper: level_point(patch.low, upper, z),
+        high_lower: level_point(patch.high, lower, z),
+        high_upper: level_point(patch.high, upper, z),
     }
 }
 
-/// The corners of a patch of the side face over an edge along x or y.
-#[tactic(auto, using(crate::proofs::StraightCorners::end_rules))]
-fn side_ends(patch: &Patch, a: Point, b: Point) -> Ends
-    requires { IsTrue (is_straight_edge (Some (edge a b))) }
-    ensures low_lower { result.low_lower ≡ side_corner (edge a b) patch.now.low (line_of patch.now.lower).off }
-    ensures low_upper { result.low_upper ≡ side_corner (edge a b) patch.now.low (line_of patch.now.upper).off }
-    ensures high_lower { result.high_lower ≡ side_corner (edge a b) patch.now.high (line_of patch.now.lower).off }
-    ensures high_upper { result.high_upper ≡ side_corner (edge a b) patch.now.high (line_of patch.now.upper).off }
+/// The point of the side face over a line, at u along it on a side of a patch.
+#[tactic(auto, using(crate::proofs::EndsOfPatches::ends))]
+fn side_point(line: Line, u: Fraction, side: Side) -> Corner
+    requires offset_in { unsigned_abs line.off ≤ greatest_offset }
+    requires u_in { IsTrue (is_abscissa_size u) }
+    ensures { result ≡ corner_along (flat (arrow_along line.dir)) line.off u (line_of side).off }
+{
+    placed_along(line, &u, value_of(side))
+}
+
+/// The corners of a patch of the side face over a line.
+#[tactic(auto, using(crate::proofs::EndsOfPatches::ends))]
+fn side_ends(patch: &Patch, line: Line) -> Ends
+    requires { unsigned_abs line.off ≤ greatest_offset }
+    ensures low_lower { result.low_lower ≡ corner_along (flat (arrow_along line.dir)) line.off patch.now.low (line_of patch.now.lower).off }
+    ensures low_upper { result.low_upper ≡ corner_along (flat (arrow_along line.dir)) line.off patch.now.low (line_of patch.now.upper).off }
+    ensures high_lower { result.high_lower ≡ corner_along (flat (arrow_along line.dir)) line.off patch.now.high (line_of patch.now.lower).off }
+    ensures high_upper { result.high_upper ≡ corner_along (flat (arrow_along line.dir)) line.off patch.now.high (line_of patch.now.upper).off }
 {
     Ends {
-        low_lower: side_point(a, b, patch.low, patch.lower),
-        low_upper: side_point(a, b, patch.low, patch.upper),
-        high_lower: side_point(a, b, patch.high, patch.lower),
-        high_upper: side_point(a, b, patch.high, patch.upper),
+        low_lower: side_point(line, patch.low, patch.lower),
+        low_upper: side_point(line, patch.low, patch.upper),
+        high_lower: side_point(line, patch.high, patch.lower),
+        high_upper: side_point(line, patch.high, patch.upper),
     }
 }
 

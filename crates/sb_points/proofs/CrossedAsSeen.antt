@@ -1,8 +1,8 @@
 -- By the ways to its ends an edge is seen to hold a point, and to cross the ray from it; and edge by
 -- edge it is known whether the point lies inside.
 
-use Rattle.std.proofs.Common.{ℤ, pos, ◌≡◌, ◌-ℤ◌, ◌*ℤ◌, Bool, true, false, not, ◌&&◌, ◌||◌, List, [], ◌∷◌, ◌++◌, int_lt, int_le}
-use Rattle.std.proofs.Common.{Option, Some, None, if◌then◌else◌, refl, ap, sym, ◌∙◌, arith, drop, length, ◌<◌, ◌≤◌, ℕ, ◌+◌, get_or, IsTrue}
+use Rattle.std.proofs.Common.{pos, ◌≡◌, Bool, true, false, not, ◌&&◌, ◌||◌, List, [], ◌∷◌, ◌++◌, int_lt, int_le}
+use Rattle.std.proofs.Common.{Option, Some, None, if◌then◌else◌, refl, ap, sym, ◌∙◌, arith, length, ◌<◌, ℕ, get_or, IsTrue}
 use Rattle.std.specs.List.{list_any, list_all}
 use Rattle.std.proofs.lemmas.List.Folds.{list_all_at}
 use Rattle.std.proofs.lemmas.Bool.{false≢true}
@@ -13,7 +13,7 @@ use Rattle.theory_lists.specs.Parity.{differ, is_odd_number}
 use Rattle.sb_fraction.specs.declared.point.Point.{Point}
 use Rattle.sb_fraction.specs.Spots.{Spot}
 use Rattle.sb_fraction.specs.Edges.{Edge, edge, seen_from, is_on}
-use Rattle.theory_plans.specs.LoopEdges.{edges_of, edges_of_loop}
+use Rattle.theory_plans.specs.LoopEdges.{edges_of}
 use Rattle.theory_plans.specs.Inside.{is_higher, is_crossed, is_in_plan}
 use Rattle.sb_points.specs.Places.{is_passed, parity_after}
 

@@ -2,3 +2,4 @@
 mod SizesFit
 mod CrossedAsSeen
 mod PointsOver
+mod EdgesHeaded

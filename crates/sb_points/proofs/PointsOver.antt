@@ -1,7 +1,7 @@
 -- A point over a point of the plan lies inside a plan where that does, and between heights where its
 -- height does.
 
-use Rattle.std.proofs.Common.{ℤ, pos, ◌≡◌, ◌<ℤ◌, ◌*ℤ◌, Bool, true, false, ◌&&◌, int_lt, List, IsTrue, refl, ap, ap₂, sym, ◌∙◌, arith}
+use Rattle.std.proofs.Common.{ℤ, pos, ◌≡◌, ◌<ℤ◌, ◌*ℤ◌, Bool, true, false, ◌&&◌, int_lt, List, ap, ap₂, sym, ◌∙◌, arith}
 use Rattle.std.proofs.Math.Bool.{and-true, and-false}
 use Rattle.theory_numbers.specs.Fractions.{Ratio}
 use Rattle.theory_numbers.proofs.Signs.{less_from}
@@ -9,9 +9,8 @@ use Rattle.theory_numbers.proofs.Multiples.{order_of_multiples}
 use Rattle.theory_numbers.proofs.Shapes.{var, times, equal}
 use Rattle.sb_fraction.specs.declared.point.Point.{Point}
 use Rattle.sb_fraction.specs.declared.point.HPoint.{HPoint}
-use Rattle.sb_fraction.specs.Spots.{Spot, spot, spot_of}
+use Rattle.sb_fraction.specs.Spots.{spot_of}
 use Rattle.theory_plans.specs.Inside.{is_in_plan}
-use Rattle.theory_plans.specs.Alike.{scaled, SeesNoFactor}
 use Rattle.theory_plans.proofs.PointsAlike.{inside_sees_no_factor}
 use Rattle.sb_points.specs.Places.{spot_over, lies_between}
 

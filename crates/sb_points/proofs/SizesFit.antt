@@ -1,11 +1,11 @@
 -- The products and sums of the numbers of points fit 128 bits.
 
-use Rattle.std.proofs.Common.{◌≤◌, ℤ, ◌*ℤ◌, ◌*◌, unsigned_abs, FitsSigned, lit<, lit≤, IsTrue, le_trans}
+use Rattle.std.proofs.Common.{◌≤◌, ℤ, ◌*ℤ◌, unsigned_abs, FitsSigned, lit<, lit≤, IsTrue, le_trans}
 use Rattle.std.specs.Int.{w128}
 use Rattle.std.proofs.Math.Nat.{mul-le-mul}
-use Rattle.std.proofs.lemmas.Bool.{and_from, and_parts, le-leb, leb-true}
+use Rattle.std.proofs.lemmas.Bool.{and_from, le-leb}
 use Rattle.std.proofs.lemmas.Int.{to_z-of_z, fits_signed_mul, unsigned_abs-mul}
-use Rattle.theory_numbers.specs.Arrows.{Arrow, arrow}
+use Rattle.theory_numbers.specs.Arrows.{arrow}
 use Rattle.sb_fraction.specs.Plane.{greatest_coordinate}
 use Rattle.sb_fraction.specs.Bounds.{greatest_cross, greatest_crossing}
 use Rattle.sb_points.specs.Sizes.{greatest_seen, greatest_half, is_near}

@@ -1,6 +1,6 @@
 -- Where rational points of space lie.
 
-use Rattle.std.specs.Prelude.{ℕ, ℤ, ◌*ℤ◌, pos, Bool, false, ◌&&◌, int_lt, List, [], ◌∷◌, Option, Some, None}
+use Rattle.std.specs.Prelude.{ℤ, ◌*ℤ◌, pos, Bool, false, ◌&&◌, int_lt, List, [], ◌∷◌, Option, Some, None}
 use Rattle.std.specs.Prelude.{if◌then◌else◌}
 use Rattle.theory_lists.specs.Parity.{differ}
 use Rattle.sb_fraction.specs.Edges.{Edge, is_on}

@@ -30,7 +30,7 @@ use Rattle.sb_fraction.specs.Spots.{vector}
 use Rattle.sb_report.specs.Strings.{fraction_text, material_text}
 use Rattle.sb_report.specs.Entries.{three, four, fraction_data, corners_data, item_data}
 use Rattle.sb_report.specs.Entries.{boundary_data}
-use Rattle.sb_report.specs.Conditions.{is_list_of, have_corners}
+use Rattle.sb_report.specs.Conditions.{is_list_of}
 use Rattle.sb_report.specs.Report.{report_data, report_of}
 
 point : ℤ → ℤ → Point
@@ -178,10 +178,6 @@ ties fact = refl
 accepted : (fact : IsBottom) → is_list_of box (bottom fact ∷ []) ≡ true
 unfolding space box whole_bottom bottom_with bottom
 accepted fact = refl
-
-told : (fact : IsBottom) → have_corners box (bottom fact ∷ []) ≡ true
-unfolding space box east level_at whole_bottom bottom_with bottom
-told fact = refl
 
 -- refused: a pair beyond the list, a pair 0, a key without a parent, and a face of no space
 pair_beyond : (fact : IsBottom) → is_list_of box (bottom_with fact (Some 2) None None ∷ []) ≡ false

@@ -8,9 +8,8 @@ use Rattle.std.proofs.lemmas.Option.{get_or_from_slice_get, slice_get_within}
 use Rattle.std.specs.List.{list_all}
 use Rattle.sb_model.specs.declared.boundary.Boundary.{Boundary}
 use Rattle.sb_model.specs.Building.{Building}
-use Rattle.sb_model.specs.Corners.{is_straight}
 use Rattle.sb_model.specs.Faces.{is_face_of}
-use Rattle.sb_report.specs.Conditions.{is_boundary_of, is_list_of, have_corners}
+use Rattle.sb_report.specs.Conditions.{is_boundary_of, is_list_of}
 
 -- a test that all items pass is passed by the item at each place
 passed_at : {X : Type 0} (p : X → Bool) (xs : List X) (i : ℕ) (x : X)
@@ -25,8 +24,3 @@ pub face_at : (m : Building) (bs : List Boundary) (i : ℕ) (b : Boundary)
 face_at m bs i b all here =
     let named = passed_at (is_boundary_of m (length bs)) bs i b all here in
     (and_parts (is_face_of m b.patch.face) _ named).0
-
--- the corners of each patch can be told
-pub straight_at : (m : Building) (bs : List Boundary) (i : ℕ) (b : Boundary)
-    → IsTrue (have_corners m bs) → slice_get bs i ≡ Some b → IsTrue (is_straight m b.patch)
-straight_at m bs i b all here = passed_at (λ b. is_straight m b.patch) bs i b all here

@@ -7,7 +7,6 @@ use Rattle.sb_model.specs.declared.boundary.Boundary.{Boundary}
 use Rattle.sb_model.specs.declared.walk.End.{End}
 use Rattle.sb_model.specs.declared.walk.End.TheVariants as end
 use Rattle.sb_model.specs.Building.{Building, is_space, is_element, is_opening, is_filling}
-use Rattle.sb_model.specs.Corners.{is_straight}
 use Rattle.sb_model.specs.Faces.{is_face_of}
 
 -- the space or element at the end of a walk is the model's
@@ -43,7 +42,3 @@ is_boundary_of m length b =
 -- each boundary names what is the model's or in the list
 abbrev pub is_list_of : Building → List Boundary → Bool
 is_list_of m bs = list_all (is_boundary_of m (length bs)) bs
-
--- each patch is one whose corners can be told
-abbrev pub have_corners : Building → List Boundary → Bool
-have_corners m bs = list_all (λ b. is_straight m b.patch) bs

@@ -3,7 +3,7 @@
 ghost use Rattle.std.specs.Prelude.{◌≡◌, IfOk, OnOk, Some, IsTrue, codes};
 ghost use Rattle.serde_json.specs.Data.{string, put as with};
 ghost use Rattle.serde_json.specs.View.{view, members_view};
-ghost use Rattle.sb_model.specs.Corners.{corners_of, is_straight};
+ghost use Rattle.sb_model.specs.Corners.{corners_of};
 ghost use Rattle.sb_model.specs.Faces.{is_face_of};
 ghost use Rattle.sb_report.specs.Strings.{face_name, end_name};
 ghost use Rattle.sb_report.specs.Normals.{normal_of};
@@ -124,7 +124,6 @@ pub fn boundary_value(
     boundary: &Boundary,
 ) -> Result<Value, AllocError>
     requires face { IsTrue (is_face_of model.now boundary.now.patch.face) }
-    requires straight { IsTrue (is_straight model.now boundary.now.patch) }
     ensures { IfOk result (λ v. view v ≡ boundary_data model.now id boundary.now) }
 {
     let face = boundary.patch.face;

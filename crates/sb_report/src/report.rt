@@ -4,7 +4,7 @@ ghost use Rattle.std.specs.Prelude.{◌≡◌, ◌<◌, ◌+◌, IfOk, Some, IsT
 ghost use Rattle.std.specs.Prelude.{option_map};
 ghost use Rattle.serde_json.specs.View.{view, items_of};
 ghost use Rattle.serde_json.specs.Data.{array};
-ghost use Rattle.sb_report.specs.Conditions.{is_list_of, have_corners};
+ghost use Rattle.sb_report.specs.Conditions.{is_list_of};
 ghost use Rattle.sb_report.specs.Entries.{boundary_data};
 ghost use Rattle.sb_report.specs.Report.{entries_from, space_numbers, report_data, report_of};
 
@@ -21,7 +21,6 @@ use std::alloc::{AllocError, Global};
 #[tactic(auto, using(crate::proofs::NoFloats::report_has_no_float), unfolding(crate::specs::Report::report_of))]
 pub fn report_text(alloc: Global, model: &Model, bounds: &Boundaries) -> Result<Vec<u8>, AllocError>
     requires of_model { IsTrue (is_list_of model.now bounds.now) }
-    requires corners { IsTrue (have_corners model.now bounds.now) }
     ensures { IfOk result (λ text. text.items ≡ report_of model.now bounds.now) }
 {
     let mut text = report_value(alloc, model, bounds)?.to_string(alloc)?;
@@ -33,7 +32,6 @@ pub fn report_text(alloc: Global, model: &Model, bounds: &Boundaries) -> Result<
 #[tactic(auto, unfolding(crate::specs::Report::report_data))]
 fn report_value(alloc: Global, model: &Model, bounds: &Boundaries) -> Result<Value, AllocError>
     requires of_model { IsTrue (is_list_of model.now bounds.now) }
-    requires corners { IsTrue (have_corners model.now bounds.now) }
     ensures { IfOk result (λ v. view v ≡ report_data model.now bounds.now) }
 {
     let entries = entries_value(alloc, model, bounds)?;
@@ -51,7 +49,6 @@ fn report_value(alloc: Global, model: &Model, bounds: &Boundaries) -> Result<Val
 /// The entries of all boundaries, in order of their ids.
 fn entries_value(alloc: Global, model: &Model, bounds: &Boundaries) -> Result<Value, AllocError>
     requires of_model { IsTrue (is_list_of model.now bounds.now) }
-    requires corners { IsTrue (have_corners model.now bounds.now) }
     ensures { IfOk result (λ v. view v ≡ array (items_of (entries_from model.now 1 bounds.now))) }
 {
     let mut values = Vec::new(alloc);
@@ -72,7 +69,6 @@ fn entry_at(
     requires within { index < length bounds.now }
     requires fits { index < usize.MAX }
     requires of_model { IsTrue (is_list_of model.now bounds.now) }
-    requires corners { IsTrue (have_corners model.now bounds.now) }
     ensures { IfOk result (λ v. Some (view v)
         ≡ option_map (boundary_data model.now (index + 1)) (slice_get bounds.now index)) }
 {

@@ -10,7 +10,6 @@ use Rattle.sb_model.specs.declared.face.FaceKind.{FaceKind}
 use Rattle.sb_model.specs.declared.walk.End.{End}
 use Rattle.sb_model.specs.Building.{Building}
 use Rattle.sb_model.specs.Faces.{has_face, space_numbered}
-use Rattle.sb_model.specs.Corners.{is_straight, is_straight_face}
 use Rattle.sb_box.specs.declared.extent.Extent.{Extent}
 use Rattle.sb_box.specs.BoxList.{BoxPatch, IsBoxBoundary, IsBoxList, box_patches}
 use Rattle.sb_box.proofs.PatchesOfBoxFaces.{IsOpen, all_open, all_by_kind}
@@ -18,7 +17,7 @@ use Rattle.sb_box.proofs.BoundariesArePatches.{all_lift}
 use Rattle.sb_box.proofs.BoxListIsSound.{rising_box}
 use Rattle.sb_form.specs.Meaning.{model_of, space_number}
 use Rattle.sb_form.specs.declared.matcher.FirstForm.{FirstForm}
-use Rattle.sb_report.specs.Conditions.{is_boundary_of, is_list_of, have_corners, is_end_of}
+use Rattle.sb_report.specs.Conditions.{is_boundary_of, is_list_of, is_end_of}
 
 -- a list of which each item passes a test
 all_pass : (test : Boundary → Bool) (bs : List Boundary) → AllByRecursion (λ b. test b ≡ true) bs
@@ -64,43 +63,3 @@ box_list_is_of_model f e bs is =
     (boundary_is_there f e (length bs)) (box_patches e) bs is
     (both_hold (λ p. IsThere f e p.kind) (λ p. IsOpen p.end) (box_patches e) (faces_are_there f e)
     (all_open e)))
-
--- ---- and its corners can be told
-
-apart_up : (a b : ℤ) → a <ℤ b → int_eq a b ≡ false
-apart_up a b below = grind (arith, ints)
-
-apart_down : (a b : ℤ) → a <ℤ b → int_eq b a ≡ false
-apart_down a b below = grind (arith, ints)
-
-same_number : (a : ℤ) → int_eq a a ≡ true
-same_number a = grind (arith, ints)
-
--- the face is Bottom or Top, or over an edge along x or y
-abbrev IsStraight : FirstForm → Extent → FaceKind → Type 0
-IsStraight f e k = is_straight_face (space_numbered (model_of f e) space_number) k ≡ true
-
-faces_are_straight : (f : FirstForm) (e : Extent)
-    → AllByRecursion (λ p. IsStraight f e p.kind) (box_patches e)
-faces_are_straight f e =
-    let rising = rising_box e in
-    all_by_kind (IsStraight f e) e refl refl
-    (rw (apart_up _ _ rising.x, same_number e.y0) refl)
-    (rw (apart_up _ _ rising.y, same_number e.x1) refl)
-    (rw (apart_down _ _ rising.x, same_number e.y1) refl)
-    (rw (apart_down _ _ rising.y, same_number e.x0) refl)
-
-boundary_is_straight : (f : FirstForm) (e : Extent) (p : BoxPatch) (b : Boundary)
-    → IsBoxBoundary space_number p b → IsStraight f e p.kind
-    → is_straight (model_of f e) b.patch ≡ true
-boundary_is_straight f e p b is straight =
-    rw (is.lower, is.upper, is.of_space, is.of_face) (rw straight refl)
-
--- each patch of the list is one whose corners can be told
-pub box_list_has_corners : (f : FirstForm) (e : Extent) (bs : List Boundary)
-    → IsBoxList space_number e bs → have_corners (model_of f e) bs ≡ true
-box_list_has_corners f e bs is =
-    let test = λ (b : Boundary). is_straight (model_of f e) b.patch in
-    all_pass test bs
-    (all_lift space_number (λ p. IsStraight f e p.kind) (λ b. test b ≡ true)
-    (boundary_is_straight f e) (box_patches e) bs is (faces_are_straight f e))

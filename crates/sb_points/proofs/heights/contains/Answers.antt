@@ -1,4 +1,4 @@
-use Rattle.std.proofs.Common.{◌≡◌, ◌∙◌, sym, ap, rules, w32, FitsSigned, true, false}
+use Rattle.std.proofs.Common.{rules, w32, FitsSigned}
 use Rattle.std.proofs.lemmas.Int.{to_z-of_z}
 use Rattle.sb_points.proofs.PointsOver.{contained, not_contained}
 use Rattle.sb_points.proofs.heights.contains.Goals as goal

@@ -1,4 +1,4 @@
-use Rattle.std.proofs.Common.{◌≡◌, ◌∙◌, sym, ap, refl, drop, get_or, [], false, ◌+◌}
+use Rattle.std.proofs.Common.{◌∙◌, sym, ap, drop, get_or, [], false, ◌+◌}
 use Rattle.std.proofs.lemmas.List.{drop_more, get_or_default}
 use Rattle.std.proofs.Math.ListN.{drop_of_length-le}
 use Rattle.sb_fraction.specs.Spots.{spot_of}

@@ -1,7 +1,6 @@
-use Rattle.std.proofs.Common.{◌≡◌, ◌∙◌, sym, ap, refl, drop, get_or, pos, [], ◌∷◌, ◌+◌}
+use Rattle.std.proofs.Common.{◌∙◌, sym, ap, drop, get_or, pos, [], ◌∷◌, ◌+◌}
 use Rattle.std.proofs.lemmas.List.{drop_more}
 use Rattle.std.proofs.Math.ListN.{drop_of_length-le}
-use Rattle.sb_fraction.specs.declared.point.Point.{Point}
 use Rattle.sb_fraction.specs.Plane.{is_plan_point}
 use Rattle.sb_fraction.specs.Spots.{spot_of}
 use Rattle.sb_fraction.specs.Edges.{edge}
@@ -14,15 +13,16 @@ pub points-preserved : goal.points-preserved
 points-preserved c =
     let next = get_or c.args.rest.now c.points.point-index (record { x = pos 0; y = pos 0 }) in
     let known = sym (edge-seen (spot_of c.args.p.now) c.points.last next c.points.odd c.from.result
-        c.from-in-points.result c.pass_edge.result c.from.ensures c.from-in-points.ensures
-        c.pass_edge.ensures) in
-    (passed-at is_plan_point c.args.rest.now c.points.point-index (record { x = pos 0; y = pos 0 })
-    c.points-test.true c.requires.rest_in,
-    c.points.invariant.1
-    ∙ ap (λ l. parity_after (spot_of c.args.p.now) c.points.odd (edges_back c.points.last l c.args.first))
-    (drop_more c.args.rest.now c.points.point-index (record { x = pos 0; y = pos 0 }) c.points-test.true)
-    ∙ goes-on (spot_of c.args.p.now) c.points.odd c.in_ok-odd.odd (edge c.points.last next ∷ [])
-    (edges_back next (drop (c.points.point-index + 1) c.args.rest.now) c.args.first) (known ∙ c.in_ok-odd.was))
+    c.from-in-points.result c.pass_edge.result c.from.ensures c.from-in-points.ensures
+    c.pass_edge.ensures) in (
+      passed-at is_plan_point c.args.rest.now c.points.point-index (record { x = pos 0; y = pos 0 })
+          c.points-test.true c.requires.rest_in,
+      c.points.invariant.1
+          ∙ ap (λ l. parity_after (spot_of c.args.p.now) c.points.odd (edges_back c.points.last l c.args.first))
+          (drop_more c.args.rest.now c.points.point-index (record { x = pos 0; y = pos 0 }) c.points-test.true)
+          ∙ goes-on (spot_of c.args.p.now) c.points.odd c.in_ok-odd.odd (edge c.points.last next ∷ [])
+          (edges_back next (drop (c.points.point-index + 1) c.args.rest.now) c.args.first) (known ∙ c.in_ok-odd.was),
+    )
 
 pub returns : goal.returns
 returns c =

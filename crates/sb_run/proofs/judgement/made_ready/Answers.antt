@@ -3,22 +3,17 @@ use Rattle.std.proofs.Common.{◌≤◌, arith}
 use Rattle.sb_box.specs.BoxList.{box_patches}
 use Rattle.sb_form.specs.Meaning.{space_number}
 use Rattle.sb_run.proofs.BoxListRises.{box_boundaries_rise}
-use Rattle.sb_run.proofs.BoxListIsReportable.{box_list_is_of_model, box_list_has_corners}
+use Rattle.sb_run.proofs.BoxListIsReportable.{box_list_is_of_model}
 use Rattle.sb_run.proofs.FormIsBox.{form_is_box}
 use Rattle.sb_run.proofs.judgement.made_ready.Goals as goal
 
-pub report_text-requires-clause-of_model : goal.report_text-requires-clause-of_model
-report_text-requires-clause-of_model c =
+pub report_text-requires : goal.report_text-requires
+report_text-requires c =
     let list = c.in_ok-list.list in
-    rw c.in_ok-model.ensures
-    (box_list_is_of_model c.args.form.now c.args.extent.now list c.in_ok-list.ensures.list)
-
-pub report_text-requires-clause-corners : goal.report_text-requires-clause-corners
-report_text-requires-clause-corners c =
-    let list = c.in_ok-list.list in
-    let is = c.in_ok-list.ensures.list in
-    rw c.in_ok-model.ensures
-    (box_list_has_corners c.args.form.now c.args.extent.now list is)
+    record {
+      of_model = rw c.in_ok-model.ensures
+      (box_list_is_of_model c.args.form.now c.args.extent.now list c.in_ok-list.ensures.list);
+    }
 
 pub done_text-requires : goal.done_text-requires
 done_text-requires c =
