@@ -1,5 +1,5 @@
 -- The ground, the reach and the frame of a form's model are in their ranges.
-use Rattle.std.proofs.Common.{◌≡◌, ◌*ℤ◌, ◌<◌, ◌^◌, ℤ, pos, true, IsTrue, unsigned_abs, nat_le, refl}
+use Rattle.std.proofs.Common.{◌≡◌, ◌<◌, ℤ, pos, true, IsTrue, unsigned_abs, nat_le, refl}
 use Rattle.std.proofs.Common.{arith}
 use Rattle.std.proofs.lemmas.Int.{ints, unsigned_abs-mul}
 use Rattle.std.proofs.lemmas.Bool.{le-leb}

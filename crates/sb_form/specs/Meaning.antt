@@ -1,5 +1,5 @@
 -- What an input of the first form means: a box, or the first of three defects.
-use Rattle.std.specs.Prelude.{◌≡◌, ◌+ℤ◌, ◌-ℤ◌, ◌*◌, ◌*ℤ◌, ◌/◌, ◌%◌, ◌==◌, ℕ, ℤ, pos, Bool, ◌&&◌, List}
+use Rattle.std.specs.Prelude.{◌≡◌, ◌+ℤ◌, ◌-ℤ◌, ◌*◌, ◌*ℤ◌, ◌/◌, ◌%◌, ◌==◌, ℕ, ℤ, pos, Bool, ◌&&◌}
 use Rattle.std.specs.Prelude.{[], ◌∷◌, codes, int_lt, nat_le, unsigned_abs, Option, Some, None}
 use Rattle.std.specs.Prelude.{if◌then◌else◌}
 use Rattle.sb_fraction.specs.declared.unit.Unit.TheVariants.{Millimetre}

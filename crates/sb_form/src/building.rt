@@ -10,8 +10,8 @@ use crate::matcher::FirstForm;
 use sb_box::Extent;
 use sb_fraction::{Point, Unit};
 use sb_model::{
-    Axis, Elements, Fillings, Frame, LoopError, Loops, Model, ModelError, Openings, PointLists, Points, Prism,
-    Space, Spaces, Text, Turn,
+    Axis, Elements, Fillings, Frame, LoopError, Loops, Model, ModelError, Openings, PointLists,
+    Points, Prism, Space, Spaces, Text, Turn,
 };
 use std::alloc::{AllocError, Global};
 

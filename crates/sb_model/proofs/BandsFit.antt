@@ -1,11 +1,10 @@
 -- Products of readings, thicknesses and heights fit 128 bits.
 
-use Rattle.std.proofs.Common.{◌≤◌, ℕ, ℤ, pos, ◌*ℤ◌, ◌*◌, ◌≡◌, unsigned_abs, FitsSigned, lit<, lit≤, IsTrue, le_trans, refl}
+use Rattle.std.proofs.Common.{◌≤◌, ℕ, ℤ, pos, ◌*ℤ◌, unsigned_abs, FitsSigned, lit<, lit≤, le_trans}
 use Rattle.std.specs.Int.{w128}
 use Rattle.std.proofs.Math.Nat.{mul-le-mul}
-use Rattle.std.proofs.lemmas.Bool.{leb-true}
 use Rattle.std.proofs.lemmas.Int.{to_z-of_z, fits_signed_mul, unsigned_abs-mul}
-use Rattle.sb_fraction.specs.Plane.{is_coordinate, greatest_coordinate, longest_step}
+use Rattle.sb_fraction.specs.Plane.{greatest_coordinate, longest_step}
 use Rattle.sb_fraction.specs.Bounds.{greatest_cross, greatest_abscissa, greatest_crossing, greatest_offset}
 use Rattle.sb_model.specs.Bands.{greatest_total, greatest_position}
 

@@ -1,15 +1,14 @@
 -- The extent of a prism may be begun with the reading of its first corner.
 
-use Rattle.std.proofs.Common.{ℤ, pos, ◌≡◌, true, ◌+ℤ◌, ◌*ℤ◌, ◌&&◌, List, [], ◌∷◌, length, nat_le, get_or, refl, ap, sym, ◌∙◌, arith, IsTrue}
+use Rattle.std.proofs.Common.{ℤ, ◌≡◌, true, ◌+ℤ◌, ◌*ℤ◌, ◌&&◌, List, [], ◌∷◌, length, nat_le, get_or, refl, ap, ◌∙◌, arith, IsTrue}
 use Rattle.std.specs.Int.{int_min, int_max}
 use Rattle.std.specs.List.{fold, list_all}
 use Rattle.std.proofs.lemmas.Int.{ints}
 use Rattle.std.proofs.lemmas.Bool.{and_parts, false≢true}
 use Rattle.sb_fraction.specs.declared.point.Point.{Point}
 use Rattle.sb_fraction.specs.Crossings.{abscissa_at}
-use Rattle.sb_fraction.specs.Plane.{is_plan_point}
 use Rattle.sb_fraction.specs.Spots.{Vector}
-use Rattle.theory_plans.specs.Loops.{is_loop, are_loops, is_bent_loop, is_least_first}
+use Rattle.theory_plans.specs.Loops.{is_loop, are_loops}
 use Rattle.theory_plans.specs.Plans.{is_plan, are_apart, keep_left}
 use Rattle.sb_model.specs.Solids.{Upright}
 use Rattle.sb_model.specs.Labels.{first_of, least_of, greatest_of, readings_of}

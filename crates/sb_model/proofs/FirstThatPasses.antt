@@ -1,13 +1,13 @@
 -- Items that are looked at one by one: the first that passes a test, which is the lowest-numbered
 -- where the numbers rise.
 
-use Rattle.std.proofs.Common.{ℕ, zero, suc, ◌<◌, ◌≤◌, ◌≡◌, ◌==◌, Bool, true, false, not, ◌||◌, List, [], ◌∷◌, ◌+◌, drop, length, get_or, Option, Some, None, if◌then◌else◌, refl, ap, sym, subst, ◌∙◌, nat_lt, nat_le, arith}
+use Rattle.std.proofs.Common.{ℕ, ◌<◌, ◌≡◌, Bool, true, false, List, [], ◌∷◌, ◌+◌, drop, length, get_or, Option, Some, None, if◌then◌else◌, refl, ap, sym, subst, ◌∙◌, arith}
 use Rattle.std.specs.List.{find}
 use Rattle.std.proofs.lemmas.List.{drop_more}
 use Rattle.std.proofs.lemmas.Bool.{le-leb}
 use Rattle.sb_model.specs.Building.{first_wrong}
 use Rattle.sb_model.specs.Labels.{lowest, lower_of}
-use Rattle.sb_model.proofs.FoundByNumber.{first_above, all_above}
+use Rattle.sb_model.proofs.FoundByNumber.{first_above}
 
 -- the item at hand is the first that passes
 pub found_here : {X : Type 0} (test : X → Bool) (xs items : List X) (i : ℕ) (x : X) → items ≡ xs

@@ -1,13 +1,13 @@
 -- In products whose numbers rise, a search by halving finds the one with a number.
 
-use Rattle.std.proofs.Common.{ℕ, zero, suc, ◌+◌, ◌<◌, ◌≤◌, ◌≡◌, ◌≢◌, ◌==◌, Bool, true, false, not, ◌||◌, List, [], ◌∷◌}
+use Rattle.std.proofs.Common.{ℕ, zero, suc, ◌<◌, ◌≤◌, ◌≡◌, ◌≢◌, ◌==◌, Bool, true, false, not, ◌||◌, List, [], ◌∷◌}
 use Rattle.std.proofs.Common.{length, Option, Some, None, if◌then◌else◌, refl, ap, sym, ◌∙◌, IsTrue}
-use Rattle.std.proofs.Common.{Result, Ok, Err, nat_lt, arith, get_or, ⊎_elim, is_none, ◌&&◌}
-use Rattle.std.specs.List.{All, find}
+use Rattle.std.proofs.Common.{Ok, Err, nat_lt, arith, get_or, ⊎_elim, is_none}
+use Rattle.std.specs.List.{find}
 use Rattle.std.specs.Ordering.{nat_cmp, ordering_index}
 use Rattle.std.specs.List.Sorted.{IsBinarySearchResult}
 use Rattle.std.specs.declared.cmp.Ordering.TheVariants as ordering
-use Rattle.std.proofs.lemmas.Bool.{cases_lt, eq-eqb, ne_eqb, lt-ltb, ltb-true, and_parts, or_parts, false≢true}
+use Rattle.std.proofs.lemmas.Bool.{cases_lt, eq-eqb, ne_eqb, ltb-true, and_parts, false≢true}
 use Rattle.sb_model.specs.Building.{Building, is_building, is_in_range, first_bad, first_wrong, or_else}
 use Rattle.sb_model.specs.Building.{bad_space, bad_element, bad_opening, bad_filling}
 
@@ -122,7 +122,7 @@ right_all : (m : Building) → IsTrue (is_building m)
     → (bad_space m ≡ None) × ((bad_element m ≡ None) × ((bad_opening m ≡ None) × (bad_filling m ≡ None)))
 right_all m sound =
     let first = neither (bad_space m) (or_else (bad_element m) (or_else (bad_opening m) (bad_filling m)))
-        (no_bad m sound) in
+    (no_bad m sound) in
     let second = neither (bad_element m) (or_else (bad_opening m) (bad_filling m)) first.1 in
     let third = neither (bad_opening m) (bad_filling m) second.1 in
     (first.0, (second.0, (third.0, third.1)))

@@ -1,6 +1,6 @@
 -- Layers one after another: the sum of their thicknesses, and the band in which a reading lies.
 
-use Rattle.std.proofs.Common.{ℕ, ℤ, zero, suc, pos, ◌+◌, ◌*◌, ◌<◌, ◌≤◌, ◌≡◌, ◌<ℤ◌, ◌+ℤ◌, ◌-ℤ◌, ◌*ℤ◌, Bool, true, false, ◌&&◌, ◌||◌, List, [], ◌∷◌, drop, length, get_or, if◌then◌else◌, refl, ap, ap₂, sym, ◌∙◌, arith, nat_lt, nat_le, nat_eq, int_lt, int_le, unsigned_abs, ◌⊎◌, ⊎_elim, inl, inr, ◌==◌, ◌≤ℤ◌, IsTrue}
+use Rattle.std.proofs.Common.{ℕ, ℤ, suc, pos, ◌+◌, ◌*◌, ◌<◌, ◌≤◌, ◌≡◌, ◌<ℤ◌, ◌+ℤ◌, ◌-ℤ◌, ◌*ℤ◌, Bool, true, false, ◌&&◌, ◌||◌, List, [], ◌∷◌, drop, length, get_or, if◌then◌else◌, refl, ap, ap₂, sym, ◌∙◌, arith, nat_lt, nat_le, nat_eq, int_lt, int_le, unsigned_abs, ◌⊎◌, ⊎_elim, inl, inr, ◌==◌, ◌≤ℤ◌, IsTrue}
 use Rattle.std.proofs.lemmas.List.{drop_more, length-drop}
 use Rattle.std.proofs.lemmas.Int.{ints}
 use Rattle.std.specs.Ordering.{int_eq}
@@ -29,7 +29,7 @@ total_at_most : (before : ℕ) (layers : List Layer) → are_layers before layer
 total_at_most before [] are = omega arith
 total_at_most before (l ∷ ls) are =
     let third = and_parts (nat_lt before l.index && nat_le 1 l.micro && nat_le l.micro greatest_thickness)
-        (are_layers l.index ls) are in
+    (are_layers l.index ls) are in
     let second = and_parts (nat_lt before l.index && nat_le 1 l.micro) (nat_le l.micro greatest_thickness) third.0 in
     omega (arith, leb-true l.micro greatest_thickness second.1, total_at_most l.index ls third.1)
 

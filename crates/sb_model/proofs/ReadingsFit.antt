@@ -1,6 +1,6 @@
 -- Readings of corners fit 64 bits.
 
-use Rattle.std.proofs.Common.{◌≤◌, ℤ, ◌*ℤ◌, unsigned_abs, FitsSigned, lit<, lit≤, IsTrue, le_trans, w64, ◌&&◌, int_lt}
+use Rattle.std.proofs.Common.{◌≤◌, ℤ, ◌*ℤ◌, unsigned_abs, FitsSigned, lit<, IsTrue, w64, ◌&&◌, int_lt}
 use Rattle.std.proofs.Math.Nat.{mul-le-mul}
 use Rattle.std.proofs.lemmas.Bool.{leb-true, and_parts}
 use Rattle.std.proofs.lemmas.Int.{to_z-of_z, fits_signed_mul, unsigned_abs-mul}
@@ -17,7 +17,6 @@ pub coordinate_times_size : (a b : ℤ) → IsTrue (is_coordinate a) → unsigne
     → unsigned_abs (a *ℤ b) ≤ 500000000000
 coordinate_times_size a b a_in b_in =
     rw unsigned_abs-mul (mul-le-mul (leb-true (unsigned_abs a) greatest_coordinate a_in) b_in)
-
 
 heights : (s : Upright) → IsTrue (is_upright s)
     → (IsTrue (is_height s.z0)) × (IsTrue (is_height s.z1))

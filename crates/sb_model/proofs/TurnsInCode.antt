@@ -1,13 +1,13 @@
 -- What the calls of turns and frames rest on: sizes of the numbers of turns, and products by 1.
 
-use Rattle.std.proofs.Common.{ℕ, zero, suc, ℤ, pos, true, ◌≡◌, ◌≤◌, ◌+ℤ◌, ◌-ℤ◌, ◌*ℤ◌, ◌*◌, IsTrue, refl, ap, sym, ◌∙◌, arith}
-use Rattle.std.proofs.Common.{unsigned_abs, FitsSigned, lit<, lit≤, le_trans}
+use Rattle.std.proofs.Common.{ℕ, zero, suc, ℤ, true, ◌≡◌, ◌≤◌, ◌*ℤ◌, ◌*◌, IsTrue, ap, ◌∙◌, arith}
+use Rattle.std.proofs.Common.{unsigned_abs, FitsSigned, lit<}
 use Rattle.std.specs.Int.{w128}
 use Rattle.std.proofs.lemmas.Int.{to_z-of_z, fits_signed_mul, unsigned_abs-mul, ints}
 use Rattle.sb_fraction.specs.Spots.{Vector, vector}
 use Rattle.theory_turns.specs.Turns.{Quarter, is_signed_axis, is_quarter, cross_of, y_of}
 use Rattle.theory_turns.specs.Turns.{back_of}
-use Rattle.theory_turns.proofs.SignedAxes.{AreUnits, units_of_axis, axis_of_length, upright_of_quarter}
+use Rattle.theory_turns.proofs.SignedAxes.{units_of_axis, axis_of_length, upright_of_quarter}
 use Rattle.theory_turns.proofs.SignedAxes.{quarter_of_upright}
 use Rattle.theory_turns.proofs.UprightTriples.{IsUpright, yy}
 use Rattle.sb_model.specs.Frames.{greatest_framed, IsWithin}

@@ -1,6 +1,6 @@
 -- Readings along the axis of an element, and the bands of its layers.
 
-use Rattle.std.specs.Prelude.{◌≡◌, ℕ, ℤ, pos, ◌*◌, ◌^◌, ◌*ℤ◌, ◌<ℤ◌, Bool, ◌&&◌, int_lt, int_le, if◌then◌else◌}
+use Rattle.std.specs.Prelude.{◌≡◌, ℕ, ℤ, pos, ◌^◌, ◌*ℤ◌, ◌<ℤ◌, Bool, ◌&&◌, int_lt, int_le, if◌then◌else◌}
 use Rattle.sb_fraction.specs.Spots.{Spot, Vector, times_w}
 
 -- the greatest sum of thicknesses, in micrometres: 64 layers of 10,000,000

@@ -1,6 +1,6 @@
 -- What contracts see of a model, and what holds of every model.
 
-use Rattle.std.specs.Prelude.{ℕ, ℤ, Bool, true, false, not, ◌&&◌, ◌||◌, ◌==◌, ◌^◌, List, [], ◌∷◌}
+use Rattle.std.specs.Prelude.{ℕ, ℤ, Bool, true, not, ◌&&◌, ◌||◌, ◌==◌, ◌^◌, List, [], ◌∷◌}
 use Rattle.std.specs.Prelude.{length, nat_le, nat_lt, nat_eq, unsigned_abs, pos, if◌then◌else◌}
 use Rattle.std.specs.Prelude.{Option, Some, None, is_none, Result, Err, ◌≢◌}
 use Rattle.std.specs.Ordering.{int_eq}

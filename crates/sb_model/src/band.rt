@@ -85,7 +85,10 @@ fn in_plan(along: Axis, p: &HPoint) -> i128
     ensures value { result ≡ (p.now.x *ℤ along.x) +ℤ (p.now.y *ℤ along.y) }
     ensures size { unsigned_abs result ≤ greatest_abscissa }
 {
-    sum(coordinate_times(p.x, along.x), coordinate_times(p.y, along.y))
+    sum(
+        coordinate_times(p.x, along.x),
+        coordinate_times(p.y, along.y),
+    )
 }
 
 /// A coordinate of a plan point times a number of an axis.

@@ -11,11 +11,9 @@ ghost use Rattle.sb_model.specs.Building.{material_at as name_at};
 ghost use Rattle.sb_model.specs.Faces.{space_numbered};
 ghost use Rattle.sb_model.specs.Building.{element_numbered, opening_numbered, filling_numbered};
 
-use crate::numbering::first_bad_number;
 use crate::layers::{Layer, Layering, Layers};
-use crate::products::{
-    Element, Elements, Filling, Fillings, Opening, Openings, Space, Spaces,
-};
+use crate::numbering::first_bad_number;
+use crate::products::{Element, Elements, Filling, Fillings, Opening, Openings, Space, Spaces};
 use sb_fraction::Unit;
 use std::alloc::Global;
 use std::marker;

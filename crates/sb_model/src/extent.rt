@@ -10,9 +10,9 @@ ghost use Rattle.sb_model.specs.Labels.{axis_vector, low_along, high_along};
 ghost use Rattle.sb_model.specs.Labels.{readings_over, readings_in, readings_of, first_of, IsShortAxis};
 
 use crate::layers::Axis;
-use sb_loops::Points;
 use crate::prism::Prism;
 use sb_fraction::Point;
+use sb_loops::Points;
 
 /// From the least to the greatest of some readings.
 #[derive(Clone, Copy)]

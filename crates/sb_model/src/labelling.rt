@@ -28,7 +28,10 @@ pub fn label_at(model: &Model, p: &HPoint, z: &Fraction) -> Label
         return Label::Space(number);
     }
     match element_at(model.elements(), p, z) {
-        Some(element) => Label::Element(element.number, layer_at(&element.prism, &element.layering, p, z)),
+        Some(element) => Label::Element(
+            element.number,
+            layer_at(&element.prism, &element.layering, p, z),
+        ),
         None => open_label(model.ground(), z),
     }
 }

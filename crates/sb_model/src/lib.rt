@@ -36,7 +36,6 @@ pub use label::Label;
 pub use labelling::label_at;
 pub use layers::{Axis, Layer, Layering, Layers};
 pub use loops::Loops;
-pub use sb_loops::{LoopError, PointLists, Points};
 pub use outline::corners;
 pub use patch::Patch;
 pub use patch_points::inside;
@@ -45,4 +44,5 @@ pub use products::{
     Element, Elements, FillKind, Filling, Fillings, Opening, Openings, Space, Spaces,
 };
 pub use sb_list::Text;
+pub use sb_loops::{LoopError, PointLists, Points};
 pub use walk::{End, Item, Items, Walk};

@@ -111,7 +111,9 @@ fn first_bad_space(spaces: &Spaces, all: &AllNumbers) -> Option<u32>
 {
     let mut before = 0;
     'spaces: for space in spaces.as_slice() {
-        if space.number <= before || is_taken(space.number, &all.elements, &all.openings, &all.fillings) {
+        if space.number <= before
+            || is_taken(space.number, &all.elements, &all.openings, &all.fillings)
+        {
             return Some(space.number);
         }
         before = space.number;
@@ -125,7 +127,9 @@ fn first_bad_element(elements: &Elements, all: &AllNumbers) -> Option<u32>
 {
     let mut before = 0;
     'elements: for element in elements.as_slice() {
-        if element.number <= before || is_taken(element.number, &all.spaces, &all.openings, &all.fillings) {
+        if element.number <= before
+            || is_taken(element.number, &all.spaces, &all.openings, &all.fillings)
+        {
             return Some(element.number);
         }
         before = element.number;
@@ -137,7 +141,8 @@ fn first_bad_element(elements: &Elements, all: &AllNumbers) -> Option<u32>
 fn is_wrong_opening(opening: &Opening, all: &AllNumbers) -> bool
     ensures { result ≡ (is_in_one all.now.spaces all.now.elements all.now.fillings opening.now.number || not (has_item all.now.elements opening.now.element)) }
 {
-    is_taken(opening.number, &all.spaces, &all.elements, &all.fillings) || !all.elements.has(opening.element)
+    is_taken(opening.number, &all.spaces, &all.elements, &all.fillings)
+        || !all.elements.has(opening.element)
 }
 
 /// The first opening whose number is not above the one before it, or stands in another list, or that names no element.
@@ -158,7 +163,8 @@ fn first_bad_opening(openings: &Openings, all: &AllNumbers) -> Option<u32>
 fn is_wrong_filling(filling: &Filling, all: &AllNumbers) -> bool
     ensures { result ≡ (is_in_one all.now.spaces all.now.elements all.now.openings filling.now.number || not (has_item all.now.openings filling.now.opening)) }
 {
-    is_taken(filling.number, &all.spaces, &all.elements, &all.openings) || !all.openings.has(filling.opening)
+    is_taken(filling.number, &all.spaces, &all.elements, &all.openings)
+        || !all.openings.has(filling.opening)
 }
 
 /// The first filling whose number is not above the one before it, or stands in another list, or that names no opening.
@@ -218,7 +224,10 @@ pub(crate) fn first_bad_number(
     ensures { IfOk result (λ n. (unit : unit.Unit) (ground_height : ℤ) (reach : ℕ) → n ≡ first_bad (building unit ground_height reach spaces.now elements.now openings.now fillings.now)) }
 {
     let all = numbers_of(alloc, spaces, elements, openings, fillings)?;
-    let below = first_there(first_bad_opening(openings, &all), first_bad_filling(fillings, &all));
+    let below = first_there(
+        first_bad_opening(openings, &all),
+        first_bad_filling(fillings, &all),
+    );
     Ok(first_there(
         first_bad_space(spaces, &all),
         first_there(first_bad_element(elements, &all), below),

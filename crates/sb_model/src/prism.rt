@@ -8,8 +8,8 @@ ghost use Rattle.sb_points.specs.Places.{spot_over};
 ghost use Rattle.sb_model.specs.Solids.{upright, is_upright, is_height, is_in_solid};
 
 use crate::loops::Loops;
-use sb_loops::PointLists;
 use sb_fraction::{Fraction, HPoint};
+use sb_loops::PointLists;
 use std::marker::Model;
 
 /// A vertical prism: a plan, from the height `z0` up to `z1`, both within 500,000 mm.

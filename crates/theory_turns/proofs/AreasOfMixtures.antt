@@ -3,7 +3,7 @@
 use Rattle.std.proofs.Common.{ℤ, pos, ◌≡◌, ◌+ℤ◌, ◌-ℤ◌, ◌*ℤ◌, neg_ℤ, arith, refl, ap, sym, ◌∙◌}
 use Rattle.std.proofs.lemmas.Int.{ints}
 use Rattle.theory_numbers.proofs.Shapes.{var, num, plus, minus, negated, times, equal}
-use Rattle.sb_fraction.specs.Spots.{Vector, vector, inner}
+use Rattle.sb_fraction.specs.Spots.{Vector}
 use Rattle.theory_turns.specs.Turns.{mixed}
 
 -- twice the area that two vectors of the plane span
@@ -32,10 +32,17 @@ area-mixed : (z : Vector) (a1 b1 c1 a2 b2 c2 q1 q2 : ℤ)
     ≡ ((z.x *ℤ area a1 a2 q1 q2) +ℤ (z.y *ℤ area b1 b2 q1 q2)) +ℤ (z.z *ℤ area c1 c2 q1 q2)
 area-mixed z a1 b1 c1 a2 b2 c2 q1 q2 =
     let whole = area-add ((a1 *ℤ z.x) +ℤ (b1 *ℤ z.y)) ((a2 *ℤ z.x) +ℤ (b2 *ℤ z.y))
-        (c1 *ℤ z.z) (c2 *ℤ z.z) q1 q2 in
+    (c1 *ℤ z.z) (c2 *ℤ z.z) q1 q2 in
     let front = area-add (a1 *ℤ z.x) (a2 *ℤ z.x) (b1 *ℤ z.y) (b2 *ℤ z.y) q1 q2 in
-    omega (arith, ints, whole, front, area-scaled z.x a1 a2 q1 q2, area-scaled z.y b1 b2 q1 q2,
-        area-scaled z.z c1 c2 q1 q2)
+    omega (
+      arith,
+      ints,
+      whole,
+      front,
+      area-scaled z.x a1 a2 q1 q2,
+      area-scaled z.y b1 b2 q1 q2,
+      area-scaled z.z c1 c2 q1 q2,
+    )
 
 -- turned about it has the other sign
 pub area-turned : (p1 p2 q1 q2 : ℤ) → area p1 p2 q1 q2 ≡ neg_ℤ (area q1 q2 p1 p2)
@@ -104,9 +111,9 @@ area-of-mixtures z x a1 b1 c1 a2 b2 c2 =
     let ac = area a1 a2 c1 c2 in
     let bc = area b1 b2 c1 c2 in
     let first = area-across x a1 b1 c1 a2 b2 c2 a1 a2 (pos 0) (neg_ℤ ab) (neg_ℤ ac)
-        (area-itself a1 a2) (area-turned b1 b2 a1 a2) (area-turned c1 c2 a1 a2) in
+    (area-itself a1 a2) (area-turned b1 b2 a1 a2) (area-turned c1 c2 a1 a2) in
     let second = area-across x a1 b1 c1 a2 b2 c2 b1 b2 ab (pos 0) (neg_ℤ bc) refl (area-itself b1 b2)
-        (area-turned c1 c2 b1 b2) in
+    (area-turned c1 c2 b1 b2) in
     let third = area-across x a1 b1 c1 a2 b2 c2 c1 c2 ac bc (pos 0) refl refl (area-itself c1 c2) in
     area-mixed z a1 b1 c1 a2 b2 c2 (mixed x a1 b1 c1) (mixed x a2 b2 c2)
     ∙ rw (first, second, third) (gathered ab ac bc)

@@ -1,6 +1,6 @@
 -- Worked turns.
 
-use Rattle.std.proofs.Common.{pos, negsuc, ◌≡◌, true, false, refl}
+use Rattle.std.proofs.Common.{pos, ◌≡◌, false, refl}
 use Rattle.std.specs.Prelude.{neg_ℤ}
 use Rattle.sb_fraction.specs.Spots.{Vector, vector}
 use Rattle.sb_fraction.specs.Directions.{axis_x, axis_y, axis_z}

@@ -1,14 +1,14 @@
 -- A signed axis is a vector of length 1, so a turn is two upright axes.
 
-use Rattle.std.proofs.Common.{ℕ, ℤ, pos, zero, suc, ◌+◌, ◌*◌, ◌≡◌, ◌≤◌, ◌+ℤ◌, ◌*ℤ◌, true, IsTrue, arith}
-use Rattle.std.proofs.Common.{refl, ap, sym, ◌∙◌, ◌&&◌, nat_eq}
+use Rattle.std.proofs.Common.{ℕ, ℤ, pos, zero, suc, ◌+◌, ◌*◌, ◌≡◌, ◌≤◌, ◌*ℤ◌, true, IsTrue, arith}
+use Rattle.std.proofs.Common.{refl, ◌&&◌}
 use Rattle.std.specs.Prelude.{unsigned_abs}
 use Rattle.std.specs.Ordering.{int_eq}
 use Rattle.std.proofs.lemmas.Int.{ints, unsigned_abs-mul}
 use Rattle.std.proofs.lemmas.Bool.{and_parts, and_from, eqb-true, eq-eqb}
 use Rattle.std.proofs.lemmas.Bool.Decides.{Decides-int_eq}
 use Rattle.theory_numbers.proofs.Products.{weak_square}
-use Rattle.sb_fraction.specs.Spots.{Vector, vector, inner}
+use Rattle.sb_fraction.specs.Spots.{Vector, inner}
 use Rattle.theory_turns.specs.Turns.{Quarter, is_signed_axis, is_quarter}
 use Rattle.theory_turns.proofs.UprightTriples.{IsUpright}
 
@@ -30,8 +30,13 @@ square_by_size a = omega (arith, ints, unsigned_abs-mul a a, weak_square a)
 -- three sizes whose sum is 1, and three whose squares have the sum 1
 squares_of_one : (p q r : ℕ) → (p + q) + r ≡ 1 → (p * p + q * q) + r * r ≡ 1
 squares_of_one p q r one =
-    omega (arith, one, square_of_bit p (omega (arith, one)), square_of_bit q (omega (arith, one)),
-        square_of_bit r (omega (arith, one)))
+    omega (
+      arith,
+      one,
+      square_of_bit p (omega (arith, one)),
+      square_of_bit q (omega (arith, one)),
+      square_of_bit r (omega (arith, one)),
+    )
 
 one_of_squares : (p q r : ℕ) → (p * p + q * q) + r * r ≡ 1 → (p + q) + r ≡ 1
 one_of_squares p q r one =
@@ -53,8 +58,8 @@ length_of_axis a axis =
 pub axis_of_length : (a : Vector) → inner a a ≡ pos 1 → is_signed_axis a ≡ true
 axis_of_length a length =
     let squares : (unsigned_abs a.x * unsigned_abs a.x + unsigned_abs a.y * unsigned_abs a.y)
-            + unsigned_abs a.z * unsigned_abs a.z ≡ 1
-        = omega (arith, ints, length, square_by_size a.x, square_by_size a.y, square_by_size a.z) in
+    + unsigned_abs a.z * unsigned_abs a.z ≡ 1
+    = omega (arith, ints, length, square_by_size a.x, square_by_size a.y, square_by_size a.z) in
     eq-eqb (unsigned_abs a.x + unsigned_abs a.y + unsigned_abs a.z) 1
     (one_of_squares (unsigned_abs a.x) (unsigned_abs a.y) (unsigned_abs a.z) squares)
 

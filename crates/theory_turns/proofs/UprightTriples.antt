@@ -1,12 +1,12 @@
 -- The three axes of a turn: each has length 1, each two stand at right angles, and each is the cross
 -- product of the two after it.
 
-use Rattle.std.proofs.Common.{ℤ, pos, ◌≡◌, ◌+ℤ◌, ◌-ℤ◌, ◌*ℤ◌, neg_ℤ, arith, refl, ap, sym, ◌∙◌}
+use Rattle.std.proofs.Common.{ℤ, pos, ◌≡◌, ◌+ℤ◌, ◌-ℤ◌, ◌*ℤ◌, arith, ap, ◌∙◌}
 use Rattle.std.proofs.lemmas.Int.{ints}
-use Rattle.theory_numbers.proofs.Shapes.{var, num, plus, minus, negated, times, equal}
+use Rattle.theory_numbers.proofs.Shapes.{var, num, plus, minus, times, equal}
 use Rattle.theory_numbers.proofs.Ring.{mul_comm, mul-sub}
 use Rattle.sb_fraction.specs.Spots.{Vector, vector, inner}
-use Rattle.theory_turns.specs.Turns.{Quarter, cross_of, y_of, mixed, turned_by}
+use Rattle.theory_turns.specs.Turns.{Quarter, cross_of, y_of}
 
 -- the local x and z have length 1 and stand at right angles
 pub record IsUpright (q : Quarter) : Type 0 where

@@ -1,5 +1,5 @@
 -- A rectangle is a plan, and a plan is left as it is.
-use Rattle.std.proofs.Common.{◌≡◌, ◌∙◌, sym, ap, Err}
+use Rattle.std.proofs.Common.{◌∙◌, sym, ap, Err}
 use Rattle.std.proofs.lemmas.Bool.{false≢true}
 use Rattle.theory_plans.proofs.RectangleIsPlan.{rectangle_is_plan}
 use Rattle.theory_plans.proofs.LoopsInRange.{points_in_range}

@@ -1,4 +1,4 @@
-use Rattle.std.proofs.Common.{◌≡◌, ◌≤◌, ◌∙◌, ap, ap₂, subst, sym, refl, arith, length, rules, FitsSigned, to_z, of_z}
+use Rattle.std.proofs.Common.{◌≤◌, ◌∙◌, ap, ap₂, subst, sym, refl, arith, length, rules, FitsSigned, to_z, of_z}
 use Rattle.std.specs.Int.{w128}
 use Rattle.std.proofs.lemmas.Int.{to_z-of_z}
 use Rattle.sb_model.specs.Labels.{total_of, layer_from}
@@ -7,12 +7,17 @@ use Rattle.sb_model.proofs.LayersByBands.{total_is_small, layer-here}
 use Rattle.sb_model.proofs.band.layer_in.Goals as goal
 
 pub layers-init : goal.layers-init
-layers-init c =
-    (refl,
-    (omega (arith, c.len-left.ensures, ap length c.as_slice-layer-items.ensures),
-    (omega arith,
-    subst (λ l. total_of l ≤ greatest_total) (sym c.as_slice-layer-items.ensures)
-    (total_is_small c.args.layers.now c.requires.layers_in c.requires.few))))
+layers-init c = (
+  refl,
+  (
+    omega (arith, c.len-left.ensures, ap length c.as_slice-layer-items.ensures),
+    (
+      omega arith,
+      subst (λ l. total_of l ≤ greatest_total) (sym c.as_slice-layer-items.ensures)
+          (total_is_small c.args.layers.now c.requires.layers_in c.requires.few),
+    ),
+  ),
+)
 
 pub returns-then-is_in_band : goal.returns-then-is_in_band
 returns-then-is_in_band c =

@@ -1,9 +1,6 @@
-use Rattle.std.proofs.Common.{◌≡◌, ◌∙◌, sym, ap, ap₂, rules, pos, w32, FitsSigned, subst, to_z, of_z, ◌<ℤ◌, ◌*ℤ◌}
+use Rattle.std.proofs.Common.{◌∙◌, sym, ap, ap₂, rules, pos, w32, FitsSigned, subst, to_z, of_z, ◌<ℤ◌, ◌*ℤ◌}
 use Rattle.std.specs.Int.{w128}
 use Rattle.std.proofs.lemmas.Int.{to_z-of_z}
-use Rattle.sb_points.specs.Places.{spot_over}
-use Rattle.sb_model.specs.Labels.{axis_vector}
-use Rattle.sb_model.specs.Bands.{HasReading}
 use Rattle.sb_model.proofs.LayersByBands.{layer_axis, upright_where, level-reading, upright-reading}
 use Rattle.sb_model.proofs.band.reading_along.Goals as goal
 
@@ -25,8 +22,12 @@ returns-else-along-eq0-clause-value c =
     let z_fits : FitsSigned w32 c.args.along.z = search rules in
     let axis = layer_axis c.args.along c.requires.axis_in in
     let across = upright_where c.args.along axis.level_or_upright
-        (λ flat. c.if-along-eq0.false (ap (of_z w32) flat)) in
-    rw (to_z-of_z w128 c.upright.result num_fits, to_z-of_z w128 c.den-den.result den_fits, c.den-den.ensures.value,
-    c.upright.ensures.value ∙ ap₂ (λ a b. a *ℤ b) (to_z-of_z w128 c.num.result height_fits ∙ c.num.ensures.value)
-    (to_z-of_z w32 c.args.along.z z_fits))
+    (λ flat. c.if-along-eq0.false (ap (of_z w32) flat)) in
+    rw (
+      to_z-of_z w128 c.upright.result num_fits,
+      to_z-of_z w128 c.den-den.result den_fits,
+      c.den-den.ensures.value,
+      c.upright.ensures.value ∙ ap₂ (λ a b. a *ℤ b) (to_z-of_z w128 c.num.result height_fits ∙ c.num.ensures.value)
+          (to_z-of_z w32 c.args.along.z z_fits),
+    )
     (upright-reading c.args.along c.args.p.now c.args.z.now across.0 across.1)

@@ -1,4 +1,4 @@
-use Rattle.std.proofs.Common.{◌≡◌, ◌∙◌, sym, ap, IsTrue, subst}
+use Rattle.std.proofs.Common.{◌∙◌, sym, ap, IsTrue, subst}
 use Rattle.std.specs.Int.{int_min, int_max}
 use Rattle.std.specs.List.{list_all, fold}
 use Rattle.sb_fraction.specs.Plane.{is_plan_point}

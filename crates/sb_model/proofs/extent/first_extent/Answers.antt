@@ -1,4 +1,4 @@
-use Rattle.std.proofs.Common.{rules, ◌≡◌, ◌∙◌, sym, ap, subst, get_or, w32, w64, FitsSigned, pos, ◌+ℤ◌, ◌*ℤ◌, IsTrue}
+use Rattle.std.proofs.Common.{rules, ◌∙◌, sym, ap, subst, get_or, w32, w64, FitsSigned, pos, ◌+ℤ◌, ◌*ℤ◌, IsTrue}
 use Rattle.std.proofs.lemmas.Int.{to_z-of_z}
 use Rattle.sb_fraction.specs.Crossings.{abscissa_at}
 use Rattle.sb_fraction.specs.declared.point.Point.{Point}

@@ -1,4 +1,4 @@
-use Rattle.std.proofs.Common.{rules, ◌≡◌, ◌∙◌, ap, ap₂, w32, w64, FitsSigned, ◌+ℤ◌, ◌*ℤ◌}
+use Rattle.std.proofs.Common.{rules, ◌∙◌, ap, ap₂, w32, w64, FitsSigned, ◌+ℤ◌, ◌*ℤ◌}
 use Rattle.std.proofs.lemmas.Int.{to_z-of_z}
 use Rattle.std.specs.Int.{int_min, int_max}
 use Rattle.sb_fraction.specs.Crossings.{abscissa_at}

@@ -1,4 +1,4 @@
-use Rattle.std.proofs.Common.{◌≡◌, ◌∙◌, sym}
+use Rattle.std.proofs.Common.{◌∙◌, sym}
 use Rattle.sb_points.specs.Places.{spot_over}
 use Rattle.sb_model.specs.Solids.{is_in_solid}
 use Rattle.sb_model.proofs.FirstThatPasses.{found_here}

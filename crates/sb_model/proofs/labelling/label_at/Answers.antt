@@ -1,4 +1,4 @@
-use Rattle.std.proofs.Common.{◌≡◌, ◌∙◌, sym, ap, rules, w32, FitsSigned, int_lt, ◌*ℤ◌, if◌then◌else◌}
+use Rattle.std.proofs.Common.{◌∙◌, sym, ap, rules, w32, FitsSigned, int_lt, ◌*ℤ◌, if◌then◌else◌}
 use Rattle.std.proofs.lemmas.Int.{to_z-of_z}
 use Rattle.std.specs.Option.{option_copied}
 use Rattle.sb_points.specs.Places.{spot_over}

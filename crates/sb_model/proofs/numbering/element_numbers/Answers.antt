@@ -1,4 +1,3 @@
-use Rattle.std.proofs.Common.{◌≡◌}
 use Rattle.sb_model.proofs.NumbersInOrder.{numbers-in-order, all-numbers}
 use Rattle.sb_model.proofs.numbering.element_numbers.Goals as goal
 

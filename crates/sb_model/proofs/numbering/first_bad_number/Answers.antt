@@ -1,4 +1,4 @@
-use Rattle.std.proofs.Common.{◌≡◌, ◌∙◌, ap}
+use Rattle.std.proofs.Common.{◌∙◌, ap}
 use Rattle.sb_model.specs.Building.{or_else}
 use Rattle.sb_model.proofs.NumbersInOrder.{first_bad-found}
 use Rattle.sb_model.proofs.numbering.first_bad_number.Goals as goal

@@ -1,6 +1,6 @@
-use Rattle.std.proofs.Common.{◌≡◌, ◌||◌, not, drop}
+use Rattle.std.proofs.Common.{◌≡◌, drop}
 use Rattle.sb_model.specs.Building.{first_wrong}
-use Rattle.sb_model.specs.Numbering.{has, is_taken}
+use Rattle.sb_model.specs.Numbering.{is_taken}
 use Rattle.sb_model.proofs.numbering.first_bad_space.Given as goal
 
 abbrev pub invariant-spaces : goal.invariant-spaces

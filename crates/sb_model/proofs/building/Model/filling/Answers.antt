@@ -1,9 +1,9 @@
-use Rattle.std.proofs.Common.{◌≡◌, ◌∙◌, subst, ap, get_or, IsTrue, rules}
+use Rattle.std.proofs.Common.{◌∙◌, subst, ap, get_or, IsTrue, rules}
 use Rattle.std.proofs.lemmas.List.Sorted.{answers_always}
 use Rattle.std.proofs.lemmas.List.{get_or_default}
 use Rattle.sb_model.specs.declared.products.Filling.{Filling}
 use Rattle.sb_model.specs.declared.products.FillKind.TheVariants as kind
-use Rattle.sb_model.specs.Building.{Building, is_building}
+use Rattle.sb_model.specs.Building.{is_building}
 use Rattle.sb_model.proofs.FoundByNumber.{halving-found, halving-none, fillings_right}
 use Rattle.sb_model.proofs.building.Model.filling.Goals as goal
 

@@ -1,6 +1,6 @@
 use Rattle.std.proofs.Common.{◌∙◌, sym, ap}
 use Rattle.std.specs.Option.{option_copied}
-use Rattle.sb_model.specs.Building.{material_through, material_of}
+use Rattle.sb_model.specs.Building.{material_through}
 use Rattle.sb_model.proofs.building.Model.material.Goals as goal
 
 pub returns-in-Some : goal.returns-in-Some

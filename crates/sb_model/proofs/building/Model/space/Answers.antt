@@ -1,7 +1,7 @@
-use Rattle.std.proofs.Common.{◌≡◌, ◌∙◌, subst, ap, IsTrue, rules}
+use Rattle.std.proofs.Common.{◌∙◌, subst, ap, IsTrue, rules}
 use Rattle.std.proofs.lemmas.List.Sorted.{answers_always}
 use Rattle.sb_model.specs.declared.products.Space.{Space}
-use Rattle.sb_model.specs.Building.{Building, is_building}
+use Rattle.sb_model.specs.Building.{is_building}
 use Rattle.sb_model.proofs.FoundByNumber.{halving-found, halving-none, spaces_right}
 use Rattle.sb_model.proofs.building.Model.space.Goals as goal
 

@@ -1,10 +1,9 @@
-use Rattle.std.proofs.Common.{◌≡◌, ◌∙◌, sym, refl, ap, IsTrue, true}
-use Rattle.sb_fraction.specs.Spots.{Vector, vector}
-use Rattle.theory_turns.specs.Turns.{Quarter, is_quarter, is_signed_axis, cross_of, y_of, mixture_of, turned_by, then_of, back_of}
+use Rattle.std.proofs.Common.{◌∙◌, ap}
+use Rattle.theory_turns.specs.Turns.{turned_by, then_of}
 use Rattle.theory_turns.proofs.SignedAxes.{upright_of_quarter}
-use Rattle.theory_turns.proofs.TurnsCompose.{then_is_upright, then_takes, back_is_upright, back_takes}
+use Rattle.theory_turns.proofs.TurnsCompose.{then_is_upright, then_takes}
 use Rattle.sb_model.specs.Frames.{way_of}
-use Rattle.sb_model.proofs.TurnsInCode.{x_axis, y_axis, z_axis, within-equal, quarter_is, quarter-equal, cross-equal}
+use Rattle.sb_model.proofs.TurnsInCode.{quarter_is, quarter-equal}
 use Rattle.sb_model.proofs.frame.Turn.then.Goals as goal
 
 pub axes_turn-requires : goal.axes_turn-requires
