@@ -1,13 +1,11 @@
 //! The corners of patches.
 
-ghost use Rattle.std.specs.Prelude.{◌≡◌, ◌≤◌, ◌<ℤ◌, ◌+ℤ◌, ◌-ℤ◌, ◌*ℤ◌, pos, slice_get, unsigned_abs, IsTrue, Some, is_some};
-ghost use Rattle.theory_numbers.specs.Fractions.{reduced, whole as whole_number};
+ghost use Rattle.std.specs.Prelude.{◌≡◌, ◌≤◌, slice_get, unsigned_abs, IsTrue, Some, is_some};
 ghost use Rattle.theory_plans.specs.LoopEdges.{edges_of};
 ghost use Rattle.theory_plans.specs.Plans.{is_plan};
 ghost use Rattle.sb_fraction.specs.Plane.{is_plan_point, are_two_points};
 ghost use Rattle.sb_fraction.specs.Edges.{edge};
 ghost use Rattle.sb_fraction.specs.Lines.{arrow_along, flat};
-ghost use Rattle.sb_fraction.specs.Spots.{inner};
 ghost use Rattle.sb_model.specs.Sides.{line_of, is_abscissa_size, greatest_offset};
 ghost use Rattle.theory_plane.specs.Sides.{line as line_along};
 ghost use Rattle.sb_model.specs.Faces.{is_face_of, has_face};

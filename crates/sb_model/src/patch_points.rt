@@ -2,7 +2,7 @@
 
 ghost use Rattle.std.specs.Prelude.{◌≡◌, ◌≤◌, ◌<ℤ◌, ◌+ℤ◌, ◌-ℤ◌, ◌*ℤ◌, ◌&&◌, pos, int_lt, unsigned_abs, slice_get, IsTrue, Some, is_some};
 ghost use Rattle.std.specs.Option.{option_map};
-ghost use Rattle.theory_numbers.specs.Rationals.{rational, is_below};
+ghost use Rattle.theory_numbers.specs.Rationals.{rational};
 ghost use Rattle.theory_plane.specs.Points.{face_point, is_above_side, is_under_side};
 ghost use Rattle.theory_plane.specs.Regions.{is_inside as is_in_region, is_spanned as is_in_span};
 ghost use Rattle.theory_plane.specs.Sides.{line as line_along};

@@ -1,2 +1,3 @@
 -- What the rows rest on.
 mod AllPushed
+mod TriedPatches

@@ -4,9 +4,15 @@
 #![tactic(auto)]
 
 mod building;
+#[cfg(test)]
+mod corner_rows;
 mod house;
+mod patches;
 #[cfg(test)]
 mod tests;
+mod wedges;
 
 pub use building::{elements, fillings, openings, spaces};
 pub use house::{height, storey};
+pub use patches::{left_of_crossing, names_face, right_of_crossing, slanted_side};
+pub use wedges::{cube, wedge};

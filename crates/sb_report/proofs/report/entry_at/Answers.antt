@@ -16,6 +16,6 @@ found_at bs i found b item some =
 
 pub boundary_value-requires : goal.boundary_value-requires
 boundary_value-requires c = record {
-      face = face_at c.args.model.now c.args.bounds.now c.args.index _ c.requires.of_model
+  face = face_at c.args.model.now c.args.bounds.now c.args.index _ c.requires.of_model
       (found_at _ _ _ _ c.get.ensures.item c.unwrap-boundary.ensures);
-    }
+}

@@ -12,7 +12,7 @@ report_text-requires c =
     let list = c.in_ok-list.list in
     record {
       of_model = rw c.in_ok-model.ensures
-      (box_list_is_of_model c.args.form.now c.args.extent.now list c.in_ok-list.ensures.list);
+          (box_list_is_of_model c.args.form.now c.args.extent.now list c.in_ok-list.ensures.list);
     }
 
 pub done_text-requires : goal.done_text-requires
