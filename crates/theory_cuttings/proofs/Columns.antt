@@ -250,3 +250,24 @@ module _ {L Q : Type 0} (f : Arrow → L) (label : (Q → Bool) → L) (values :
       subst (λ first. HasNoOddPoint f first (column_of label values ts))
       (ap label (λ i q. nothing_behind q i))
       (column_is_even between None ts tt rise (all_ahead ts have))
+
+  -- ---- from a number on
+
+  -- each value of each product lies at the number or below it, or is one of those to come
+  abbrev pub AreBehindOrAhead : Arrow → List Arrow → Type 0
+  AreBehindOrAhead low ts =
+      (q : Q) → AllByRecursion (λ t. IsRational t × (IsAtMost t low ⊎ IsOneOf t ts)) (values q)
+
+  -- the column of the values above a number is a cutting from there on; its first label is that of
+  -- the products which are present just after the number
+  pub column_after : (low : Arrow) → IsRational low → (ts : List Arrow) → Rise (Some low) ts
+      → AreBehindOrAhead low ts
+      → IsCutting f (Some low) None (label (present_after values low)) (column_of label values ts)
+  column_after low low_in ts rise placed = column_from (Some low) ts low_in rise placed
+
+  -- and has no odd point
+  pub column_after_has_no_odd_point : SeesBetween label → (low : Arrow) → IsRational low
+      → (ts : List Arrow) → Rise (Some low) ts → AreBehindOrAhead low ts
+      → HasNoOddPoint f (label (present_after values low)) (column_of label values ts)
+  column_after_has_no_odd_point between low low_in ts rise placed =
+      column_is_even between (Some low) ts low_in rise placed

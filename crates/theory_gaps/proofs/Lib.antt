@@ -1,0 +1,10 @@
+-- The laws by topic.
+
+-- points of a prism lie strictly within its extent
+pub mod WithinExtents
+-- rays and their borders
+pub mod RaysWithBorders
+-- the points of a level ray
+pub mod PointsOnTheRay
+-- edges over a number that is no abscissa
+pub mod EdgesAtANumber

@@ -1,0 +1,53 @@
+-- Gaps: the places in the order of a slab's edges, from 0 to its length. What stands in a gap, the edges
+-- before it tell.
+use Rattle.std.specs.Prelude.{ℕ, ◌==◌, Bool, ◌&&◌, List, [], ◌∷◌, Option, Some, None, slice_get, take}
+use Rattle.theory_lists.specs.Parity.{is_odd_number}
+use Rattle.sb_fraction.specs.Spots.{Spot}
+use Rattle.sb_model.specs.declared.label.Label.{Label}
+use Rattle.sb_model.specs.Building.{Building}
+use Rattle.sb_model.specs.Labels.{open_label}
+use Rattle.sb_model.specs.PlanEdges.{PlanEdge, plan_edges}
+use Rattle.sb_model.specs.Solids.{is_between_heights}
+use Rattle.theory_lists.specs.Parted.{IsPartedAt}
+use Rattle.theory_numbers.specs.Arrows.{Arrow}
+use Rattle.theory_numbers.specs.Rationals.{IsBelow, IsAtMost}
+use Rattle.theory_plane.specs.Points.{ordinate_of}
+use Rattle.sb_fraction.specs.Lines.{in_frame}
+use Rattle.theory_parity.specs.Below.{abscissa_in}
+use Rattle.theory_lines.specs.Slabs.{is_lower_place}
+use Rattle.theory_sight.specs.Coarse.{stacked}
+
+-- one more item, if it is there
+abbrev pub with_one : {X : Type 0} → Option X → List X → List X
+with_one None xs = xs
+with_one (Some x) xs = x ∷ xs
+
+-- the edges at these places of a list, in the order of the places
+abbrev pub edges_at : List PlanEdge → List ℕ → List PlanEdge
+edges_at edges [] = []
+edges_at edges (k ∷ places) = with_one (slice_get edges k) (edges_at edges places)
+
+-- the edges before gap j of an order: the first j
+abbrev pub edges_before : List PlanEdge → List ℕ → ℕ → List PlanEdge
+edges_before edges order j = edges_at edges (take j order)
+
+-- the point lies in gap j of the order of a slab: over the slab, its beginning taken in, and above the
+-- first j edges and no others
+pub record IsGapOf (m : Building) (d low high : Arrow) (order : List ℕ) (p : Spot) (j : ℕ) : Type 0 where
+  pub after : IsAtMost low (abscissa_in d p)
+  pub before : IsBelow (abscissa_in d p) high
+  pub parts :
+      IsPartedAt
+      (is_lower_place (plan_edges m) d (abscissa_in d p) (ordinate_of (in_frame d p))) j order
+
+-- the product with this number is present behind these edges: an odd number of them are its own
+abbrev pub is_present : List PlanEdge → ℕ → Bool
+is_present passed n = is_odd_number (λ e. e.product == n) passed
+
+-- the coarse label behind these edges, at the height of p
+abbrev pub label_in_gap : Building → Spot → List PlanEdge → Label
+label_in_gap m p passed =
+    stacked m
+    (λ s. is_present passed s.number && is_between_heights s.prism.z0 s.prism.z1 p)
+    (λ e. is_present passed e.number && is_between_heights e.prism.z0 e.prism.z1 p)
+    (open_label m.ground_height p)
