@@ -8,3 +8,7 @@ pub mod RaysWithBorders
 pub mod PointsOnTheRay
 -- edges over a number that is no abscissa
 pub mod EdgesAtANumber
+-- what stands on a level ray
+pub mod LabelsAlongTheNormal
+-- the walk along a level ray
+pub mod WalkAlongTheNormal
