@@ -12,3 +12,11 @@ pub mod EdgesAtANumber
 pub mod LabelsAlongTheNormal
 -- the walk along a level ray
 pub mod WalkAlongTheNormal
+-- the walk of a ray up or down
+pub mod WalkUpAndDown
+-- rows and heights for any ray
+pub mod RowsThatRise
+-- the rays of faces
+pub mod RaysOfFaces
+-- one walk each
+pub mod OneWalkEach

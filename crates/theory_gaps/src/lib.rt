@@ -5,3 +5,11 @@
 //! reads through gaps; the laws are in `specs/Laws.antt`.
 #![tactic(auto)]
 
+ghost use Rattle.theory_gaps.specs.Laws.{HaveOnePassages, HasOneWalk};
+
+/// Each plain point of each face has passages over its whole ray, and one list of them; so it has
+/// exactly one walk, whatever its reach and however deep it looks.
+pub fn one_walk_each()
+    ensures passages { HaveOnePassages }
+    ensures walk { HasOneWalk }
+{}
