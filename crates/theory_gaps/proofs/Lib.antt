@@ -20,3 +20,8 @@ pub mod RowsThatRise
 pub mod RaysOfFaces
 -- one walk each
 pub mod OneWalkEach
+-- rows over the numbers of a slab
+pub mod RowsOfSlabs
+-- outward from a side
+pub mod PartedAtALine
+pub mod OutwardFromSides

@@ -162,7 +162,8 @@ one_walk m r is = by (read_is_walked m r.normal is.x0 is.x0 is.stretches)
 
 -- ---- faces
 
-proper_there : (e : Edge) (es : List Edge) → list_all is_proper_edge es ≡ true → Stands e es
+-- an edge of proper ones is proper
+pub proper_there : (e : Edge) (es : List Edge) → list_all is_proper_edge es ≡ true → Stands e es
     → is_proper_edge e ≡ true
 proper_there e [] all there = absurd there
 proper_there e (f ∷ fs) all there =
@@ -174,7 +175,8 @@ proper_there e (f ∷ fs) all there =
     by first rest (inl same) = ap is_proper_edge same ∙ first
     by first rest (inr later) = rest later
 
-not_true : (b : Bool) → not b ≡ true → b ≡ false
+-- what is not true is false
+pub not_true : (b : Bool) → not b ≡ true → b ≡ false
 not_true true answer = absurd (false≢true answer)
 not_true false answer = refl
 
