@@ -25,3 +25,6 @@ pub mod RowsOfSlabs
 -- outward from a side
 pub mod PartedAtALine
 pub mod OutwardFromSides
+-- the gap of a point
+pub mod GapsOfPoints
+pub mod ThroughGaps

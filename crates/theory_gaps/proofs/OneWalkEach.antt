@@ -229,14 +229,15 @@ upright_is_read m valid up p x0 starts p_is off =
           (have_heights m (upright_normal up) passed x0);
     }
 
--- a face's ray begins at its height
-starts_up : (s : Upright) (p : Spot) → p.z ≡ s.z1 *ℤ p.w → StartsAt (ray_from p axis_z) s.z1
+-- the ray of Top begins at its height
+pub starts_up : (s : Upright) (p : Spot) → p.z ≡ s.z1 *ℤ p.w → StartsAt (ray_from p axis_z) s.z1
 starts_up s p same = of p.x p.y p.z (s.z1 *ℤ p.w) same
   where
     of : (x y z k : ℤ) → z ≡ k → ((x *ℤ pos 0) +ℤ (y *ℤ pos 0)) +ℤ (z *ℤ pos 1) ≡ k
     of x y z k same = omega (arith, ints)
 
-starts_down : (s : Upright) (p : Spot) → p.z ≡ s.z0 *ℤ p.w
+-- and that of Bottom
+pub starts_down : (s : Upright) (p : Spot) → p.z ≡ s.z0 *ℤ p.w
     → StartsAt (ray_from p (opposite axis_z)) (neg_ℤ s.z0)
 starts_down s p same = of p.x p.y p.z s.z0 p.w same
   where
