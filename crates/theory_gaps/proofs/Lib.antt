@@ -28,3 +28,4 @@ pub mod OutwardFromSides
 -- the gap of a point
 pub mod GapsOfPoints
 pub mod ThroughGaps
+pub mod RealGaps

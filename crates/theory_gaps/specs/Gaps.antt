@@ -1,6 +1,8 @@
 -- Gaps: the places in the order of a slab's edges, from 0 to its length. What stands in a gap, the edges
 -- before it tell.
-use Rattle.std.specs.Prelude.{ℕ, ◌==◌, Bool, ◌&&◌, List, [], ◌∷◌, Option, Some, None, slice_get, take}
+use Rattle.std.specs.Prelude.{ℕ, zero, suc, ◌==◌, Bool, ◌&&◌, List, [], ◌∷◌, Option, Some, None}
+use Rattle.std.specs.Prelude.{slice_get, take, drop, ⊤}
+use Rattle.std.specs.List.{AllByRecursion}
 use Rattle.theory_lists.specs.Parity.{is_odd_number}
 use Rattle.sb_fraction.specs.Spots.{Spot}
 use Rattle.sb_model.specs.declared.label.Label.{Label}
@@ -13,8 +15,8 @@ use Rattle.theory_numbers.specs.Arrows.{Arrow}
 use Rattle.theory_numbers.specs.Rationals.{IsBelow, IsAtMost}
 use Rattle.theory_plane.specs.Points.{ordinate_of}
 use Rattle.sb_fraction.specs.Lines.{in_frame}
-use Rattle.theory_parity.specs.Below.{abscissa_in}
-use Rattle.theory_lines.specs.Slabs.{is_lower_place}
+use Rattle.theory_parity.specs.Below.{abscissa_in, value_of}
+use Rattle.theory_lines.specs.Slabs.{AreOnOneLine, is_lower_place}
 use Rattle.theory_sight.specs.Coarse.{stacked}
 
 -- one more item, if it is there
@@ -30,6 +32,29 @@ edges_at edges (k ∷ places) = with_one (slice_get edges k) (edges_at edges pla
 -- the edges before gap j of an order: the first j
 abbrev pub edges_before : List PlanEdge → List ℕ → ℕ → List PlanEdge
 edges_before edges order j = edges_at edges (take j order)
+
+-- and behind it: the others
+abbrev pub edges_behind : List PlanEdge → List ℕ → ℕ → List PlanEdge
+edges_behind edges order j = edges_at edges (drop j order)
+
+-- a row does not go on on the line of this edge
+abbrev pub BeginsOffLine : Arrow → PlanEdge → List PlanEdge → Type 0
+BeginsOffLine d e [] = ⊤
+BeginsOffLine d e (f ∷ row) = AreOnOneLine d e.edge f.edge → ⊥
+
+-- gap j of a row of edges lies between two lines: the edges on its two sides, where it has both, do not
+-- lie on one line. A gap between edges on one line holds no point
+abbrev pub IsRealGap : Arrow → List PlanEdge → ℕ → Type 0
+IsRealGap d row zero = ⊤
+IsRealGap d [] (suc j) = ⊤
+IsRealGap d (e ∷ row) (suc zero) = BeginsOffLine d e row
+IsRealGap d (e ∷ row) (suc (suc j)) = IsRealGap d row (suc j)
+
+-- at u the value v lies strictly in gap j of a row: above the first j edges, and under the others
+abbrev pub IsStrictlyIn : Arrow → List PlanEdge → ℕ → Arrow → Arrow → Type 0
+IsStrictlyIn d row j u v =
+    AllByRecursion (λ e. IsBelow (value_of d u e.edge) v) (take j row)
+    × AllByRecursion (λ e. IsBelow v (value_of d u e.edge)) (drop j row)
 
 -- the point lies in gap j of the order of a slab: over the slab, its beginning taken in, and above the
 -- first j edges and no others
