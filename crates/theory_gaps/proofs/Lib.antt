@@ -29,3 +29,4 @@ pub mod OutwardFromSides
 pub mod GapsOfPoints
 pub mod ThroughGaps
 pub mod RealGaps
+pub mod OverlapInGaps

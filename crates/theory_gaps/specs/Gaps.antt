@@ -2,14 +2,21 @@
 -- before it tell.
 use Rattle.std.specs.Prelude.{ℕ, zero, suc, ◌==◌, Bool, ◌&&◌, List, [], ◌∷◌, Option, Some, None}
 use Rattle.std.specs.Prelude.{slice_get, take, drop, ⊤}
+use Rattle.std.specs.Prelude.{◌≡◌}
+use Rattle.std.specs.Prelude.{true}
+use Rattle.std.specs.Prelude.{◌<ℤ◌}
 use Rattle.std.specs.List.{AllByRecursion}
 use Rattle.theory_lists.specs.Parity.{is_odd_number}
 use Rattle.sb_fraction.specs.Spots.{Spot}
+use Rattle.sb_fraction.specs.Spots.{IsSpot}
 use Rattle.sb_model.specs.declared.label.Label.{Label}
 use Rattle.sb_model.specs.Building.{Building}
 use Rattle.sb_model.specs.Labels.{open_label}
 use Rattle.sb_model.specs.PlanEdges.{PlanEdge, plan_edges}
+use Rattle.sb_model.specs.PlanEdges.{Product}
 use Rattle.sb_model.specs.Solids.{is_between_heights}
+use Rattle.sb_model.specs.Solids.{Upright}
+use Rattle.sb_model.specs.Solids.{is_in_solid}
 use Rattle.theory_lists.specs.Parted.{IsPartedAt}
 use Rattle.theory_numbers.specs.Arrows.{Arrow}
 use Rattle.theory_numbers.specs.Rationals.{IsBelow, IsAtMost}
@@ -68,6 +75,23 @@ pub record IsGapOf (m : Building) (d low high : Arrow) (order : List ℕ) (p : S
 -- the product with this number is present behind these edges: an odd number of them are its own
 abbrev pub is_present : List PlanEdge → ℕ → Bool
 is_present passed n = is_odd_number (λ e. e.product == n) passed
+
+-- a common inner point of two prisms strictly inside a slab
+pub record IsCommonOver (d low high : Arrow) (s t : Upright) (p : Spot) : Type 0 where
+  pub positive : IsSpot p
+  pub after : IsBelow low (abscissa_in d p)
+  pub before : IsBelow (abscissa_in d p) high
+  pub first : is_in_solid s p ≡ true
+  pub second : is_in_solid t p ≡ true
+
+-- both products are present in gap j, which lies between two lines, and their heights overlap
+pub record OverlapInGap (m : Building) (d : Arrow) (order : List ℕ) (q r : Product) (j : ℕ)
+    : Type 0 where
+  pub real : IsRealGap d (edges_at (plan_edges m) order) j
+  pub first : is_present (edges_before (plan_edges m) order j) q.number ≡ true
+  pub second : is_present (edges_before (plan_edges m) order j) r.number ≡ true
+  pub under : q.prism.z0 <ℤ r.prism.z1
+  pub over : r.prism.z0 <ℤ q.prism.z1
 
 -- the coarse label behind these edges, at the height of p
 abbrev pub label_in_gap : Building → Spot → List PlanEdge → Label
