@@ -30,3 +30,6 @@ pub mod GapsOfPoints
 pub mod ThroughGaps
 pub mod RealGaps
 pub mod OverlapInGaps
+-- slabs and orders of worked models
+pub mod OrdersByTests
+mod Examples

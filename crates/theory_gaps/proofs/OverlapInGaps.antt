@@ -1,15 +1,14 @@
 -- Two products have a common inner point over a slab exactly where both are present in one of its gaps
 -- between two lines, and their heights overlap.
-use Rattle.std.proofs.Common.{◌≡◌, refl, sym, ap, ap₂, ◌∙◌, arith, subst, ◌↔◌, ◌⊎◌, inl, inr, ℕ, zero, suc}
+use Rattle.std.proofs.Common.{◌≡◌, refl, sym, ap, ap₂, ◌∙◌, arith, subst, ◌⊎◌, inl, inr, ℕ, zero, suc}
 use Rattle.std.proofs.Common.{ℤ, pos, ◌+ℤ◌, ◌*ℤ◌, ◌<ℤ◌, ◌≤ℤ◌, ◌==◌, Bool, true, false, not, ◌&&◌, IsTrue}
-use Rattle.std.proofs.Common.{List, [], ◌∷◌, ◌++◌, Option, Some, None, slice_get, take, drop, int_lt}
+use Rattle.std.proofs.Common.{List, [], ◌∷◌, Some, slice_get, take, drop, int_lt}
 use Rattle.std.specs.List.{AllByRecursion, list_any}
-use Rattle.std.proofs.lemmas.Int.{ints, by_lt_z}
+use Rattle.std.proofs.lemmas.Int.{ints}
 use Rattle.std.proofs.lemmas.Bool.{and_parts, and_from, false≢true}
 use Rattle.std.proofs.lemmas.List.{take-append-drop}
 use Rattle.theory_lists.specs.Members.{Stands}
 use Rattle.theory_lists.specs.Parity.{differ, is_odd_number}
-use Rattle.theory_lists.specs.Parted.{IsPartedAt}
 use Rattle.theory_lists.proofs.Members.{all_follow, all_stands, all_that_stand}
 use Rattle.theory_lists.proofs.InAnyOrder.{stands_permuted}
 use Rattle.theory_lists.proofs.Parity.{is_odd_number-same, is_odd_number-append, differ-false, odd_where_same}
@@ -32,21 +31,20 @@ use Rattle.sb_fraction.specs.Edges.{Edge, is_on}
 use Rattle.sb_fraction.specs.Crossings.{ends_over}
 use Rattle.sb_fraction.specs.Lines.{flat, in_frame, line_over, reaches_past}
 use Rattle.sb_fraction.specs.Spots.{Spot, spot, IsSpot}
-use Rattle.theory_plans.specs.Alike.{scaled}
 use Rattle.theory_plans.specs.Inside.{is_in_plan, is_crossed}
 use Rattle.theory_plans.specs.LoopEdges.{edges_of}
 use Rattle.theory_plans.proofs.PointsAlike.{inside_sees_no_factor}
 use Rattle.sb_model.specs.Building.{Building, is_building}
-use Rattle.sb_model.specs.PlanEdges.{Product, PlanEdge, plan_edges, products_of, is_abscissa}
+use Rattle.sb_model.specs.PlanEdges.{Product, PlanEdge, plan_edges, products_of}
 use Rattle.sb_model.specs.Solids.{Upright, is_upright, is_in_solid, is_between_heights, is_height}
 use Rattle.theory_plans.specs.Plans.{is_plan}
 use Rattle.theory_models.proofs.EdgesOfProducts.{own_edges, plan_of_solid, products_are_solid}
-use Rattle.theory_parity.specs.Below.{IsWay, abscissa_in, value_of, spot_in, is_lower_at, is_up_to_at}
+use Rattle.theory_parity.specs.Below.{IsWay, abscissa_in, value_of, spot_in, is_lower_at}
 use Rattle.theory_parity.proofs.BelowByValue.{spot_in_is, abscissa_of_spot}
 use Rattle.theory_parity.proofs.BelowFlips.{reaching_is_line}
 use Rattle.theory_parity.proofs.InsideByValues.{HoldsNoEnd, inside_by_values}
 use Rattle.theory_lines.specs.Slabs.{IsSlab, IsSlabOrder, spanning_places, has_passing, is_lower_place}
-use Rattle.theory_lines.proofs.SlabOrderIsOne.{SpansAt, spans_at}
+use Rattle.theory_lines.proofs.SlabOrderIsOne.{spans_at}
 use Rattle.theory_gaps.specs.Gaps.{with_one, edges_at, edges_before, is_present, IsRealGap, IsStrictlyIn}
 use Rattle.theory_gaps.specs.Gaps.{IsGapOf, IsCommonOver, OverlapInGap}
 use Rattle.theory_gaps.specs.Laws.{HasRealGaps, HasOverlapInGaps}
