@@ -33,3 +33,4 @@ pub mod OverlapInGaps
 -- slabs and orders of worked models
 pub mod OrdersByTests
 mod Examples
+mod ExamplesUpAndDown
