@@ -143,9 +143,12 @@ module _ (m : Building) (e : PlanEdge) (e_in : Stands e (plan_edges m)) (steps :
 
   frame_is_way : IsWay (frame_of (normal_of e.edge))
   frame_is_way =
-      omega
-      (arith, ints, normal_is_some e.edge steps,
-      unit_is (normal_of e.edge) p ((side_over e.edge).position) starts)
+      omega (
+        arith,
+        ints,
+        normal_is_some e.edge steps,
+        unit_is (normal_of e.edge) p ((side_over e.edge).position) starts,
+      )
 
   turned_way : (x y : ℤ) → IsWay (arrow (neg_ℤ x) (neg_ℤ y)) → IsWay (arrow x y)
   turned_way x y way = omega (arith, ints, way, square)

@@ -217,10 +217,10 @@ module _ (m : Building) (valid : IsTrue (is_building m)) (d low high : Arrow) (d
         not_lower [] over lower = tt
         not_lower (e ∷ es) over lower = (
           let off : is_below (value_of d u e.edge) v ≡ false =
-          ap (λ b. b && is_below (value_of d u e.edge) v) (sym over.0.1) ∙ lower.0 in
-          let low = not_less_from (pos 0) (cross (value_of d u e.edge) v) off in
-          let turn = cross-turn (value_of d u e.edge) v in
-          omega (arith, ints),
+              ap (λ b. b && is_below (value_of d u e.edge) v) (sym over.0.1) ∙ lower.0 in
+              let low = not_less_from (pos 0) (cross (value_of d u e.edge) v) off in
+              let turn = cross-turn (value_of d u e.edge) v in
+              omega (arith, ints),
           not_lower es over.1 lower.1,
         )
 

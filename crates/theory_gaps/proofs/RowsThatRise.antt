@@ -126,9 +126,13 @@ module _ (d u : Arrow) (u_in : IsRational u) (x0 : ℤ) where
         by : (r b : Bool) → reaches_past d u e.edge ≡ r → is_behind e ≡ b
             → AllByRecursion IsPassed (passed_of es)
             → AllByRecursion IsPassed (cond (r && b) (e ∷ passed_of es) (passed_of es))
-        by true true past least rest =
-            ((there.0,
-            (past, at_most_from (pos 0) (cross (value_of d u e.edge) (rational x0 (pos 1))) least)), rest)
+        by true true past least rest = (
+          (
+            there.0,
+            (past, at_most_from (pos 0) (cross (value_of d u e.edge) (rational x0 (pos 1))) least),
+          ),
+          rest,
+        )
         by true false past least rest = rest
         by false b past least rest = rest
 
@@ -153,14 +157,17 @@ module _ (d u : Arrow) (u_in : IsRational u) (x0 : ℤ) where
             → AllByRecursion IsAhead (row_of es)
             → AllByRecursion IsAhead (cond (r && not b) (put e (row_of es)) (row_of es))
         by true false past more rest =
-            put_are IsAhead e (row_of es)
-            (there.0,
-            (past,
-            let order =
-            not_at_most_from (pos 0) (cross (value_of d u e.edge) (rational x0 (pos 1))) more
-            in
-            let turn = cross-turn (value_of d u e.edge) (rational x0 (pos 1)) in
-            omega (arith, ints))) rest
+            put_are IsAhead e (row_of es) (
+              there.0,
+              (
+                past,
+                let order =
+                    not_at_most_from (pos 0) (cross (value_of d u e.edge) (rational x0 (pos 1))) more
+                    in
+                    let turn = cross-turn (value_of d u e.edge) (rational x0 (pos 1)) in
+                    omega (arith, ints),
+              ),
+            ) rest
         by true true past more rest = rest
         by false b past more rest = rest
 
@@ -211,14 +218,17 @@ module _ (d u : Arrow) (u_in : IsRational u) (x0 : ℤ) where
             → AllByRecursion IsAhead (row_of es) → AllOfTwo IsNotAfter (row_of es)
             → AllOfTwo IsNotAfter (cond (r && not b) (put e (row_of es)) (row_of es))
         by true false past more all rest =
-            put_rises e (row_of es)
-            (there.0,
-            (past,
-            let order =
-            not_at_most_from (pos 0) (cross (value_of d u e.edge) (rational x0 (pos 1))) more
-            in
-            let turn = cross-turn (value_of d u e.edge) (rational x0 (pos 1)) in
-            omega (arith, ints))) all rest
+            put_rises e (row_of es) (
+              there.0,
+              (
+                past,
+                let order =
+                    not_at_most_from (pos 0) (cross (value_of d u e.edge) (rational x0 (pos 1))) more
+                    in
+                    let turn = cross-turn (value_of d u e.edge) (rational x0 (pos 1)) in
+                    omega (arith, ints),
+              ),
+            ) all rest
         by true true past more all rest = rest
         by false b past more all rest = rest
 

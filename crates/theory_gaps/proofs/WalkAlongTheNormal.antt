@@ -375,9 +375,10 @@ module _ (m : Building) (valid : IsTrue (is_building m)) (b : Arrow) (p : Spot) 
           (cond t (placed_over (e ∷ before) es) (placed_at e before ∷ placed_over (e ∷ before) es))
       by true on rest = rest
       by false alone rest = (
-        gap_label (e ∷ before) es ((one_on before e es way).whole) (lowest_terms (depth e))
-            (at_most_lowest e e way.over.0 way.over.0 (at_most_refl (value_of d u e.edge)),
-            all_at_most e before way.over.0 way.over_before way.reached.0)
+        gap_label (e ∷ before) es ((one_on before e es way).whole) (lowest_terms (depth e)) (
+          at_most_lowest e e way.over.0 way.over.0 (at_most_refl (value_of d u e.edge)),
+          all_at_most e before way.over.0 way.over_before way.reached.0,
+        )
             (none_at_most e es way.over.0 way.over.1 (all_behind before e es way alone)),
         rest,
       )
