@@ -195,7 +195,7 @@ module _ (m : Building) (valid : IsTrue (is_building m)) (b : Arrow) (p : Spot) 
 
   -- a product of the model stands at a depth where an odd number of its values lie below it, and an odd
   -- number at it or below
-  inside_by_depths : (q : Product) → Stands q (products_of m) → IsTrue (is_upright q.prism)
+  pub inside_by_depths : (q : Product) → Stands q (products_of m) → IsTrue (is_upright q.prism)
       → (t : Arrow) → IsRational t
       → is_in_plan q.prism.loops (at_depth (ray_from p (flat b)) t)
       ≡ (is_odd_below (own_depths q.number (passed ++ row)) t
@@ -221,7 +221,8 @@ module _ (m : Building) (valid : IsTrue (is_building m)) (b : Arrow) (p : Spot) 
   abbrev pub present_at : Arrow → Standing → Bool
   present_at t q = is_odd_below (values q) t && is_odd_up_to (values q) t
 
-  of_prism : (q : Product) → Stands q (products_of m) → IsTrue (is_upright q.prism) → (t : Arrow)
+  -- a product stands at a depth where it does so between its edges' depths, at its heights
+  pub of_prism : (q : Product) → Stands q (products_of m) → IsTrue (is_upright q.prism) → (t : Arrow)
       → IsRational t
       → is_in_solid q.prism (at_depth (ray_from p (flat b)) t)
       ≡ (is_odd_below

@@ -55,11 +55,14 @@ use Rattle.theory_gaps.proofs.RaysOfFaces.{side_has_no_abscissa}
 use Rattle.theory_gaps.proofs.RowsThatRise.{passed_of, row_of, is_row, below_of, are_below, all_ends}
 use Rattle.theory_gaps.proofs.RowsThatRise.{heights_above, have_heights}
 use Rattle.theory_gaps.proofs.WalkAlongTheNormal.{passages_along, walk_along}
+use Rattle.theory_gaps.proofs.WalkAlongTheNormal.{column_along}
 use Rattle.theory_gaps.proofs.WalkUpAndDown.{upright_normal, passages_through, walk_through}
+use Rattle.theory_gaps.proofs.WalkUpAndDown.{column_through}
 use Rattle.std.specs.List.{list_all}
 use Rattle.theory_numbers.specs.Arrows.{arrow}
 use Rattle.theory_numbers.specs.Arrows.{dot}
 use Rattle.theory_numbers.proofs.Ring.{neg-mul}
+use Rattle.theory_gaps.proofs.RaysWithBorders.{HasColumn}
 
 -- ---- a course that is read is that of a walk
 
@@ -125,6 +128,7 @@ pub record IsRead (m : Building) (r : Ray) : Type 0 where
   pub passages : (breaks : List (Break Label)) × ArePassages m r breaks
   pub x0 : ℤ
   pub stretches : List Stretch
+  pub column : HasColumn m r x0 stretches
   pub walks : (w : Walk) → IsWalkOf m r w ↔ (course_of w ≡ read m r.normal x0 x0 stretches)
 
 one_passages : (m : Building) (r : Ray) → IsRead m r
@@ -201,6 +205,9 @@ side_is_read m valid e steps p p_is on none =
       stretches =
           stretches_over m (flat b) p (passed_of d u p_is x0 (plan_edges m))
           (row_of d u p_is x0 (plan_edges m));
+      column =
+          column_along m valid b p x0 starts p_is some (passed_of d u p_is x0 (plan_edges m))
+          (row_of d u p_is x0 (plan_edges m)) (is_row d u p_is x0 m) over;
       walks =
           walk_along m valid b p x0 starts p_is some (passed_of d u p_is x0 (plan_edges m))
           (row_of d u p_is x0 (plan_edges m)) (is_row d u p_is x0 m) over;
@@ -224,6 +231,9 @@ upright_is_read m valid up p x0 starts p_is off =
           heights (have_heights m (upright_normal up) passed x0);
       x0 = x0;
       stretches = stretches_through m (upright_normal up) passed x0 heights;
+      column =
+          column_through m valid up p x0 starts p_is way level_is_way off passed (are_below m way p)
+          heights (have_heights m (upright_normal up) passed x0);
       walks =
           walk_through m valid up p x0 starts p_is way level_is_way off passed (are_below m way p) heights
           (have_heights m (upright_normal up) passed x0);

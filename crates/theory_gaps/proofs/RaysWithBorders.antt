@@ -23,6 +23,7 @@ use Rattle.sb_model.specs.Walks.{course_of, IsWalkOf}
 use Rattle.theory_models.proofs.RaysAlike.{along_is_spot, label_along_is_alike}
 use Rattle.theory_sight.specs.Coarse.{coarse, same_label, IsOpen, Standing, label_of_present}
 use Rattle.theory_sight.specs.Reading.{stretch, read, IsFarEnd, AreStretches}
+use Rattle.theory_sight.specs.Reading.{Stretch}
 use Rattle.theory_sight.proofs.BandsOfPrisms.{low_end_of, high_end_of}
 use Rattle.theory_sight.proofs.CrossingItems.{IsSeen, label_along}
 use Rattle.theory_sight.proofs.LayeredItems.{StartsAt, reading_at_depth}
@@ -121,6 +122,15 @@ module _ (m : Building) (r : Ray) (x0 : ℤ) where
 
 -- ---- the walk
 
+-- the labels of a ray from its start on, without layers, and the stretches that they make
+pub record HasColumn (m : Building) (r : Ray) (x0 : ℤ) (stretches : List Stretch) : Type 0 where
+  pub seen : IsSeen m r x0
+  pub first : Label
+  pub breaks : List (Break Label)
+  pub column :
+      IsReducedCutting (λ u. coarse (label_along m r u)) (Some ray_start) None first breaks
+  pub are : AreStretches m r x0 (break_at ray_start first ∷ breaks) stretches
+
 -- what is known of the products on a ray
 pub record SeesProducts (m : Building) (r : Ray) (x0 : ℤ) (bare : Bool → Label)
     (values : Standing → List Arrow) : Type 0 where
@@ -177,6 +187,16 @@ module _ (m : Building) (r : Ray) (x0 : ℤ) (bare : Bool → Label) (values : S
         (column_after_has_no_odd_point f (label_of_present m bare) values sees.has
         (label_sees_between m sees.lies.model bare sees.bare_is) ray_start start_in (depths_of steps)
         are.rise are.placed))
+
+    -- and the stretches that they make
+    pub column_there : HasColumn m r x0 (stretches_of l (borders_of steps))
+    column_there = record {
+      seen = rays_are_seen m r x0 sees.lies sees.starts;
+      first = l;
+      breaks = squash same_label l (breaks_of steps);
+      column = column;
+      are = are_stretches m r x0 ray_start l steps are.ends;
+    }
 
     -- the ray has passages
     pub passages_there : (breaks : List (Break Label)) × ArePassages m r breaks

@@ -63,6 +63,8 @@ use Rattle.theory_gaps.proofs.LabelsAlongTheNormal.{odd_of_own, values, bare, se
 use Rattle.theory_gaps.proofs.PointsOnTheRay.{frame_of, abscissa, on_at}
 use Rattle.theory_gaps.proofs.RaysWithBorders.{Placed, depths_of, borders_of, SeesProducts, AreBorders}
 use Rattle.theory_gaps.proofs.RaysWithBorders.{rays_lie_in_extents, passages_there, walk_is_read_over}
+use Rattle.theory_gaps.proofs.RaysWithBorders.{HasColumn}
+use Rattle.theory_gaps.proofs.RaysWithBorders.{column_there}
 
 -- ---- numbers in lowest terms
 
@@ -721,6 +723,15 @@ module _ (m : Building) (valid : IsTrue (is_building m)) (b : Arrow) (p : Spot) 
     labels = labels_are passed row begins;
     ends = ends_are passed row begins.over;
   }
+
+  -- the labels along the ray, and its stretches
+  pub column_along : HasColumn m (ray_from p (flat b)) x0 (stretches_over m (flat b) p passed row)
+  column_along =
+      subst
+      (λ bs. HasColumn m (ray_from p (flat b)) x0 (stretches_of (label_in_gap m p passed) bs))
+      (borders_are passed row)
+      (column_there m (ray_from p (flat b)) x0 open_there seen sees (label_in_gap m p passed)
+      (placed_over passed row) are_borders)
 
   -- a level ray from a whole position over no abscissa has passages
   pub passages_along : (breaks : List (Break Label)) × ArePassages m (ray_from p (flat b)) breaks

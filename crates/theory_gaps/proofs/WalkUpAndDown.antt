@@ -73,6 +73,8 @@ use Rattle.theory_gaps.specs.Borders.{stretches_through, IsCounted, HaveHeights}
 use Rattle.theory_gaps.proofs.LabelsAlongTheNormal.{stacked_where_same, plan_edge, edge_stands}
 use Rattle.theory_gaps.proofs.RaysWithBorders.{Placed, depths_of, borders_of, SeesProducts, AreBorders}
 use Rattle.theory_gaps.proofs.RaysWithBorders.{rays_lie_in_extents, passages_there, walk_is_read_over}
+use Rattle.theory_gaps.proofs.RaysWithBorders.{HasColumn}
+use Rattle.theory_gaps.proofs.RaysWithBorders.{column_there}
 use Rattle.theory_lists.proofs.Blocks.{none_where}
 use Rattle.theory_numbers.proofs.Arrows.{cross-self}
 use Rattle.theory_numbers.proofs.Arrows.{cross-turn}
@@ -367,7 +369,7 @@ module _ (m : Building) (valid : IsTrue (is_building m)) (up : Bool) (p : Spot) 
   abbrev r : Ray
   r = ray_from p (upright_normal up)
 
-  abbrev depth : ℤ → Arrow
+  abbrev pub depth : ℤ → Arrow
   depth z = depth_from x0 z
 
   some : pos 0 <ℤ inner (upright_normal up) (upright_normal up)
@@ -378,7 +380,7 @@ module _ (m : Building) (valid : IsTrue (is_building m)) (up : Bool) (p : Spot) 
       by false = omega (arith, ints)
 
   -- entry and exit of a prism whose product is present
-  abbrev ends_if : Bool → Upright → List Arrow
+  abbrev pub ends_if : Bool → Upright → List Arrow
   ends_if present s =
       if present
       then depth (entry_along (upright_normal up) s) ∷ depth (exit_along (upright_normal up) s) ∷ []
@@ -411,7 +413,7 @@ module _ (m : Building) (valid : IsTrue (is_building m)) (up : Bool) (p : Spot) 
       (found_there (λ x. x.number) e m.elements ((own_numbers m valid).elements.rise) e_in)
 
   -- a solid is entered before it is left
-  entry_first : (s : Upright) → IsTrue (is_upright s)
+  pub entry_first : (s : Upright) → IsTrue (is_upright s)
       → entry_along (upright_normal up) s <ℤ exit_along (upright_normal up) s
   entry_first s solid = by up
     where
@@ -436,7 +438,8 @@ module _ (m : Building) (valid : IsTrue (is_building m)) (up : Bool) (p : Spot) 
   present_at t the_ground =
       if up then is_odd_up_to (values the_ground) t else is_odd_below (values the_ground) t
 
-  of_prism : (q : Product) → Stands q (products_of m) → IsTrue (is_upright q.prism) → (t : Arrow)
+  -- a product stands at a depth between its entry and its exit, where it is present
+  pub of_prism : (q : Product) → Stands q (products_of m) → IsTrue (is_upright q.prism) → (t : Arrow)
       → IsRational t
       → is_in_solid q.prism (at_depth (ray_from p (upright_normal up)) t)
       ≡ (is_odd_below (ends_if (is_present passed q.number) q.prism) t
@@ -766,6 +769,18 @@ module _ (m : Building) (valid : IsTrue (is_building m)) (up : Bool) (p : Spot) 
       labels = labels_are heights;
       ends = ends_are heights;
     }
+
+    -- the labels along the ray, and its stretches
+    pub column_through : HasColumn m (ray_from p (upright_normal up)) x0
+        (stretches_through m (upright_normal up) passed x0 heights)
+    column_through =
+        subst
+        (λ bs.
+        HasColumn m (ray_from p (upright_normal up)) x0
+        (stretches_of (label_behind m (upright_normal up) passed x0) bs))
+        (borders_are heights)
+        (column_there m (ray_from p (upright_normal up)) x0 (bare_around up) values sees
+        (label_behind m (upright_normal up) passed x0) steps are_borders)
 
     -- a ray up or down has passages
     pub passages_through : (breaks : List (Break Label))
