@@ -1,0 +1,20 @@
+-- What is shown of the crate.
+mod LeastComesFirst
+mod ProductsFit
+mod EdgesCross
+mod RisingLists
+mod NumbersInOrder
+mod ApartAlongX
+mod PairsOfEdges
+mod AsManyAtMost
+mod PointsOnce
+mod StepsOfFinding
+mod SortedOnce
+mod AbscissaeAre
+mod AbscissaeFound
+mod NetworkFound
+mod TakenFirst
+mod ReadInOrder
+mod PutInOrder
+mod DirectionsAre
+mod ReducedSizes
