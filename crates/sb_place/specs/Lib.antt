@@ -1,0 +1,7 @@
+pub mod Sight
+pub mod Directions
+pub mod Positions
+pub mod Chains
+pub mod Judgement
+pub mod Kept
+pub mod Steps
