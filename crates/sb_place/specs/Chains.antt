@@ -1,7 +1,6 @@
 -- The chain of placements (IfcLocalPlacement) from a product upwards, and where it ends.
-use Rattle.std.specs.Prelude.{◌≡◌, ℕ, pos, ◌-◌, ◌<◌, ◌++◌, Bool, true, false, not, ◌||◌, ◌&&◌, nat_eq, List, [], ◌∷◌}
-use Rattle.std.specs.Prelude.{Option, Some, None, is_some, if◌then◌else◌}
-use Rattle.std.specs.List.{list_any}
+use Rattle.std.specs.Prelude.{◌≡◌, ℕ, pos, ◌-◌, ◌<◌, ◌++◌, Bool, false, not, nat_eq, List, [], ◌∷◌}
+use Rattle.std.specs.Prelude.{Option, Some, None, is_some}
 use Rattle.sb_fraction.specs.declared.unit.Unit as units
 use Rattle.theory_turns.specs.Turns.{then_of}
 use Rattle.sb_step.specs.Indexed.{Indexed}
@@ -51,6 +50,10 @@ abbrev pub ShowsNext : Indexed → ℕ → (Option ℕ → Type 0) → Link → 
 ShowsNext indexed n claim (seen.Shown s) last = ShowsPlacement indexed n claim s
 ShowsNext indexed n claim l last = Sees rows.local_placement indexed n (λ _. ⊥) l × last
 
+-- no placement follows, and the end is not reached
+abbrev pub IsLost : List Link → Bool → Type 0
+IsLost links reached = (links ≡ []) × (reached ≡ false)
+
 -- These are the placements from this one upwards, with `left` of them to be read at most: each is
 -- relative to the next one, and `reached` says whether the chain ends where it should.
 abbrev pub IsChain : Indexed → Option ℕ → ℕ → Option ℕ → List Link → Bool → Type 0
@@ -58,7 +61,7 @@ IsChain indexed building left from [] reached = Stops building left from reached
 IsChain indexed building left from (l ∷ links) reached =
     (n : ℕ) × (from ≡ Some n) × (is_at building n ≡ false) × (0 < left)
     × ShowsNext indexed n (λ above. IsChain indexed building (left - 1) above links reached) l
-    ((links ≡ []) × (reached ≡ false))
+    (IsLost links reached)
 
 -- ---- what is at fault
 

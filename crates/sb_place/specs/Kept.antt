@@ -3,13 +3,14 @@ use Rattle.std.specs.Prelude.{◌≡◌, ◌≤◌, ℕ, ◌+◌, Bool, List, []
 use Rattle.std.specs.Prelude.{Option, Some, None, option_map, slice_get}
 use Rattle.std.specs.List.{list_any}
 use Rattle.sb_fraction.specs.declared.unit.Unit as units
+use Rattle.sb_step.specs.Indexed.{Indexed}
 use Rattle.sb_place.specs.declared.sight.Seen.{Seen}
 use Rattle.sb_place.specs.declared.position.Position.{Position}
 use Rattle.sb_place.specs.declared.position.Local.{Local}
-use Rattle.sb_place.specs.declared.placed.Sighting.{Sighting}
-use Rattle.sb_place.specs.declared.placed.Placed.{Placed}
+use Rattle.sb_place.specs.declared.kept.Sighting.{Sighting}
+use Rattle.sb_place.specs.declared.kept.Placed.{Placed}
 use Rattle.sb_place.specs.Positions as position
-use Rattle.sb_place.specs.Chains.{Link, most_placements, is_stray, is_turned, is_far, broken_of, absent_of, frame_of}
+use Rattle.sb_place.specs.Chains.{Link, IsChain, most_placements, is_stray, is_turned, is_far, broken_of, absent_of, frame_of}
 
 -- what a position says: the first of its instances that is not of its row, the first that is absent, its
 -- other faults, and its frame
@@ -41,6 +42,10 @@ nearest of (l ∷ links) = nearest_of (of l) (nearest of links)
 abbrev pub counted : ℕ → ℕ
 counted n = if nat_le n most_placements then n else most_placements + 1
 
+-- the same with one placement more
+abbrev pub below : ℕ → ℕ
+below n = if nat_le n most_placements then n + 1 else n
+
 -- the placements that are read of a chain from its lowest placement upwards
 abbrev pub read_of : List Link → List Link
 read_of links = take most_placements links
@@ -59,3 +64,12 @@ pub record IsKept (u : units.Unit) (links : List Link) (reached : Bool) (placed 
   pub turned : placed.turned ≡ list_any is_turned links
   pub far : placed.far ≡ list_any (is_far u) links
   pub frame : length links ≤ most_placements → placed.frame ≡ frame_of u links
+
+-- what is kept of the chain from this reference upwards, of which so many placements are read at most
+pub record IsPlaced (indexed : Indexed) (building : Option ℕ) (u : units.Unit) (left : ℕ) (from : Option ℕ)
+    (placed : Placed) : Type 0 where
+  pub links : List Link
+  pub reached : Bool
+  pub few : length links ≤ left
+  pub chain : IsChain indexed building left from links reached
+  pub kept : IsKept u links reached placed

@@ -3,5 +3,6 @@ pub mod Directions
 pub mod Positions
 pub mod Chains
 pub mod Judgement
+pub mod Sizes
 pub mod Kept
 pub mod Steps

@@ -1,6 +1,6 @@
 -- Positions: an origin and the directions of the local axes (IfcAxis2Placement3D and
 -- IfcAxis2Placement2D), and the frame that they give.
-use Rattle.std.specs.Prelude.{◌≡◌, ℕ, ℤ, pos, ◌++◌, Bool, true, false, ◌||◌, not, nat_le, unsigned_abs, List, [], ◌∷◌, take}
+use Rattle.std.specs.Prelude.{◌≡◌, ℕ, pos, ◌++◌, Bool, true, false, ◌||◌, not, nat_le, unsigned_abs, List, take}
 use Rattle.std.specs.Prelude.{Option, Some, None, is_some, if◌then◌else◌}
 use Rattle.sb_fraction.specs.declared.unit.Unit as units
 use Rattle.sb_fraction.specs.Spots.{Vector, vector}

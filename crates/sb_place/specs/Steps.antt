@@ -5,7 +5,7 @@ use Rattle.sb_schema.specs.declared.error.ViewError.{ViewError}
 use Rattle.sb_schema.specs.declared.error.ViewError.TheVariants as view_error
 use Rattle.sb_place.specs.declared.sight.Seen.{Seen}
 use Rattle.sb_place.specs.declared.sight.Seen.TheVariants as seen
-use Rattle.sb_place.specs.declared.placed.Sighting.{Sighting}
+use Rattle.sb_place.specs.declared.kept.Sighting.{Sighting}
 use Rattle.sb_place.specs.Kept.{from_below}
 
 -- what is seen by a view

@@ -5,12 +5,20 @@
 //! `specs/Judgement.antt`, what is answered of it.
 #![tactic(auto)]
 
+mod directions;
 mod error;
+mod frames;
+mod kept;
 mod placed;
 mod position;
+mod reading;
 mod sight;
 
+pub use crate::directions::axis_of;
 pub use crate::error::PlaceError;
-pub use crate::placed::{Placed, Sighting};
-pub use crate::position::{Local, Position};
+pub use crate::frames::frame_of;
+pub use crate::kept::{Placed, Sighting};
+pub use crate::placed::placed_on;
+pub use crate::position::{Local, Position, told};
+pub use crate::reading::{plan_position, space_position};
 pub use crate::sight::Seen;
