@@ -1,5 +1,5 @@
 -- What is kept of a chain is what is judged.
-use Rattle.std.proofs.Common.{◌≡◌, ℕ, ◌-◌, ◌<◌, Bool, true, false, not, ◌&&◌, nat_le, List, [], ◌∷◌, length, Option, Some, None, is_some, Result, Ok, Err, IfOk, arith, refl, sym, subst}
+use Rattle.std.proofs.Common.{◌+◌, ◌≤◌, zero, suc, take, ap, ◌≡◌, ℕ, ◌-◌, ◌<◌, Bool, true, false, not, ◌&&◌, nat_le, List, [], ◌∷◌, length, Option, Some, None, is_some, Result, Ok, Err, IfOk, arith, refl, sym, subst}
 use Rattle.std.proofs.lemmas.List.{take_all}
 use Rattle.std.proofs.lemmas.Bool.{le-leb, false≢true}
 use Rattle.sb_fraction.specs.declared.unit.Unit as units
@@ -17,7 +17,7 @@ use Rattle.sb_place.specs.declared.kept.Placed.{Placed}
 use Rattle.sb_place.specs.Positions.{IsSpacePosition}
 use Rattle.sb_place.specs.Chains.{Link, Stops, IsChain, IsLost, ShowsNext, is_at}
 use Rattle.sb_place.specs.Judgement.{Judges, IsFrameOf}
-use Rattle.sb_place.specs.Kept.{IsKept, IsPlaced, read_of, is_reached_by}
+use Rattle.sb_place.specs.Kept.{IsKept, IsKeptOf, IsPlaced, read_of, is_reached_by}
 
 -- ---- where a chain ends
 
@@ -129,3 +129,95 @@ pub goes_on_if : (indexed : Indexed) (building : Option ℕ) (u : units.Unit) (l
 goes_on_if indexed building u left n axes relative_to above (Ok placed) apart more gives upper on =
     goes_on indexed building u left n axes relative_to on.0 above placed apart more gives on.1 upper on.2
 goes_on_if indexed building u left n axes relative_to above (Err e) apart more gives upper on = tt
+
+-- ---- the placements that are read of a whole chain
+
+whole_ends : (building from : Option ℕ) (k : ℕ) (reached : Bool) → Stops building 1 from reached
+    → Stops building k from reached
+whole_ends building None k reached stops = stops
+whole_ends building (Some n) k reached stops =
+    (stops.0, λ lost. absurd (let none : 1 ≡ 0 = stops.1 lost in omega (arith, none)))
+
+all_there : (reached : Bool) (k : ℕ) → (reached && nat_le 0 k) ≡ reached
+all_there reached k = and_true reached (nat_le 0 k) (le-leb 0 k (omega arith))
+
+lost_by : (reached few : Bool) → few ≡ false → (reached && few) ≡ false
+lost_by true few is = is
+lost_by false few is = refl
+
+none_in_none : (n : ℕ) → nat_le (suc n) 0 ≡ false
+none_in_none n = grind arith
+
+less_by_one : (n k : ℕ) → nat_le (suc n) (suc k) ≡ nat_le n k
+less_by_one n k = grind arith
+
+one_back : (n : ℕ) → suc n + 1 - 1 ≡ n + 1
+one_back n = omega arith
+
+less_one : (k : ℕ) → k ≡ suc k - 1
+less_one k = omega arith
+
+-- one placement of the whole chain, and those above it
+next_of : (indexed : Indexed) (n : ℕ) (whole part : Option ℕ → Type 0) (l : Link) (last some_last : Type 0)
+    → ((above : Option ℕ) → whole above → part above) → (last → some_last)
+    → ShowsNext indexed n whole l last → ShowsNext indexed n part l some_last
+next_of indexed n whole part (seen.Shown s) last some_last of of_last shows = record {
+  relative_to = shows.relative_to;
+  axes = shows.axes;
+  gives = shows.gives;
+  position = shows.position;
+  above = of shows.relative_to shows.above;
+}
+next_of indexed n whole part (seen.Absent m) last some_last of of_last shows = (shows.0, of_last shows.1)
+next_of indexed n whole part (seen.Broken m) last some_last of of_last shows = (shows.0, of_last shows.1)
+next_of indexed n whole part seen.Other last some_last of of_last shows = (shows.0, of_last shows.1)
+
+-- the first placements of a whole chain are those that are read
+first_are_read : (indexed : Indexed) (building : Option ℕ) (k : ℕ) (from : Option ℕ) (links : List Link)
+    (reached : Bool) → IsChain indexed building (length links + 1) from links reached
+    → IsChain indexed building k from (take k links) (reached && nat_le (length links) k)
+first_are_read indexed building k from [] reached chain =
+    rw (take_all {A = Link} k [] (omega arith)) (rw (all_there reached k) (whole_ends building from k reached chain))
+first_are_read indexed building zero from (l ∷ links) reached chain =
+    let lost = lost_by reached (nat_le (length (l ∷ links)) 0) (none_in_none (length links)) in
+    rw lost (rw chain.1 (sym chain.2, λ _. refl))
+first_are_read indexed building (suc k) from (l ∷ links) reached chain = (
+  chain.0,
+  chain.1,
+  chain.2,
+  omega arith,
+  next_of indexed chain.0
+  (λ above. IsChain indexed building (length (l ∷ links) + 1 - 1) above links reached)
+  (λ above. IsChain indexed building (suc k - 1) above (take k links) (reached && nat_le (length (l ∷ links)) (suc k)))
+  l (IsLost links reached) (IsLost (take k links) (reached && nat_le (length (l ∷ links)) (suc k)))
+  (λ above upper. later above (first_are_read indexed building k above links reached (whole above upper)))
+  (λ last. (
+    rw last.0 (take_all {A = Link} k [] (omega arith)),
+    ap (λ r. r && nat_le (length (l ∷ links)) (suc k)) last.1,
+  ))
+  chain.4,
+)
+  where
+    whole : (above : Option ℕ) → IsChain indexed building (length (l ∷ links) + 1 - 1) above links reached
+        → IsChain indexed building (length links + 1) above links reached
+    whole above upper =
+        subst (λ j. IsChain indexed building j above links reached) (one_back (length links)) upper
+
+    later : (above : Option ℕ)
+        → IsChain indexed building k above (take k links) (reached && nat_le (length links) k)
+        → IsChain indexed building (suc k - 1) above (take k links)
+        (reached && nat_le (length (l ∷ links)) (suc k))
+    later above upper =
+        subst (λ j. IsChain indexed building j above (take k links)
+        (reached && nat_le (length (l ∷ links)) (suc k))) (less_one k)
+        (subst (λ b. IsChain indexed building k above (take k links) (reached && b))
+        (sym (less_by_one (length links) k)) upper)
+
+-- so what is judged of them is the frame
+pub whole_is : (indexed : Indexed) (placement building : Option ℕ) (u : units.Unit) (placed : Placed)
+    (result : Result Frame PlaceError) (is : IsKeptOf indexed building u placement placed)
+    → Judges u (read_of is.links) (is_reached_by is.links is.reached) result
+    → IsFrameOf indexed placement building u result
+whole_is indexed placement building u placed result is judges =
+    frame_is indexed placement building u (read_of is.links) (is_reached_by is.links is.reached) result
+    (first_are_read indexed building 64 placement is.links is.reached is.chain) judges

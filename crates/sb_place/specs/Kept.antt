@@ -73,3 +73,12 @@ pub record IsPlaced (indexed : Indexed) (building : Option ℕ) (u : units.Unit)
   pub few : length links ≤ left
   pub chain : IsChain indexed building left from links reached
   pub kept : IsKept u links reached placed
+
+-- what is kept of the whole chain from this reference upwards, however long it is: more placements might
+-- be read than it has
+pub record IsKeptOf (indexed : Indexed) (building : Option ℕ) (u : units.Unit) (from : Option ℕ)
+    (placed : Placed) : Type 0 where
+  pub links : List Link
+  pub reached : Bool
+  pub chain : IsChain indexed building (length links + 1) from links reached
+  pub kept : IsKept u links reached placed

@@ -7,7 +7,8 @@ ghost use Rattle.sb_place.specs.declared.sight.Seen.TheVariants as seen;
 ghost use Rattle.sb_place.specs.declared.position.Position.{Position};
 ghost use Rattle.sb_place.specs.Positions.{IsSpacePosition};
 ghost use Rattle.sb_place.specs.Chains as chain;
-ghost use Rattle.sb_place.specs.Judgement.{Judges, is_shift, greatest_shift, is_broken_off, is_out_of_range};
+ghost use Rattle.sb_place.specs.Judgement.{Judges, is_shift, greatest_shift, is_broken_off, is_out_of_range, IsFrameOf};
+ghost use Rattle.sb_step.specs.Indexed.{Indexed};
 ghost use Rattle.sb_place.specs.Steps.{nearest_read, read_below};
 ghost use Rattle.theory_turns.specs.Turns.{is_quarter};
 ghost use Rattle.sb_place.specs.Sizes.{fits_at, are_lengths};
@@ -132,7 +133,10 @@ impl Placed {
     /// Turned and Range. It tells what is read of them from the lowest upwards, at most 64: where there
     /// are more it is `Chain`, unless one of these 64 is at fault before.
     pub fn frame(&self) -> Result<Frame, PlaceError>
-        ensures { (unit : units.Unit) (links : List chain.Link) (reached : Bool)
+        ensures whole { (indexed : Indexed) (building placement : Option ℕ) (unit : units.Unit)
+            → spec.IsKeptOf indexed building unit placement self.now
+            → IsFrameOf indexed placement building unit result }
+        ensures read { (unit : units.Unit) (links : List chain.Link) (reached : Bool)
             → spec.IsKept unit links reached self.now
             → Judges unit (spec.read_of links) (spec.is_reached_by links reached) result }
     {
