@@ -1,0 +1,2 @@
+mod OneFirst
+mod EachFileSays

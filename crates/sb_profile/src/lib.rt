@@ -1,0 +1,13 @@
+//! What is read of the file of a building, and its first defect.
+//!
+//! Read `specs/Contents.antt` first, what a file says, then `specs/Products.antt`, which products are
+//! taken, `specs/Following.antt`, which instances are read, and `specs/Defects.antt`, what is a defect.
+#![tactic(auto)]
+
+mod defects;
+mod laws;
+mod places;
+
+pub use crate::defects::{Code, Defect};
+pub use crate::laws::{each_file_says, one_first_defect};
+pub use crate::places::Place;
