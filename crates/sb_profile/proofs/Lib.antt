@@ -1,2 +1,3 @@
 mod OneFirst
 mod EachFileSays
+mod Examples
