@@ -1,6 +1,6 @@
 -- What an indexed file says: each instance has one list of parameters, and a row gives of an instance what
 -- it gives of these.
-use Rattle.std.proofs.Common.{◌≡◌, ℕ, nat_eq, Bool, true, false, List, [], ◌∷◌, Option, Some, None, refl, sym, ap, ◌∙◌, if◌then◌else◌, ◌↔◌}
+use Rattle.std.proofs.Common.{◌≡◌, ℕ, nat_eq, Bool, true, false, List, [], Option, Some, None, refl, ap, ◌∙◌, ◌↔◌}
 use Rattle.std.specs.Map.{lookup}
 use Rattle.std.specs.Prelude.{option_and_then}
 use Rattle.sb_step.specs.declared.parameters.param.Param.{Param}
@@ -46,9 +46,9 @@ module _ (exist : EachInstanceHasParameters) (unique : ParametersAreUnique) (ind
       → (r : Record) × (lookup (nat_eq n) indexed.file.instances ≡ Some r)
   with_keyword keywords n None missing keyword =
       absurd (let e : keyword_of indexed n ≡ None =
-                  ap (option_and_then (λ r. keyword_by indexed.input r.start r.form)) missing in
-              let f : is_one_of keywords (keyword_of indexed n) ≡ false = ap (is_one_of keywords) e in
-              cc)
+      ap (option_and_then (λ r. keyword_by indexed.input r.start r.form)) missing in
+      let f : is_one_of keywords (keyword_of indexed n) ≡ false = ap (is_one_of keywords) e in
+      cc)
   with_keyword keywords n (Some r) here keyword = (r, here)
 
   by_keyword : (row : Row) → Bool → List Param → Option (Values row.read)
@@ -78,8 +78,8 @@ module _ (exist : EachInstanceHasParameters) (unique : ParametersAreUnique) (ind
   unfolding by_keyword
   gives_back row n vs gives =
       let same : params_of n ≡ gives.parameters =
-          unique indexed n (params_of n) gives.parameters
-              (params_has n gives.are.record_of gives.are.found) gives.are in
+      unique indexed n (params_of n) gives.parameters
+      (params_has n gives.are.record_of gives.are.found) gives.are in
       ap (λ b. by_keyword row b (params_of n)) gives.keyword ∙ (ap (values row) same ∙ gives.give)
 
   -- the file says this, with the schema that it has

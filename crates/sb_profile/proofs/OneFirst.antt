@@ -1,6 +1,6 @@
 -- Of some codes there is one first defect, or none; it stays the first whatever codes follow, and where
 -- there is none the first of those that follow is the first of all.
-use Rattle.std.proofs.Common.{◌≡◌, ℕ, ◌≤◌, ◌⊎◌, inl, inr, List, [], ◌∷◌, ◌++◌, Option, Some, None, sym, ap, ◌∙◌, arith}
+use Rattle.std.proofs.Common.{◌≡◌, ℕ, ◌≤◌, inl, inr, List, [], ◌∷◌, ◌++◌, Option, Some, None, sym, ap, ◌∙◌, arith}
 use Rattle.sb_profile.specs.declared.defects.Code.{Code}
 use Rattle.sb_profile.specs.declared.defects.Defect.{Defect}
 use Rattle.sb_profile.specs.Lowest.{IsLowest}

@@ -1,5 +1,5 @@
 -- The entities that are read, a name for each row of their table, and which of them is wanted where.
-use Rattle.std.specs.Prelude.{Bool, true, false, List, [], ◌∷◌}
+use Rattle.std.specs.Prelude.{List, [], ◌∷◌}
 use Rattle.sb_schema.specs.Table.{Row}
 use Rattle.sb_schema.specs.Rows as rows
 use Rattle.sb_profile.specs.declared.places.Place.{Place}

@@ -1,6 +1,5 @@
 -- The unit of the lengths of a file, by its one IFCUNITASSIGNMENT and the IFCSIUNIT that this lists.
-use Rattle.std.specs.Prelude.{ℕ, Bool, true, false, ◌&&◌, ◌||◌, ◌==◌, List, [], ◌∷◌, length, filter, filter_map, slice_get, Option, Some, None, option_map, option_and_then, codes, if◌then◌else◌}
-use Rattle.std.specs.Str.{bytes_eq}
+use Rattle.std.specs.Prelude.{ℕ, Bool, ◌&&◌, ◌==◌, List, [], ◌∷◌, length, filter, filter_map, slice_get, Option, Some, None, option_map, option_and_then, codes, if◌then◌else◌}
 use Rattle.sb_fraction.specs.declared.unit.Unit as unit
 use Rattle.sb_fraction.specs.declared.unit.Unit.TheVariants as units
 use Rattle.sb_step.specs.declared.parameters.param.Param.{Param}

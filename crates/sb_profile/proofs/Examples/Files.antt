@@ -1,5 +1,5 @@
 -- A file as a table for each entity, with the keywords of its instances.
-use Rattle.std.proofs.Common.{ℕ, nat_eq, List, [], ◌∷◌, map, Option, Some, None}
+use Rattle.std.proofs.Common.{ℕ, nat_eq, List, [], map, Option, Some, None}
 use Rattle.std.specs.Prelude.{codes, option_and_then, unwrap_or}
 use Rattle.std.specs.Map.{lookup}
 use Rattle.sb_step.specs.declared.parameters.param.Param.{Param}

@@ -1,5 +1,5 @@
 -- What elements are made of, with relations in any order.
-use Rattle.std.proofs.Common.{◌≡◌, List, [], ◌∷◌, Some, None, refl}
+use Rattle.std.proofs.Common.{◌≡◌, [], ◌∷◌, Some, None, refl}
 use Rattle.std.specs.Prelude.{codes}
 use Rattle.sb_profile.specs.Materials.{own_material, type_of, material_of}
 use Rattle.sb_profile.proofs.Examples.Files.{Tables, file_of, no_tables}

@@ -1,5 +1,5 @@
 -- Products that are taken, and some that just are not.
-use Rattle.std.proofs.Common.{◌≡◌, List, [], ◌∷◌, Some, None, true, false, refl}
+use Rattle.std.proofs.Common.{◌≡◌, [], ◌∷◌, Some, None, true, false, refl}
 use Rattle.std.specs.Prelude.{codes}
 use Rattle.sb_profile.specs.Products.{is_space, is_element, is_opening, is_filling, is_taken, voiding, element_of, opening_of}
 use Rattle.sb_profile.proofs.Examples.Files.{Tables, file_of, no_tables}
