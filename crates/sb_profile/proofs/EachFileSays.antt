@@ -39,6 +39,17 @@ module _ (exist : EachInstanceHasParameters) (unique : ParametersAreUnique) (ind
   unfolding params_of
   params_has n r here = found_has n r (lookup (nat_eq n) indexed.file.instances) refl here
 
+  none_found : (n : ℕ) (found : Option Record)
+      → (here : lookup (nat_eq n) indexed.file.instances ≡ found) → found ≡ None
+      → params_found n found here ≡ []
+  unfolding params_found
+  none_found n None missing none = refl
+  none_found n (Some r) here none = absurd (let e = none in cc)
+
+  params_none : (n : ℕ) → lookup (nat_eq n) indexed.file.instances ≡ None → params_of n ≡ []
+  unfolding params_of
+  params_none n missing = none_found n (lookup (nat_eq n) indexed.file.instances) refl missing
+
   -- an instance with a keyword is found
   with_keyword : (keywords : List (List ℕ)) (n : ℕ) (found : Option Record)
       → lookup (nat_eq n) indexed.file.instances ≡ found
@@ -100,6 +111,7 @@ module _ (exist : EachInstanceHasParameters) (unique : ParametersAreUnique) (ind
     numbers_are = refl;
     keyword_is = λ n. refl;
     parameters_are = params_has;
+    none_of_absent = params_none;
     given_is = λ e n vs. (
       gives_from (row_of e) n vs (is_one_of (row_of e).keywords (keyword_of indexed n)) refl,
       gives_back (row_of e) n vs,

@@ -1,3 +1,7 @@
 mod OneFirst
 mod EachFileSays
+mod ViewsAreSights
+mod KindsAreSorted
+mod LowestOfAList
+mod UnitsAreCounted
 mod Examples

@@ -1,6 +1,6 @@
 -- What a file says, as far as it is judged: its schema, the numbers of its instances, of each its keyword
 -- and its parameters, and what a view gives of it.
-use Rattle.std.specs.Prelude.{◌≡◌, ◌↔◌, ℕ, nat_eq, Bool, not, ◌&&◌, List, Option, Some, is_none}
+use Rattle.std.specs.Prelude.{◌≡◌, ◌↔◌, ℕ, nat_eq, Bool, not, ◌&&◌, List, [], Option, Some, None, is_none}
 use Rattle.std.specs.List.{list_any}
 use Rattle.std.specs.Map.{lookup}
 use Rattle.sb_step.specs.declared.parameters.param.Param.{Param}
@@ -21,7 +21,7 @@ pub record Contents : Type 0 where
   pub numbers : List ℕ
   -- the keyword of an instance; a complex one has none, nor has an absent one
   pub keyword : ℕ → Option (List ℕ)
-  -- the parameters of an instance
+  -- the parameters of an instance; a complex one has none, nor has an absent one
   pub parameters : ℕ → List Param
   -- the attributes that a row reads of an instance, if it is of this row
   pub given : (e : Entity) → ℕ → Option (Values (row_of e).read)
@@ -33,6 +33,8 @@ pub record Says (indexed : Indexed) (c : Contents) : Type 0 where
   pub keyword_is : (n : ℕ) → c.keyword n ≡ keyword_of indexed n
   pub parameters_are : (n : ℕ) (r : Record) → lookup (nat_eq n) indexed.file.instances ≡ Some r
       → HasParameters indexed n (c.parameters n)
+  pub none_of_absent : (n : ℕ) → lookup (nat_eq n) indexed.file.instances ≡ None
+      → c.parameters n ≡ []
   pub given_is : (e : Entity) (n : ℕ) (vs : Values (row_of e).read) → (c.given e n ≡ Some vs)
       ↔ Gives (row_of e) indexed n (Some vs)
 

@@ -8,3 +8,5 @@ pub mod Following
 pub mod Units
 pub mod Defects
 pub mod First
+-- what the private functions promise
+pub mod Steps

@@ -1,11 +1,15 @@
 -- The lowest number that passes a test, in a list and in a file.
-use Rattle.std.specs.Prelude.{ℕ, ◌≤◌, nat_le, nat_lt, Bool, List, [], ◌∷◌, filter, Option, Some, None, option_and_then, if◌then◌else◌}
+use Rattle.std.specs.Prelude.{ℕ, ◌≤◌, min, nat_lt, Bool, List, [], ◌∷◌, filter, Option, Some, None, option_and_then, if◌then◌else◌}
 use Rattle.sb_profile.specs.Contents.{Contents}
 
 -- the lower of a number and another, if there is another
 abbrev pub lower_of : ℕ → Option ℕ → Option ℕ
 lower_of n None = Some n
-lower_of n (Some m) = if nat_le n m then Some n else Some m
+lower_of n (Some m) = Some (min n m)
+
+-- the same, if the number counts
+abbrev pub lower_if : Bool → ℕ → Option ℕ → Option ℕ
+lower_if counts n found = if counts then lower_of n found else found
 
 -- the lowest of the numbers, if there is one
 abbrev pub lowest_of : List ℕ → Option ℕ

@@ -31,12 +31,13 @@ abbrev pub listed_units : Contents → ℕ → Option (List ℕ)
 listed_units c n =
     option_map (filter_map (λ p. reference_in (Some p))) (items_in (slice_get (c.parameters n) 0))
 
--- an IFCSIUNIT of four attributes whose type, attribute 2, is that of lengths
+-- four attributes, of which the second is the type of lengths
+abbrev pub says_length : List Param → Bool
+says_length ps = length ps == 4 && is_the (codes "LENGTHUNIT") (slice_get ps 1)
+
+-- an IFCSIUNIT of lengths
 abbrev pub is_length_unit : Contents → ℕ → Bool
-is_length_unit c n =
-    is_called (codes "IFCSIUNIT") c n
-    && (length (c.parameters n) == 4
-    && is_the (codes "LENGTHUNIT") (slice_get (c.parameters n) 1))
+is_length_unit c n = is_called (codes "IFCSIUNIT") c n && says_length (c.parameters n)
 
 -- the one that is listed: listed twice it is two
 abbrev pub length_unit : Contents → Option ℕ
@@ -44,11 +45,15 @@ length_unit c =
     option_and_then (λ members. only_one (filter (is_length_unit c) members))
     (option_and_then (listed_units c) (assignment c))
 
--- its prefix, attribute 3: none, or that of a thousandth
+-- by its prefix: none, or that of a thousandth
+abbrev pub unit_by : Bool → Option (List ℕ) → Option unit.Unit
+unit_by none prefix =
+    if none then Some units.Metre
+    else if is_one_of (codes "MILLI" ∷ []) prefix then Some units.Millimetre else None
+
+-- its prefix is attribute 3
 abbrev pub unit_by_prefix : Option Param → Option unit.Unit
-unit_by_prefix p =
-    if is_null_in p then Some units.Metre
-    else if is_the (codes "MILLI") p then Some units.Millimetre else None
+unit_by_prefix p = unit_by (is_null_in p) (enumeration_in p)
 
 -- the unit that parameters say: its name, attribute 4, is that of the metre
 abbrev pub unit_of : List Param → Option unit.Unit

@@ -4,9 +4,15 @@
 //! taken, `specs/Following.antt`, which instances are read, and `specs/Defects.antt`, what is a defect.
 #![tactic(auto)]
 
+mod buildings;
 mod defects;
+mod kinds;
 mod laws;
+mod lowest;
 mod places;
+mod seen;
+mod sights;
+mod units;
 
 pub use crate::defects::{Code, Defect};
 pub use crate::laws::{each_file_says, one_first_defect};

@@ -1,0 +1,4 @@
+-- What the private functions promise.
+pub mod Kinds
+pub mod Sights
+pub mod Counting
