@@ -4,4 +4,6 @@ mod ViewsAreSights
 mod KindsAreSorted
 mod LowestOfAList
 mod UnitsAreCounted
+mod LinksAreNoted
+mod ListsOfNumbers
 mod Examples

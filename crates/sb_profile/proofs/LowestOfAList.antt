@@ -70,7 +70,7 @@ pub lowest_below : (ns : List ℕ) (m k : ℕ) → lowest_of ns ≡ Some m → S
 lowest_below [] m k is stands = absurd stands
 lowest_below (n ∷ ns) m k is stands =
     from (lowest_of ns) (λ q later there. lowest_below ns q k later there)
-        (λ none there. lowest_none ns k none there) is stands
+    (λ none there. lowest_none ns k none there) is stands
   where
     from : (o : Option ℕ) → ((q : ℕ) → o ≡ Some q → Stands k ns → q ≤ k)
         → (o ≡ None → Stands k ns → ⊥) → lower_of n o ≡ Some m → Stands k (n ∷ ns) → m ≤ k

@@ -54,7 +54,7 @@ params_are unique indexed n (Some ps) has = λ c says.
 pub counted_member : (test : ℕ → Bool) (found : Only) (items : List Param)
     → (items ≡ [] → ⊥)
     → counted (with_member test (reference_in (slice_get items 0)) found)
-        (filter test (filter_map (λ p. reference_in (Some p)) (drop 1 items)))
+    (filter test (filter_map (λ p. reference_in (Some p)) (drop 1 items)))
     ≡ counted found (filter test (filter_map (λ p. reference_in (Some p)) items))
 counted_member test found [] some = absurd (some refl)
 counted_member test found (p ∷ ps) some = by_form (reference_in (Some p)) refl

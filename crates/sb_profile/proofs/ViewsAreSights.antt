@@ -74,7 +74,7 @@ module _ (e : Entity) {V : Type 0} (fields : V → Values (row_of e).read) (inde
   not_given other =
       none_if (c.given e n)
       (λ vs given. let gives = (says.given_is e n vs).0 given in
-          let keyword = gives.keyword in cc)
+      let keyword = gives.keyword in cc)
 
   module _ (taking : Taking) (r : Result V ViewError)
       (views : Views taking (row_of e) fields indexed n r) where
@@ -82,7 +82,7 @@ module _ (e : Entity) {V : Type 0} (fields : V → Values (row_of e).read) (inde
     of_view v is =
         let memory : HasMemory taking r = has_memory taking r (λ none. let known = is in cc) in
         let gives : Gives (row_of e) indexed n (Some (fields v)) =
-            (views.view (fields v) memory).0 (ap (λ q. seen fields q) is) in
+        (views.view (fields v) memory).0 (ap (λ q. seen fields q) is) in
         let given : c.given e n ≡ Some (fields v) = (says.given_is e n (fields v)).1 gives in
         record {
           given_is = given;
@@ -94,7 +94,7 @@ module _ (e : Entity) {V : Type 0} (fields : V → Values (row_of e).read) (inde
     of_missing m is =
         let memory : HasMemory taking r = has_memory taking r (λ none. let known = is in cc) in
         let missing : lookup (nat_eq n) indexed.file.instances ≡ None =
-            ((views.missing m memory).0 is).1 in
+        ((views.missing m memory).0 is).1 in
         let other = unkeyed (row_of e).keywords indexed n missing in
         record {
           given_is = not_given other;
@@ -117,11 +117,11 @@ module _ (e : Entity) {V : Type 0} (fields : V → Values (row_of e).read) (inde
         let memory : HasMemory taking r = has_memory taking r (λ none. let known = is in cc) in
         let gives = ((views.not_of_row m memory).0 is).1 in
         let none : c.given e n ≡ None =
-            none_if (c.given e n)
-            (λ vs given. let back : seen fields r ≡ Ok vs =
-                (views.view vs memory).1 ((says.given_is e n vs).0 given) in
-                let front : seen fields r ≡ Err (view_error.Fields m) = ap (λ q. seen fields q) is in
-                cc) in
+        none_if (c.given e n)
+        (λ vs given. let back : seen fields r ≡ Ok vs =
+        (views.view vs memory).1 ((says.given_is e n vs).0 given) in
+        let front : seen fields r ≡ Err (view_error.Fields m) = ap (λ q. seen fields q) is in
+        cc) in
         record {
           given_is = none;
           unfit_is =

@@ -2,3 +2,5 @@
 pub mod Kinds
 pub mod Sights
 pub mod Counting
+pub mod Links
+pub mod Shapes

@@ -55,11 +55,7 @@ pub(crate) fn placement(
     }
 }
 
-fn placement_of(
-    alloc: Global,
-    file: &StepFile<'_>,
-    number: u32,
-) -> Result<Option<u32>, AllocError>
+fn placement_of(alloc: Global, file: &StepFile<'_>, number: u32) -> Result<Option<u32>, AllocError>
     ensures { IfOk result (λ placement. (c : Contents) → Says file.now c
         → placement ≡ option_and_then (λ v. v.0) (c.given building number)) }
 {

@@ -60,11 +60,7 @@ fn no_kinds(alloc: Global) -> Kinds
 }
 
 /// Keeps the number of a building or product.
-fn keep_product(
-    kinds: &mut Kinds,
-    number: u32,
-    keyword: Option<&[u8]>,
-) -> Result<(), AllocError>
+fn keep_product(kinds: &mut Kinds, number: u32, keyword: Option<&[u8]>) -> Result<(), AllocError>
     ensures { OnOk result (KeepsProducts kinds.old kinds.new number (option_copied keyword.entry)) }
 {
     let building = is_one_of(keyword, &[b"IFCBUILDING"]);

@@ -4,7 +4,14 @@ ghost use Rattle.sb_profile.specs.Entities.Entity.{building, space, product, ope
 
 use crate::sights::Seen;
 use sb_schema as views;
-use sb_schema::{ArbitraryClosedProfileDef, ArbitraryProfileDefWithVoids, Axis2Placement2d, Axis2Placement3d, Building, CartesianPoint, Direction, ExtrudedAreaSolid, IndexedPolyCurve, LentCartesianPointList2d, LentPolyline, LentRelAssociatesMaterial, LentRelDefinesByType, LocalPlacement, Material, MaterialLayer, MaterialLayerSet, MaterialLayerSetUsage, OpeningFilling, Product, ProductDefinitionShape, RectangleProfileDef, RelFillsElement, RelVoidsElement, ShapeRepresentation, Space, ViewError};
+use sb_schema::{
+    ArbitraryClosedProfileDef, ArbitraryProfileDefWithVoids, Axis2Placement2d, Axis2Placement3d,
+    Building, CartesianPoint, Direction, ExtrudedAreaSolid, IndexedPolyCurve,
+    LentCartesianPointList2d, LentPolyline, LentRelAssociatesMaterial, LentRelDefinesByType,
+    LocalPlacement, Material, MaterialLayer, MaterialLayerSet, MaterialLayerSetUsage,
+    OpeningFilling, Product, ProductDefinitionShape, RectangleProfileDef, RelFillsElement,
+    RelVoidsElement, ShapeRepresentation, Space, ViewError,
+};
 use sb_step::StepFile;
 use std::alloc::Global;
 

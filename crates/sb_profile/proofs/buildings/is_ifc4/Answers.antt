@@ -14,5 +14,5 @@ pub returns : goal.returns
 returns c = λ said says.
     c.is_the_schema.ensures
     ∙ ap spec.is_ifc4 (same_values (option_copied c.schema.result) said.schema
-        (λ text is. (says.schema_is text).1 ((c.schema.ensures.text text).0 is))
-        (λ text is. (c.schema.ensures.text text).1 ((says.schema_is text).0 is)))
+    (λ text is. (says.schema_is text).1 ((c.schema.ensures.text text).0 is))
+    (λ text is. (c.schema.ensures.text text).1 ((says.schema_is text).0 is)))

@@ -18,12 +18,12 @@ members-preserved c = λ said says.
     let members = c.members.members in
     let found = c.members.found in
     ap (λ f. counted f (filter test (references_among c.reference-member.new.self)))
-        (c.with_member-found.ensures said says
-        ∙ ap (λ o. with_member test o found) c.reference-member.ensures.value)
+    (c.with_member-found.ensures said says
+    ∙ ap (λ o. with_member test o found) c.reference-member.ensures.value)
     ∙ (ap (λ ps. counted (with_member test (reference_in (slice_get members 0)) found)
-        (filter test (references_among ps))) c.reference-member.ensures.left
+    (filter test (references_among ps))) c.reference-member.ensures.left
     ∙ (counted_member test found members
-        (λ none. false≢true (sym c.members-test.true ∙ c.is_done.ensures.1 none))
+    (λ none. false≢true (sym c.members-test.true ∙ c.is_done.ensures.1 none))
     ∙ c.members.invariant said says))
 
 pub returns : goal.returns
@@ -33,5 +33,5 @@ returns c = λ said says.
     let empty : c.members.members ≡ [] = c.is_done.ensures.0 c.members-test.false in
     c.the_only.ensures
     ∙ (ap the_only (sym (ap (λ ps. counted found (filter test (references_among ps))) empty)
-        ∙ c.members.invariant said says)
+    ∙ c.members.invariant said says)
     ∙ counted_only (filter test (references_among c.args.first_members)))
