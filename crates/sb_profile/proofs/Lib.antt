@@ -1,0 +1,9 @@
+mod OneFirst
+mod EachFileSays
+mod ViewsAreSights
+mod KindsAreSorted
+mod LowestOfAList
+mod UnitsAreCounted
+mod LinksAreNoted
+mod ListsOfNumbers
+mod Examples

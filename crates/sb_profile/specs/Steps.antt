@@ -1,0 +1,6 @@
+-- What the private functions promise.
+pub mod Kinds
+pub mod Sights
+pub mod Counting
+pub mod Links
+pub mod Shapes

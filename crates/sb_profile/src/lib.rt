@@ -1,0 +1,21 @@
+//! What is read of the file of a building, and its first defect.
+//!
+//! Read `specs/Contents.antt` first, what a file says, then `specs/Products.antt`, which products are
+//! taken, `specs/Following.antt`, which instances are read, and `specs/Defects.antt`, what is a defect.
+#![tactic(auto)]
+
+mod buildings;
+mod defects;
+mod kinds;
+mod laws;
+mod links;
+mod lowest;
+mod places;
+mod products;
+mod seen;
+mod sights;
+mod units;
+
+pub use crate::defects::{Code, Defect};
+pub use crate::laws::{each_file_says, one_first_defect};
+pub use crate::places::Place;
