@@ -12,6 +12,7 @@ mod TurnsInCode
 mod LinesOfSides
 mod CornersFit
 mod EndsOfPatches
+mod FacingsOfEdges
 mod EdgesOfSides
 mod PointsInPatches
 -- and what the ranges are

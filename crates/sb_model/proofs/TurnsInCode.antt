@@ -50,6 +50,10 @@ y_axis q quarter = axis_of_length (y_of q) (yy q (upright_of_quarter q quarter))
 pub within-equal : (v w : Vector) → v ≡ w → is_signed_axis w ≡ true → IsWithin 1 v
 within-equal v w e axis = rw e (within_of_axis w axis)
 
+-- what is equal to a signed axis is one
+pub signed-equal : (v w : Vector) → v ≡ w → is_signed_axis w ≡ true → IsTrue (is_signed_axis v)
+signed-equal v w e axis = rw e axis
+
 -- two directions make a turn
 pub quarter_is : (q : Quarter) (x z : Vector) → q.x ≡ x → q.z ≡ z → q ≡ record { x = x; z = z }
 quarter_is q x z first second =

@@ -9,6 +9,7 @@ pub mod Labels
 pub mod Bands
 pub mod PlanEdges
 pub mod Faces
+pub mod Facings
 pub mod Corners
 pub mod PlainPoints
 pub mod Passages
@@ -16,4 +17,5 @@ pub mod Walks
 pub mod Patches
 pub mod FineCells
 -- what is true of lists of boundaries
+pub mod ListOfModel
 pub mod Boundaries

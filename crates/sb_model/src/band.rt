@@ -188,8 +188,8 @@ fn between(low: i64, high: i64) -> i64
     high - low
 }
 
-/// The sum of the nominal thicknesses in micrometres (µm).
-fn total_thickness(layers: &Layers) -> u64
+/// The sum of the nominal thicknesses of layers, in micrometres (µm).
+pub fn total_thickness(layers: &Layers) -> u64
     requires layers_in { IsTrue (are_layers 0 layers.now) }
     requires few { length layers.now ≤ most_layers }
     ensures value { result ≡ total_of layers.now }

@@ -3,7 +3,8 @@
 ghost use Rattle.std.specs.Prelude.{◌≡◌, ◌≤◌, ◌^◌, ◌+◌, ◌*◌, ◌+ℤ◌, ◌-ℤ◌, ◌*ℤ◌, pos, unsigned_abs, IsTrue};
 ghost use Rattle.std.specs.Ordering.{int_eq};
 ghost use Rattle.sb_fraction.specs.Spots.{Vector, vector, inner};
-ghost use Rattle.theory_turns.specs.Turns.{turn_of, is_signed_axis, cross_of, mixture_of, turned_by, then_of, back_of, is_quarter};
+ghost use Rattle.theory_turns.specs.Turns.{turn_of, is_signed_axis, cross_of, mixture_of, turned_by, then_of, back_of, is_quarter, y_of};
+ghost use Rattle.sb_model.specs.Labels.{axis_vector};
 ghost use Rattle.theory_turns.specs.Turns.{mixed as mixed_numbers};
 ghost use Rattle.sb_model.specs.Frames.{IsWithin, way_of, vector_of, numbers_of, sum_of, greatest_framed, are_framed, placed_by};
 
@@ -15,6 +16,14 @@ use std::marker::Model;
 pub struct Turn {
     x: Axis,
     z: Axis,
+}
+
+/// The directions of local axes in the world, each a signed axis.
+#[derive(Clone, Copy)]
+pub struct LocalAxes {
+    pub x: Axis,
+    pub y: Axis,
+    pub z: Axis,
 }
 
 impl Model for Turn {
@@ -67,6 +76,25 @@ impl Turn {
         let y = cross(z, x);
         let (first, last) = read_across(x, y, z);
         axes_turn(first, last)
+    }
+
+    /// Where the local axes are taken.
+    #[tactic(auto, using(crate::proofs::TurnsInCode::turns))]
+    pub fn local_axes(self) -> LocalAxes
+        ensures x { axis_vector result.x ≡ self.x }
+        ensures y { axis_vector result.y ≡ y_of self }
+        ensures z { axis_vector result.z ≡ self.z }
+        ensures x_signed { IsTrue (is_signed_axis (axis_vector result.x)) }
+        ensures y_signed { IsTrue (is_signed_axis (axis_vector result.y)) }
+        ensures z_signed { IsTrue (is_signed_axis (axis_vector result.z)) }
+    {
+        let (x, z) = self.axes();
+        let y = cross(z, x);
+        LocalAxes {
+            x: signed_axis(x),
+            y: signed_axis(y),
+            z: signed_axis(z),
+        }
     }
 
     /// Where the local x and z are taken.

@@ -30,7 +30,7 @@ use Rattle.sb_fraction.specs.Spots.{vector}
 use Rattle.sb_report.specs.Strings.{fraction_text, material_text}
 use Rattle.sb_report.specs.Entries.{three, four, fraction_data, corners_data, item_data}
 use Rattle.sb_report.specs.Entries.{boundary_data}
-use Rattle.sb_report.specs.Conditions.{is_list_of}
+use Rattle.sb_model.specs.ListOfModel.{is_list_of}
 use Rattle.sb_report.specs.Report.{report_data, report_of}
 
 point : ℤ → ℤ → Point

@@ -9,7 +9,7 @@ use Rattle.std.specs.List.{list_all}
 use Rattle.sb_model.specs.declared.boundary.Boundary.{Boundary}
 use Rattle.sb_model.specs.Building.{Building}
 use Rattle.sb_model.specs.Faces.{is_face_of}
-use Rattle.sb_report.specs.Conditions.{is_boundary_of, is_list_of}
+use Rattle.sb_model.specs.ListOfModel.{is_boundary_of, is_list_of}
 
 -- a test that all items pass is passed by the item at each place
 passed_at : {X : Type 0} (p : X → Bool) (xs : List X) (i : ℕ) (x : X)

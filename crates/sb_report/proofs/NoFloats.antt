@@ -12,7 +12,7 @@ use Rattle.sb_model.specs.declared.walk.Item.{Item}
 use Rattle.sb_fraction.specs.Spots.{Vector, inner}
 use Rattle.sb_model.specs.Building.{Building}
 use Rattle.sb_model.specs.Corners.{corners_of}
-use Rattle.sb_report.specs.Normals.{normal_of}
+use Rattle.sb_model.specs.Facings.{normal_of}
 use Rattle.sb_report.specs.Entries.{count, signed, count_or_null, corners_data, normal_data}
 use Rattle.sb_report.specs.Entries.{unit_data, target, item_data, boundary_data}
 use Rattle.sb_report.specs.Report.{entries_from, report_data}

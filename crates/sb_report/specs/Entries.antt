@@ -17,7 +17,7 @@ use Rattle.sb_fraction.specs.Spots.{Vector, inner}
 use Rattle.sb_model.specs.Building.{Building, material_of}
 use Rattle.sb_model.specs.Corners.{corners_of}
 use Rattle.sb_report.specs.Strings.{fraction_text, material_text, face_name, end_name}
-use Rattle.sb_report.specs.Normals.{normal_of}
+use Rattle.sb_model.specs.Facings.{normal_of}
 
 -- a number without a sign
 abbrev pub count : ℕ → Data

@@ -1,7 +1,4 @@
 -- The report: how its parts are written, an entry, and the whole text, in reading order.
 pub mod Strings
-pub mod Normals
 pub mod Entries
-pub mod Conditions
 pub mod Report
-pub mod AxisVectors

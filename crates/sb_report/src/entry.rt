@@ -1,21 +1,21 @@
 //! The entry of a boundary.
 
-ghost use Rattle.std.specs.Prelude.{◌≡◌, IfOk, OnOk, Some, IsTrue, codes};
+ghost use Rattle.std.specs.Prelude.{◌≡◌, ◌||◌, IfOk, OnOk, Some, IsTrue, codes};
 ghost use Rattle.serde_json.specs.Data.{string, put as with};
 ghost use Rattle.serde_json.specs.View.{view, members_view};
 ghost use Rattle.sb_model.specs.Corners.{corners_of};
 ghost use Rattle.sb_model.specs.Faces.{is_face_of};
 ghost use Rattle.sb_report.specs.Strings.{face_name, end_name};
-ghost use Rattle.sb_report.specs.Normals.{normal_of};
-ghost use Rattle.sb_report.specs.AxisVectors.{vector_of, is_bounded};
+ghost use Rattle.sb_model.specs.Building.{is_level_axis, is_upright_axis};
+ghost use Rattle.sb_model.specs.Labels.{axis_vector};
 ghost use Rattle.sb_report.specs.Entries.{count, signed, count_or_null, target, items_data};
 ghost use Rattle.sb_report.specs.Entries.{corners_data, normal_data, unit_data, boundary_data};
 
 use crate::corner::corners_value;
 use crate::item::items_value;
-use crate::normal::{normal, unit_of};
 use crate::strings::{name_of_end, name_of_face};
-use sb_model::{Axis, Boundary, Corners, End, Face, Model, Walk, corners};
+use crate::unit::unit_of;
+use sb_model::{Axis, Boundary, Corners, End, Face, Model, Walk, corners, facing_of};
 use serde_json::{Map, Value, json, put};
 use std::alloc::{AllocError, Global};
 
@@ -85,7 +85,7 @@ fn put_ties(
 
 /// The three coordinates of a normal.
 fn normal_value(alloc: Global, normal: Axis) -> Result<Value, AllocError>
-    ensures { IfOk result (λ v. view v ≡ normal_data (Some (vector_of normal))) }
+    ensures { IfOk result (λ v. view v ≡ normal_data (Some (axis_vector normal))) }
 {
     json!(in alloc; [normal.x, normal.y, normal.z])
 }
@@ -98,11 +98,11 @@ fn put_face(
     corners: &Corners,
     normal: Axis,
 ) -> Result<(), AllocError>
-    requires { IsTrue (is_bounded normal) }
+    requires { IsTrue (is_level_axis normal || is_upright_axis normal) }
     ensures { OnOk result (members_view entry.new.entries
-        ≡ with (codes "unit") (unit_data (Some (vector_of normal)))
+        ≡ with (codes "unit") (unit_data (Some (axis_vector normal)))
         (with (codes "space") (count face.space)
-        (with (codes "normal") (normal_data (Some (vector_of normal)))
+        (with (codes "normal") (normal_data (Some (axis_vector normal)))
         (with (codes "face") (string (face_name face.kind))
         (with (codes "corners") (corners_data (Some corners.now))
         (members_view entry.old.entries)))))) }
@@ -130,7 +130,7 @@ pub fn boundary_value(
     let corners = corners(model, &boundary.patch);
     let mut entry = Map::new(alloc);
     put(&mut entry, alloc, "id", Value::from(id))?;
-    put_face(&mut entry, alloc, face, &corners, normal(model, face))?;
+    put_face(&mut entry, alloc, face, &corners, facing_of(model, face).normal)?;
     put_walk(&mut entry, alloc, model, &boundary.walk)?;
     put_ties(&mut entry, alloc, boundary)?;
     Ok(Value::Object(entry))

@@ -7,10 +7,10 @@
 mod corner;
 mod entry;
 mod item;
-mod normal;
 mod report;
 mod strings;
 #[cfg(test)]
 mod tests;
+mod unit;
 
 pub use report::report_text;

@@ -4,7 +4,7 @@ ghost use Rattle.std.specs.Prelude.{◌≡◌, ◌<◌, ◌+◌, IfOk, Some, IsT
 ghost use Rattle.std.specs.Prelude.{option_map};
 ghost use Rattle.serde_json.specs.View.{view, items_of};
 ghost use Rattle.serde_json.specs.Data.{array};
-ghost use Rattle.sb_report.specs.Conditions.{is_list_of};
+ghost use Rattle.sb_model.specs.ListOfModel.{is_list_of};
 ghost use Rattle.sb_report.specs.Entries.{boundary_data};
 ghost use Rattle.sb_report.specs.Report.{entries_from, space_numbers, report_data, report_of};
 

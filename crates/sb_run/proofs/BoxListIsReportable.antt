@@ -17,7 +17,7 @@ use Rattle.sb_box.proofs.BoundariesArePatches.{all_lift}
 use Rattle.sb_box.proofs.BoxListIsSound.{rising_box}
 use Rattle.sb_form.specs.Meaning.{model_of, space_number}
 use Rattle.sb_form.specs.declared.matcher.FirstForm.{FirstForm}
-use Rattle.sb_report.specs.Conditions.{is_boundary_of, is_list_of, is_end_of}
+use Rattle.sb_model.specs.ListOfModel.{is_boundary_of, is_list_of, is_end_of}
 
 -- a list of which each item passes a test
 all_pass : (test : Boundary → Bool) (bs : List Boundary) → AllByRecursion (λ b. test b ≡ true) bs

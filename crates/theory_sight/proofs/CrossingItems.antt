@@ -13,7 +13,7 @@ use Rattle.theory_numbers.specs.Rationals.{IsRational, IsBelow, rational}
 use Rattle.theory_numbers.specs.Divisors.{are_coprime, greatest_divisor, divisor_within}
 use Rattle.theory_numbers.proofs.Shapes.{var, minus, times, equal}
 use Rattle.theory_numbers.proofs.Ring.{mul_comm}
-use Rattle.theory_numbers.proofs.Products.{positive_product, zero_of_positive}
+use Rattle.theory_numbers.proofs.Products.{positive_product, zero_of_positive, weak_product}
 use Rattle.theory_cuttings.specs.Cuttings.{Break, IsReducedCutting, HasLabel}
 use Rattle.theory_cuttings.specs.Changes.{map_labels, moved_by, moved_breaks, Fine}
 use Rattle.theory_cuttings.proofs.Ends.{IsBetween, below_two_ends}
@@ -34,7 +34,7 @@ use Rattle.sb_model.specs.Building.{are_layers, is_in_range, first_bad}
 use Rattle.sb_model.specs.Passages.{Ray, at_depth}
 use Rattle.sb_model.specs.Labels.{axis_vector, low_along, high_along, label_at, layer_at}
 use Rattle.sb_model.specs.Walks.{layer_of, lies_along, is_parallel, element_numbered, AreItemsBy}
-use Rattle.sb_model.specs.Walks.{AreItemsOf, unit_along, IsPlainItem, length_between}
+use Rattle.sb_model.specs.Walks.{AreItems, AreItemsOf, unit_along, IsPlainItem, length_between}
 use Rattle.theory_sight.specs.Coarse.{coarse}
 use Rattle.theory_sight.specs.Bands.{bands_along, cut_between, items_between, items_by, layer_items}
 use Rattle.theory_sight.proofs.Extents.{parallel_is_multiple}
@@ -42,11 +42,12 @@ use Rattle.theory_sight.proofs.BandsCut.{IsFound}
 use Rattle.theory_sight.proofs.BandsOfPrisms.{layer_on, layer_is_by_position, layer_on_is_found}
 use Rattle.theory_sight.proofs.BandsOfPrisms.{low_end_of, high_end_of}
 use Rattle.theory_sight.proofs.ItemsOfPieces.{items_of_passages, items-moved, plain_items}
-use Rattle.theory_sight.proofs.LayeredItems.{StartsAt, reading_at_depth, layer_on-scaled, layers_differ}
+use Rattle.theory_sight.proofs.LayeredItems.{reading_at_depth, layer_on-scaled, layers_differ}
 use Rattle.theory_sight.proofs.LayeredItems.{bands_by_depth, back_again, whole_below}
 use Rattle.theory_cuttings.proofs.CutTwice.{of_equal, above_two_ends, labels_have, cutting_is_open}
 use Rattle.theory_sight.proofs.ElementAt.{element_is_at, coarse_element}
-use Rattle.theory_sight.proofs.PiecesAreRuns.{piece_to, end-piece_to}
+use Rattle.theory_sight.proofs.PiecesAreRuns.{end-piece_to}
+use Rattle.theory_sight.specs.Crossings.{IsCrossing, StartsAt, label_along, piece_to}
 
 -- ---- axes
 
@@ -123,22 +124,6 @@ pub record IsSeen (m : Building) (r : Ray) (x0 : ℤ) : Type 0 where
       → IsBelow (low_end_of e.prism r.normal) (moved_by x0 u)
       × IsBelow (moved_by x0 u) (high_end_of e.prism r.normal)
 
--- the label at each depth of a ray
-abbrev pub label_along : Building → Ray → Arrow → Label
-label_along m r u = label_at m (at_depth r u)
-
--- a crossing of an element from one whole position to another
-pub record IsCrossing (m : Building) (r : Ray) (x0 x y : ℤ) (k : ℕ) (e : Element) (b : Break Label)
-    (before : List (Break Label)) : Type 0 where
-  pub from : b.start ≡ rational (x -ℤ x0) (pos 1)
-  pub cut : IsReducedCutting (label_along m r) (Some b.start) (Some (rational (y -ℤ x0) (pos 1)))
-      b.label before
-  pub coarse_is : HasLabel (λ u. coarse (label_along m r u)) (Some b.start)
-      (Some (rational (y -ℤ x0) (pos 1))) (label.Element k 0)
-  pub numbered : element_numbered m k ≡ Some e
-  pub stands : Stands e m.elements
-  pub passed : lies_along e.layering r.normal ≡ true
-
 -- a depth below a whole one lies at a position below
 not_beyond_at : (x0 low : ℤ) (u : Arrow) → IsBelow u (rational (low -ℤ x0) (pos 1))
     → IsBelow (rational low (pos 1)) (moved_by x0 u) → ⊥
@@ -161,8 +146,41 @@ not_short_at x0 high u after before =
     let other = mul_comm u.x high in
     omega (arith, ints)
 
-module _ (m : Building) (r : Ray) (x0 : ℤ) (seen : IsSeen m r x0) (x y : ℤ) (k : ℕ) (e : Element)
-    (b : Break Label) (before : List (Break Label)) (c : IsCrossing m r x0 x y k e b before) where
+-- a depth above a whole one lies at a position above
+position_above : (x0 low x : ℤ) (u : Arrow) → IsRational u → low ≤ℤ x
+    → IsBelow (rational (x -ℤ x0) (pos 1)) u → IsBelow (rational low (pos 1)) (moved_by x0 u)
+unfolding cross
+position_above x0 low x u u_in less above =
+    let gap = weak_product (x -ℤ low) u.x (omega (arith, ints)) (omega (arith, ints, u_in)) in
+    let parts =
+    equal (times (minus (var x) (var low)) (var u.x))
+    (minus (times (var x) (var u.x)) (times (var low) (var u.x))) (omega arith)
+    in
+    let moved =
+    equal (times (minus (var x) (var x0)) (var u.x))
+    (minus (times (var x) (var u.x)) (times (var x0) (var u.x))) (omega arith)
+    in
+    omega (arith, ints)
+
+position_below : (x0 high y : ℤ) (u : Arrow) → IsRational u → y ≤ℤ high
+    → IsBelow u (rational (y -ℤ x0) (pos 1)) → IsBelow (moved_by x0 u) (rational high (pos 1))
+unfolding cross
+position_below x0 high y u u_in less below =
+    let gap = weak_product (high -ℤ y) u.x (omega (arith, ints)) (omega (arith, ints, u_in)) in
+    let parts =
+    equal (times (minus (var high) (var y)) (var u.x))
+    (minus (times (var high) (var u.x)) (times (var y) (var u.x))) (omega arith)
+    in
+    let moved =
+    equal (times (var u.x) (minus (var y) (var x0)))
+    (minus (times (var y) (var u.x)) (times (var x0) (var u.x))) (omega arith)
+    in
+    let other = mul_comm u.x high in
+    omega (arith, ints)
+
+module _ (m : Building) (is_model : IsTrue (is_building m)) (r : Ray) (x0 x y : ℤ) (k : ℕ)
+    (e : Element) (b : Break Label) (before : List (Break Label))
+    (c : IsCrossing m r x0 x y k e b before) where
   -- inside the crossing the element is seen
   abbrev Inside : Arrow → Type 0
   Inside u = IsRational u × IsBelow b.start u × IsBelow u (rational (y -ℤ x0) (pos 1))
@@ -178,7 +196,7 @@ module _ (m : Building) (r : Ray) (x0 : ℤ) (seen : IsSeen m r x0) (x y : ℤ) 
           × (layer ≡ layer_at e.prism e.layering (at_depth r u))
           × (is_in_solid e.prism (at_depth r u) ≡ true)
       by (layer, is) =
-          let at = element_is_at m seen.model (at_depth r u) k layer is in
+          let at = element_is_at m is_model (at_depth r u) k layer is in
           let same : Some at.element ≡ Some e = sym at.numbered ∙ c.numbered in
           let one : at.element ≡ e = cc in (
             layer,
@@ -203,53 +221,27 @@ module _ (m : Building) (r : Ray) (x0 : ℤ) (seen : IsSeen m r x0) (x y : ℤ) 
       by : IsBelow (rational (x -ℤ x0) (pos 1)) (rational (y -ℤ x0) (pos 1)) → x <ℤ y
       by below = omega (arith, ints)
 
-  -- the crossing lies within the extent of the element
-  low_within : low_along e.prism r.normal ≤ℤ x
-  low_within =
-      by_lt_z x (low_along e.prism r.normal) (λ short. absurd (clash short)) (λ fits. fits)
-    where
-      clash : x <ℤ low_along e.prism r.normal → ⊥
-      clash short =
-          by
-          (below_two_ends (Some b.start) (Some (rational (y -ℤ x0) (pos 1)))
-          (Some (rational (low_along e.prism r.normal -ℤ x0) (pos 1))) start_in (omega (arith, ints))
-          (omega (arith, ints)) wide
-          (subst (λ s. IsBelow s (rational (low_along e.prism r.normal -ℤ x0) (pos 1))) (sym c.from)
-          (whole_below (x -ℤ x0) (low_along e.prism r.normal -ℤ x0) (omega (arith, ints)))))
-        where
-          by : (u : Arrow)
-              × (IsBetween (Some b.start) (Some (rational (y -ℤ x0) (pos 1))) u
-              × IsBetween (Some b.start) (Some (rational (low_along e.prism r.normal -ℤ x0) (pos 1))) u)
-              → ⊥
-          by (u, is) =
-              let at = seen_at u is.0.rational is.0.after is.0.before in
-              let in_extent = seen.within e c.stands u is.0.rational at.3 in
-              not_beyond_at x0 (low_along e.prism r.normal) u is.1.before in_extent.0
+  -- the crossing's labels are those of its element, from the first on
+  pub labels_of : ((i : ℕ) × (b.label ≡ label.Element k i))
+      × AllByRecursion (λ d. (i : ℕ) × (d.label ≡ label.Element k i)) before
+  labels_of =
+      labels_have (label_along m r) (λ d. (i : ℕ) × (d ≡ label.Element k i))
+      (Some (rational (y -ℤ x0) (pos 1))) (omega (arith, ints)) (Some b.start) start_in
+      (λ u u_in after to. let at = seen_at u u_in after to in (at.0, at.1)) b.label before
+      c.cut.cutting
 
-  high_within : y ≤ℤ high_along e.prism r.normal
-  high_within =
-      by_lt_z (high_along e.prism r.normal) y (λ short. absurd (clash short)) (λ fits. fits)
-    where
-      clash : high_along e.prism r.normal <ℤ y → ⊥
-      clash short =
-          by
-          (above_two_ends (Some b.start) (Some (rational (high_along e.prism r.normal -ℤ x0) (pos 1)))
-          (rational (y -ℤ x0) (pos 1)) start_in (omega (arith, ints)) (omega (arith, ints)) wide
-          (whole_below (high_along e.prism r.normal -ℤ x0) (y -ℤ x0) (omega (arith, ints))))
-        where
-          by : (u : Arrow)
-              × (IsBetween (Some b.start) (Some (rational (y -ℤ x0) (pos 1))) u
-              × IsBetween (Some (rational (high_along e.prism r.normal -ℤ x0) (pos 1)))
-              (Some (rational (y -ℤ x0) (pos 1))) u)
-              → ⊥
-          by (u, is) =
-              let at = seen_at u is.0.rational is.0.after is.0.before in
-              let in_extent = seen.within e c.stands u is.0.rational at.3 in
-              not_short_at x0 (high_along e.prism r.normal) u is.1.after in_extent.1
+-- the crossing lies within the extent of its element
+pub record IsWithinExtent (e : Element) (n : Vector) (x y : ℤ) : Type 0 where
+  pub low : low_along e.prism n ≤ℤ x
+  pub high : y ≤ℤ high_along e.prism n
 
+module _ (m : Building) (is_model : IsTrue (is_building m)) (r : Ray) (x0 x y : ℤ)
+    (some : pos 0 <ℤ inner r.normal r.normal) (start : IsSpot r.start) (starts : StartsAt r x0)
+    (k : ℕ) (e : Element) (b : Break Label) (before : List (Break Label))
+    (c : IsCrossing m r x0 x y k e b before) (in_extent : IsWithinExtent e r.normal x y) where
   -- the element's layers stand right
   layering_right : is_layering e.layering ≡ true
-  layering_right = element_layering m seen.model e c.stands
+  layering_right = element_layering m is_model e c.stands
 
   -- the crossing's items, by the element's layering
   items_by_layering : (layering : Layering) → e.layering ≡ layering → (items : List Item)
@@ -260,19 +252,19 @@ module _ (m : Building) (r : Ray) (x0 : ℤ) (seen : IsSeen m r x0) (x y : ℤ) 
       (λ s.
       IsPlainItem e (unit_along r) (length_between s (rational (y -ℤ x0) (pos 1))) items
       ↔ (items ≡ items_by Plain e r.normal x y)) (sym c.from)
-      (plain_items e (unit_along r) x0 x y seen.some items)
+      (plain_items e (unit_along r) x0 x y some items)
   items_by_layering (Single material) same items =
       subst
       (λ s.
       IsPlainItem e (unit_along r) (length_between s (rational (y -ℤ x0) (pos 1))) items
       ↔ (items ≡ items_by (Single material) e r.normal x y)) (sym c.from)
-      (plain_items e (unit_along r) x0 x y seen.some items)
+      (plain_items e (unit_along r) x0 x y some items)
   items_by_layering (Layered [] axis) same items =
       absurd (false≢true (ap is_layering (sym same) ∙ layering_right))
   items_by_layering (Layered (l ∷ ls) axis) same items =
       by
       (has_one_cutting ℕ (λ u. layer_on e.prism (l ∷ ls) axis r.normal (moved_by x0 u))
-      (Some b.start) (Some (rational (y -ℤ x0) (pos 1))) start_in (omega (arith, ints))
+      (Some b.start) (Some (rational (y -ℤ x0) (pos 1))) (start_in m is_model r x0 x y k e b before c) (omega (arith, ints))
       (layer_of b.label) bands.first (map_labels layer_of before)
       (moved_breaks (neg_ℤ x0) bands.rest) of_passages of_bands)
     where
@@ -297,9 +289,9 @@ module _ (m : Building) (r : Ray) (x0 : ℤ) (seen : IsSeen m r x0) (x y : ℤ) 
 
       some_extent : low_along e.prism r.normal <ℤ high_along e.prism r.normal
       some_extent =
-          let low = low_within in
-          let high = high_within in
-          let less = rising in
+          let low = in_extent.low in
+          let high = in_extent.high in
+          let less = rising m is_model r x0 x y k e b before c in
           omega (arith, ints)
 
       layer_there : (u : Arrow) → IsRational u → IsBelow b.start u
@@ -307,23 +299,15 @@ module _ (m : Building) (r : Ray) (x0 : ℤ) (seen : IsSeen m r x0) (x y : ℤ) 
           → layer_of (label_along m r u)
           ≡ layer_on e.prism (l ∷ ls) axis r.normal (moved_by x0 u)
       layer_there u u_in after to =
-          let at = seen_at u u_in after to in
+          let at = seen_at m is_model r x0 x y k e b before c u u_in after to in
           ap layer_of at.1
           ∙ at.2
           ∙ ap (λ layering. layer_at e.prism layering (at_depth r u)) same
-          ∙ layer_is_by_position e.prism (l ∷ ls) axis r.normal seen.some parallel
-          (not_across axis r.normal axis_right seen.some parallel) (at_depth r u)
-          ∙ ap (layer_on e.prism (l ∷ ls) axis r.normal) (reading_at_depth r x0 seen.starts u)
+          ∙ layer_is_by_position e.prism (l ∷ ls) axis r.normal some parallel
+          (not_across axis r.normal axis_right some parallel) (at_depth r u)
+          ∙ ap (layer_on e.prism (l ∷ ls) axis r.normal) (reading_at_depth r x0 starts u)
           ∙ layer_on-scaled e.prism (l ∷ ls) axis r.normal (r.start.w *ℤ inner r.normal r.normal)
-          (moved_by x0 u) (positive_product r.start.w (inner r.normal r.normal) seen.start seen.some)
-
-      labels : ((i : ℕ) × (b.label ≡ label.Element k i))
-          × AllByRecursion (λ d. (i : ℕ) × (d.label ≡ label.Element k i)) before
-      labels =
-          labels_have (label_along m r) (λ d. (i : ℕ) × (d ≡ label.Element k i))
-          (Some (rational (y -ℤ x0) (pos 1))) (omega (arith, ints)) (Some b.start) start_in
-          (λ u u_in after to. let at = seen_at u u_in after to in (at.0, at.1)) b.label before
-          c.cut.cutting
+          (moved_by x0 u) (positive_product r.start.w (inner r.normal r.normal) start some)
 
       of_passages : IsReducedCutting
           (λ u. layer_on e.prism (l ∷ ls) axis r.normal (moved_by x0 u)) (Some b.start)
@@ -332,11 +316,12 @@ module _ (m : Building) (r : Ray) (x0 : ℤ) (seen : IsSeen m r x0) (x y : ℤ) 
         cutting =
             of_equal (λ u. layer_of (label_along m r u))
             (λ u. layer_on e.prism (l ∷ ls) axis r.normal (moved_by x0 u))
-            (Some (rational (y -ℤ x0) (pos 1))) (omega (arith, ints)) (Some b.start) start_in
+            (Some (rational (y -ℤ x0) (pos 1))) (omega (arith, ints)) (Some b.start) (start_in m is_model r x0 x y k e b before c)
             layer_there (layer_of b.label) (map_labels layer_of before)
             (map_is (label_along m r) layer_of (Some (rational (y -ℤ x0) (pos 1))) (Some b.start)
             b.label before c.cut.cutting);
-        different = layers_differ k b.label before labels.0 labels.1 c.cut.different;
+        different = layers_differ k b.label before (labels_of m is_model r x0 x y k e b before c).0
+            (labels_of m is_model r x0 x y k e b before c).1 c.cut.different;
       }
 
       of_bands : IsReducedCutting
@@ -348,24 +333,25 @@ module _ (m : Building) (r : Ray) (x0 : ℤ) (seen : IsSeen m r x0) (x y : ℤ) 
           IsReducedCutting (λ u. layer_on e.prism (l ∷ ls) axis r.normal (moved_by x0 u)) (Some s)
           (Some (rational (y -ℤ x0) (pos 1))) bands.first (moved_breaks (neg_ℤ x0) bands.rest))
           (sym c.from)
-          (bands_by_depth e.prism l ls axis r.normal layers_right some_extent x0 x y rising
-          low_within high_within)
+          (bands_by_depth e.prism l ls axis r.normal layers_right some_extent x0 x y
+          (rising m is_model r x0 x y k e b before c) in_extent.low in_extent.high)
 
       found_there : (u : Arrow) → IsRational u → IsBelow b.start u
           → IsBelow u (rational (y -ℤ x0) (pos 1))
           → IsFound (layer_of (label_along m r u)) (l ∷ ls)
       found_there u u_in after to =
-          let at = seen_at u u_in after to in
-          let in_extent = seen.within e c.stands u u_in at.3 in
+          let at = seen_at m is_model r x0 x y k e b before c u u_in after to in
           subst (λ i. IsFound i (l ∷ ls)) (sym (layer_there u u_in after to))
           (layer_on_is_found e.prism l ls axis r.normal layers_right some_extent (moved_by x0 u)
-          in_extent.0 in_extent.1)
+          (position_above x0 (low_along e.prism r.normal) x u u_in in_extent.low
+          (subst (λ s. IsBelow s u) c.from after))
+          (position_below x0 (high_along e.prism r.normal) y u u_in in_extent.high to))
 
       all_found : IsFound (layer_of b.label) (l ∷ ls)
           × AllByRecursion (λ d. IsFound (layer_of d.label) (l ∷ ls)) before
       all_found =
           labels_have (label_along m r) (λ d. IsFound (layer_of d) (l ∷ ls))
-          (Some (rational (y -ℤ x0) (pos 1))) (omega (arith, ints)) (Some b.start) start_in
+          (Some (rational (y -ℤ x0) (pos 1))) (omega (arith, ints)) (Some b.start) (start_in m is_model r x0 x y k e b before c)
           found_there b.label before c.cut.cutting
 
       same_items : layer_of b.label ≡ bands.first
@@ -397,10 +383,77 @@ module _ (m : Building) (r : Ray) (x0 : ℤ) (seen : IsSeen m r x0) (x y : ℤ) 
           (λ are. is.0 are ∙ same_items one.0 one.1, λ equal. is.1 (equal ∙ sym (same_items one.0 one.1)))
 
   -- the items of the crossing are those of the function
+  pub items_within : (layer : ℕ) (items : List Item)
+      → AreItemsOf m r (piece_to b before (Some (rational (y -ℤ x0) (pos 1))))
+      (label.Element k layer) items
+      ↔ (items ≡ items_between e r.normal x y)
+  items_within layer items =
+      rw (c.numbered, end-piece_to b before (Some (rational (y -ℤ x0) (pos 1))))
+      (items_by_layering e.layering refl items)
+
+  -- so they are what the definition asks of this piece of the ray
+  pub items_of_piece : (items : List Item)
+      → AreItems m r (piece_to b before (Some (rational (y -ℤ x0) (pos 1)))) items
+      ↔ (items ≡ items_between e r.normal x y)
+  items_of_piece items =
+      let first = (labels_of m is_model r x0 x y k e b before c).0 in
+      subst
+      (λ l.
+      AreItemsOf m r (piece_to b before (Some (rational (y -ℤ x0) (pos 1)))) l items
+      ↔ (items ≡ items_between e r.normal x y)) (sym first.1) (items_within first.0 items)
+
+module _ (m : Building) (r : Ray) (x0 : ℤ) (seen : IsSeen m r x0) (x y : ℤ) (k : ℕ) (e : Element)
+    (b : Break Label) (before : List (Break Label)) (c : IsCrossing m r x0 x y k e b before) where
+  -- the crossing lies within the extent of the element
+  low_within : low_along e.prism r.normal ≤ℤ x
+  low_within =
+      by_lt_z x (low_along e.prism r.normal) (λ short. absurd (clash short)) (λ fits. fits)
+    where
+      clash : x <ℤ low_along e.prism r.normal → ⊥
+      clash short =
+          by
+          (below_two_ends (Some b.start) (Some (rational (y -ℤ x0) (pos 1)))
+          (Some (rational (low_along e.prism r.normal -ℤ x0) (pos 1))) (start_in m seen.model r x0 x y k e b before c) (omega (arith, ints))
+          (omega (arith, ints)) (wide m seen.model r x0 x y k e b before c)
+          (subst (λ s. IsBelow s (rational (low_along e.prism r.normal -ℤ x0) (pos 1))) (sym c.from)
+          (whole_below (x -ℤ x0) (low_along e.prism r.normal -ℤ x0) (omega (arith, ints)))))
+        where
+          by : (u : Arrow)
+              × (IsBetween (Some b.start) (Some (rational (y -ℤ x0) (pos 1))) u
+              × IsBetween (Some b.start) (Some (rational (low_along e.prism r.normal -ℤ x0) (pos 1))) u)
+              → ⊥
+          by (u, is) =
+              let at = seen_at m seen.model r x0 x y k e b before c u is.0.rational is.0.after is.0.before in
+              let in_extent = seen.within e c.stands u is.0.rational at.3 in
+              not_beyond_at x0 (low_along e.prism r.normal) u is.1.before in_extent.0
+
+  high_within : y ≤ℤ high_along e.prism r.normal
+  high_within =
+      by_lt_z (high_along e.prism r.normal) y (λ short. absurd (clash short)) (λ fits. fits)
+    where
+      clash : high_along e.prism r.normal <ℤ y → ⊥
+      clash short =
+          by
+          (above_two_ends (Some b.start) (Some (rational (high_along e.prism r.normal -ℤ x0) (pos 1)))
+          (rational (y -ℤ x0) (pos 1)) (start_in m seen.model r x0 x y k e b before c) (omega (arith, ints)) (omega (arith, ints)) (wide m seen.model r x0 x y k e b before c)
+          (whole_below (high_along e.prism r.normal -ℤ x0) (y -ℤ x0) (omega (arith, ints))))
+        where
+          by : (u : Arrow)
+              × (IsBetween (Some b.start) (Some (rational (y -ℤ x0) (pos 1))) u
+              × IsBetween (Some (rational (high_along e.prism r.normal -ℤ x0) (pos 1)))
+              (Some (rational (y -ℤ x0) (pos 1))) u)
+              → ⊥
+          by (u, is) =
+              let at = seen_at m seen.model r x0 x y k e b before c u is.0.rational is.0.after is.0.before in
+              let in_extent = seen.within e c.stands u is.0.rational at.3 in
+              not_short_at x0 (high_along e.prism r.normal) u is.1.after in_extent.1
+
+
+  -- the items of a crossing that is seen are those of the function
   pub crossing_items : (layer : ℕ) (items : List Item)
       → AreItemsOf m r (piece_to b before (Some (rational (y -ℤ x0) (pos 1))))
       (label.Element k layer) items
       ↔ (items ≡ items_between e r.normal x y)
-  crossing_items layer items =
-      rw (c.numbered, end-piece_to b before (Some (rational (y -ℤ x0) (pos 1))))
-      (items_by_layering e.layering refl items)
+  crossing_items =
+      items_within m seen.model r x0 x y seen.some seen.start seen.starts k e b before c
+      (record { low = low_within; high = high_within })

@@ -22,7 +22,7 @@ use Rattle.sb_model.specs.Walks.{IsPlainItem, item}
 use Rattle.theory_sight.specs.Bands.{item_of_layer, item_at, layer_items, rounded_thickness}
 use Rattle.theory_sight.proofs.Thickness.{thickness_is}
 use Rattle.theory_sight.proofs.BandsCut.{IsFound}
-use Rattle.theory_sight.proofs.PiecesAreRuns.{passages_to}
+use Rattle.theory_sight.specs.Crossings.{passages_to}
 
 -- ---- layers, one item for each passage
 

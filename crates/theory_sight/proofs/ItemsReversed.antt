@@ -45,7 +45,8 @@ pub opposite-opposite : (n : Vector) → opposite (opposite n) ≡ n
 opposite-opposite n =
     λ i. vector (neg_ℤ-neg_ℤ n.x i) (neg_ℤ-neg_ℤ n.y i) (neg_ℤ-neg_ℤ n.z i)
 
-inner-opposite : (a n : Vector) → inner a (opposite n) ≡ neg_ℤ (inner a n)
+-- the product with an opposite is the opposite of the product
+pub inner-opposite : (a n : Vector) → inner a (opposite n) ≡ neg_ℤ (inner a n)
 inner-opposite a n =
     equal
     (plus (plus (times (var a.x) (negated (var n.x))) (times (var a.y) (negated (var n.y))))

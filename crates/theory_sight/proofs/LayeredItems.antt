@@ -26,12 +26,9 @@ use Rattle.sb_model.specs.Walks.{layer_of}
 use Rattle.theory_sight.specs.Bands.{bands_along, cut_between}
 use Rattle.theory_sight.proofs.BandsOfPrisms.{layer_on, layer_along, layer_along-scaled}
 use Rattle.theory_sight.proofs.BandsOfPrisms.{bands_along_are_cut, low_end_of, high_end_of}
+use Rattle.theory_sight.specs.Crossings.{StartsAt}
 
 -- ---- positions along a ray
-
--- the ray's start stands at this whole position
-abbrev pub StartsAt : Ray → ℤ → Type 0
-StartsAt r x0 = times_w r.start r.normal ≡ x0 *ℤ r.start.w
 
 times_along : (p : Spot) (n : Vector) (sc far : ℤ)
     → (((((p.x *ℤ sc) +ℤ (n.x *ℤ far)) *ℤ n.x) +ℤ (((p.y *ℤ sc) +ℤ (n.y *ℤ far)) *ℤ n.y))

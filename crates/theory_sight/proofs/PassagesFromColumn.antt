@@ -37,11 +37,12 @@ use Rattle.sb_model.specs.Labels.{axis_vector, low_along, high_along, layer_at}
 use Rattle.theory_sight.specs.Coarse.{coarse}
 use Rattle.theory_sight.proofs.BandsOfPrisms.{low_end_of, high_end_of}
 use Rattle.theory_models.proofs.RaysAlike.{along_is_spot}
-use Rattle.theory_sight.proofs.CrossingItems.{label_along, axis_is_some, element_layering}
+use Rattle.theory_sight.proofs.CrossingItems.{axis_is_some, element_layering}
 use Rattle.theory_sight.proofs.ElementAt.{IsElementAt, element_is_at, coarse_element}
 use Rattle.theory_sight.proofs.LayersAlongARay.{CanBeCut, layers_can_be_cut, level_cut, slope_along}
 use Rattle.theory_sight.proofs.LayersAlongARay.{den_along, start_along, reading_is, turned_map}
 use Rattle.theory_sight.proofs.Stretched.{stretched, taken_from, above_from, below_from, taken_is}
+use Rattle.theory_sight.specs.Crossings.{label_along}
 
 -- a ray in a model, whose points in elements lie strictly within the elements' extents along any vector
 pub record LiesInExtents (m : Building) (r : Ray) : Type 0 where

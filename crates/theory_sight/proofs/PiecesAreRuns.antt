@@ -11,6 +11,7 @@ use Rattle.sb_model.specs.declared.label.Label.TheVariants as label
 use Rattle.sb_model.specs.Passages.{Passage, passage, passages_of, are_of_one_element, Piece, piece}
 use Rattle.sb_model.specs.Passages.{before_pieces, pieces_of, end_of}
 use Rattle.theory_sight.specs.Coarse.{coarse, same_label}
+use Rattle.theory_sight.specs.Crossings.{first_end, passages_to, piece_to}
 
 -- ---- labels
 
@@ -71,20 +72,6 @@ one_element_is label.Void label.Earth differ = refl
 one_element_is label.Void label.Void differ = absurd (differ refl)
 
 -- ---- pieces
-
--- where the first passage ends
-abbrev pub first_end : List (Break Label) → Option Arrow → Option Arrow
-first_end [] end = end
-first_end (c ∷ bs) end = Some c.start
-
--- the passages that begin at these breaks, the last of which has this end
-abbrev pub passages_to : List (Break Label) → Option Arrow → List Passage
-passages_to [] end = []
-passages_to (b ∷ bs) end = passage b.label b.start (first_end bs end) ∷ passages_to bs end
-
--- the piece from a break on, with further breaks inside, up to its end
-abbrev pub piece_to : Break Label → List (Break Label) → Option Arrow → Piece
-piece_to b bs end = piece (passage b.label b.start (first_end bs end)) (passages_to bs end)
 
 -- a piece up to the first run, and one for each run
 abbrev pub pieces_made : Break Label → List (Break Label) → List (Run Label) → List Piece

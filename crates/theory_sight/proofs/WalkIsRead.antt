@@ -35,10 +35,11 @@ use Rattle.theory_sight.specs.Reading.{ends_at, behind, read_element, read_stret
 use Rattle.theory_sight.specs.Reading.{AreStretches}
 use Rattle.theory_sight.proofs.ElementAt.{IsElementAt, element_is_at}
 use Rattle.theory_cuttings.proofs.CutTwice.{split_is, coarse_is_runs}
-use Rattle.theory_sight.proofs.PiecesAreRuns.{same_label_decides, piece_to, pieces_made, end-piece_to}
+use Rattle.theory_sight.proofs.PiecesAreRuns.{same_label_decides, pieces_made, end-piece_to}
 use Rattle.theory_sight.proofs.PiecesAreRuns.{pieces_are_runs}
 use Rattle.theory_sight.proofs.ItemsOfPieces.{whole_length}
-use Rattle.theory_sight.proofs.CrossingItems.{IsSeen, label_along, IsCrossing, crossing_items}
+use Rattle.theory_sight.proofs.CrossingItems.{IsSeen, crossing_items}
+use Rattle.theory_sight.specs.Crossings.{IsCrossing, label_along, piece_to}
 
 module _ (m : Building) (r : Ray) (x0 : ℤ) (seen : IsSeen m r x0) where
   -- a label of an element on the ray names one

@@ -2,3 +2,4 @@
 pub mod Coarse
 pub mod Bands
 pub mod Reading
+pub mod Crossings

@@ -1,4 +1,4 @@
--- When a list of boundaries is one of a model, so that it can be reported.
+-- When a list of boundaries is one of a model, so that it can be written as a text.
 
 use Rattle.std.specs.Prelude.{ℕ, Bool, true, false, ◌&&◌, ◌||◌, List, length, nat_le, Option, Some}
 use Rattle.std.specs.Prelude.{None}
