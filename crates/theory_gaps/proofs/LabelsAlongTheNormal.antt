@@ -37,12 +37,11 @@ use Rattle.theory_parity.specs.Below.{IsWay, value_of}
 use Rattle.theory_parity.proofs.InsideByValues.{HoldsNoEnd, inside_by_values}
 use Rattle.theory_sight.specs.Coarse.{coarse, element_or, space_or, stacked, Standing}
 use Rattle.theory_sight.specs.Coarse.{the_space, the_element, the_ground, label_of_present}
-use Rattle.theory_sight.proofs.CrossingItems.{label_along}
-use Rattle.theory_sight.proofs.LayeredItems.{StartsAt}
 use Rattle.theory_sight.proofs.Stacked.{coarse_is_stacked}
 use Rattle.theory_gaps.proofs.EdgesAtANumber.{no_end_over}
 use Rattle.theory_gaps.proofs.PointsOnTheRay.{frame_of, abscissa, unit_is, inside_at, height_at}
 use Rattle.theory_gaps.proofs.PointsOnTheRay.{ground_at}
+use Rattle.theory_sight.specs.Crossings.{StartsAt, label_along}
 
 -- ---- labels by tests
 

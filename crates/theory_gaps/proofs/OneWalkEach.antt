@@ -46,7 +46,6 @@ use Rattle.theory_parity.specs.Below.{IsWay}
 use Rattle.theory_sight.specs.Bands.{items_between}
 use Rattle.theory_sight.specs.Reading.{FarEnd, square, slanted, never, Stretch, is_passed_over, ends_at}
 use Rattle.theory_sight.specs.Reading.{behind, read_element, read_stretch, read}
-use Rattle.theory_sight.proofs.LayeredItems.{StartsAt}
 use Rattle.theory_gaps.specs.Borders.{stretches_over, stretches_through}
 use Rattle.theory_gaps.specs.Laws.{HaveOnePassages, HasOneWalk}
 use Rattle.theory_gaps.proofs.PointsOnTheRay.{frame_of, abscissa}
@@ -63,6 +62,7 @@ use Rattle.theory_numbers.specs.Arrows.{arrow}
 use Rattle.theory_numbers.specs.Arrows.{dot}
 use Rattle.theory_numbers.proofs.Ring.{neg-mul}
 use Rattle.theory_gaps.proofs.RaysWithBorders.{HasColumn}
+use Rattle.theory_sight.specs.Crossings.{StartsAt}
 
 -- ---- a course that is read is that of a walk
 

@@ -42,7 +42,6 @@ use Rattle.theory_parity.specs.Below.{IsWay, value_of, abscissa_in}
 use Rattle.theory_parity.specs.Below.{down_from}
 use Rattle.theory_lines.specs.Slabs.{IsSlab, IsSlabOrder}
 use Rattle.theory_sight.specs.Reading.{read}
-use Rattle.theory_sight.proofs.LayeredItems.{StartsAt}
 use Rattle.theory_gaps.specs.Gaps.{edges_at}
 use Rattle.theory_gaps.specs.Borders.{stretches_beyond, outward_order, stretches_outward}
 use Rattle.theory_gaps.specs.Laws.{way_along, HasWalkAlongNormal}
@@ -73,6 +72,7 @@ use Rattle.theory_parity.proofs.InsideByBelow.{beyond_by_turn}
 use Rattle.theory_numbers.proofs.Lengths.{parted}
 use Rattle.theory_numbers.proofs.Signs.{at_most_from}
 use Rattle.theory_gaps.proofs.PartedAtALine.{walk_beyond}
+use Rattle.theory_sight.specs.Crossings.{StartsAt}
 
 -- ---- the order of a slab, outward
 

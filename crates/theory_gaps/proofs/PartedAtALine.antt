@@ -27,13 +27,13 @@ use Rattle.sb_model.specs.Walks.{course_of, IsWalkOf}
 use Rattle.theory_parity.specs.Below.{IsWay, value_of}
 use Rattle.theory_parity.proofs.BelowFlips.{reaching_is_line}
 use Rattle.theory_sight.specs.Reading.{read}
-use Rattle.theory_sight.proofs.LayeredItems.{StartsAt}
 use Rattle.theory_gaps.specs.Borders.{stretches_over, stretches_beyond}
 use Rattle.theory_gaps.proofs.EdgesAtANumber.{collinear_if_same, same_if_collinear}
 use Rattle.theory_gaps.proofs.LabelsAlongTheNormal.{IsRow}
 use Rattle.theory_gaps.proofs.PointsOnTheRay.{frame_of, abscissa}
 use Rattle.theory_gaps.proofs.RowsOfSlabs.{IsRowOver}
 use Rattle.theory_gaps.proofs.WalkAlongTheNormal.{walk_along}
+use Rattle.theory_sight.specs.Crossings.{StartsAt}
 
 -- ---- a row is parted at the line of an edge
 

@@ -17,7 +17,7 @@ use Rattle.theory_plans.specs.Inside.{is_in_plan}
 use Rattle.sb_model.specs.Solids.{is_between_heights}
 use Rattle.sb_model.specs.Passages.{ray_from, at_depth}
 use Rattle.theory_parity.specs.Below.{down_from, abscissa_in, spot_in}
-use Rattle.theory_sight.proofs.LayeredItems.{StartsAt}
+use Rattle.theory_sight.specs.Crossings.{StartsAt}
 
 -- the frame of a level ray: its second coordinate is the position along b
 abbrev pub frame_of : Arrow → Arrow

@@ -29,9 +29,9 @@ use Rattle.sb_model.specs.Faces.{side_over}
 use Rattle.sb_model.specs.PlanEdges.{PlanEdge, plan_edges, is_abscissa}
 use Rattle.sb_model.specs.Passages.{ray_from}
 use Rattle.theory_parity.proofs.InsideByBelow.{turn_by_span}
-use Rattle.theory_sight.proofs.LayeredItems.{StartsAt}
 use Rattle.theory_gaps.proofs.PointsOnTheRay.{frame_of, abscissa}
 use Rattle.std.proofs.Math.Path.{fun_ext}
+use Rattle.theory_sight.specs.Crossings.{StartsAt}
 
 -- ---- abscissae along the opposite direction
 

@@ -25,14 +25,15 @@ use Rattle.theory_sight.specs.Coarse.{coarse, same_label, IsOpen, Standing, labe
 use Rattle.theory_sight.specs.Reading.{stretch, read, IsFarEnd, AreStretches}
 use Rattle.theory_sight.specs.Reading.{Stretch}
 use Rattle.theory_sight.proofs.BandsOfPrisms.{low_end_of, high_end_of}
-use Rattle.theory_sight.proofs.CrossingItems.{IsSeen, label_along}
-use Rattle.theory_sight.proofs.LayeredItems.{StartsAt, reading_at_depth}
+use Rattle.theory_sight.proofs.CrossingItems.{IsSeen}
+use Rattle.theory_sight.proofs.LayeredItems.{reading_at_depth}
 use Rattle.theory_sight.proofs.PassagesFromColumn.{LiesInExtents, passages_from_column}
 use Rattle.theory_sight.proofs.PiecesAreRuns.{same_label_decides}
 use Rattle.theory_sight.proofs.Stacked.{label_sees_between}
 use Rattle.theory_sight.proofs.WalkIsRead.{walk_is_read}
 use Rattle.theory_gaps.specs.Borders.{Border, stretches_of}
 use Rattle.theory_gaps.proofs.WithinExtents.{within_extent}
+use Rattle.theory_sight.specs.Crossings.{StartsAt, label_along}
 
 -- ---- points of a ray within extents
 

@@ -50,8 +50,6 @@ use Rattle.theory_sight.specs.Bands.{fraction}
 use Rattle.theory_sight.specs.Coarse.{coarse, Standing, the_space, the_element, the_ground}
 use Rattle.theory_sight.specs.Coarse.{label_of_present}
 use Rattle.theory_sight.specs.Reading.{square, slanted, read, IsFarEnd}
-use Rattle.theory_sight.proofs.CrossingItems.{label_along}
-use Rattle.theory_sight.proofs.LayeredItems.{StartsAt}
 use Rattle.theory_sight.proofs.Stacked.{open_is_open}
 use Rattle.theory_gaps.specs.Gaps.{is_present, label_in_gap}
 use Rattle.theory_gaps.specs.Borders.{border, far_end_at, goes_on, borders_over, stretches_of}
@@ -65,6 +63,7 @@ use Rattle.theory_gaps.proofs.RaysWithBorders.{Placed, depths_of, borders_of, Se
 use Rattle.theory_gaps.proofs.RaysWithBorders.{rays_lie_in_extents, passages_there, walk_is_read_over}
 use Rattle.theory_gaps.proofs.RaysWithBorders.{HasColumn}
 use Rattle.theory_gaps.proofs.RaysWithBorders.{column_there}
+use Rattle.theory_sight.specs.Crossings.{StartsAt, label_along}
 
 -- ---- numbers in lowest terms
 

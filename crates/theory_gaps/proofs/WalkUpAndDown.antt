@@ -63,8 +63,6 @@ use Rattle.theory_parity.proofs.InsideByBelow.{inside_by_below}
 use Rattle.theory_sight.specs.Coarse.{coarse, IsOpen, Standing, the_space, the_element, the_ground}
 use Rattle.theory_sight.specs.Coarse.{label_of_present}
 use Rattle.theory_sight.specs.Reading.{square, read, IsFarEnd}
-use Rattle.theory_sight.proofs.CrossingItems.{label_along}
-use Rattle.theory_sight.proofs.LayeredItems.{StartsAt}
 use Rattle.theory_sight.proofs.Stacked.{coarse_is_stacked}
 use Rattle.theory_gaps.specs.Gaps.{is_present}
 use Rattle.theory_gaps.specs.Borders.{border, stretches_of, entry_along, exit_along}
@@ -80,6 +78,7 @@ use Rattle.theory_numbers.proofs.Arrows.{cross-self}
 use Rattle.theory_numbers.proofs.Arrows.{cross-turn}
 use Rattle.theory_plans.specs.Plans.{is_plan}
 use Rattle.theory_numbers.proofs.Rationals.{below_at_most_trans}
+use Rattle.theory_sight.specs.Crossings.{StartsAt, label_along}
 
 -- ---- items by their numbers
 
