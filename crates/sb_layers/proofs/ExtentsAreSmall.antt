@@ -1,6 +1,6 @@
 -- The extent of a prism along a short normal is within 2·10^12.
 
-use Rattle.std.proofs.Common.{◌≡◌, refl, sym, ap, ◌∙◌, arith, ℕ, ◌≤◌, ◌≤ℤ◌, ◌*◌, ◌+◌, ℤ, pos, ◌+ℤ◌, ◌*ℤ◌, Bool, true, IsTrue}
+use Rattle.std.proofs.Common.{◌≡◌, refl, sym, ap, ◌∙◌, arith, ℕ, ◌≤◌, ◌≤ℤ◌, ◌<ℤ◌, ◌*◌, ◌+◌, ℤ, pos, ◌+ℤ◌, ◌*ℤ◌, Bool, true, IsTrue}
 use Rattle.std.proofs.Common.{List, [], ◌∷◌, ◌++◌, unsigned_abs, nat_le, ◌&&◌, subst}
 use Rattle.std.proofs.lemmas.Int.{ints, unsigned_abs-mul}
 use Rattle.std.proofs.lemmas.Bool.{and_parts, leb-true}
@@ -92,9 +92,10 @@ extent_is_small s n is short =
     let one = and_parts _ (is_height s.z1) is in
     let two = and_parts _ (is_height s.z0) one.0 in
     let three = and_parts (is_plan s.loops) _ two.0 in
-    let all = over_loops s n short two.1 one.1 s.loops (points_in_range s.loops three.0) in
-    (least_is_small (readings_of s (axis_vector n) s.loops) all,
-    greatest_is_small (readings_of s (axis_vector n) s.loops) all)
+    let all = over_loops s n short two.1 one.1 s.loops (points_in_range s.loops three.0) in (
+      least_is_small (readings_of s (axis_vector n) s.loops) all,
+      greatest_is_small (readings_of s (axis_vector n) s.loops) all,
+    )
 
 -- what lies in the extent is as small
 pub between_is_small : (s : Upright) (n : Axis) (x : ℤ) → IsTrue (is_upright s) → IsShortAxis n
@@ -106,3 +107,22 @@ between_is_small s n x is short low high =
   where
     between : (a b c : ℤ) → IsSmall a → IsSmall c → a ≤ℤ b → b ≤ℤ c → IsSmall b
     between a b c a_in c_in one two = grind (arith, ints)
+
+-- the first and the last position of a crossing
+pub first_within : (s : Upright) (n : Axis) (x y : ℤ) → IsTrue (is_upright s) → IsShortAxis n → x <ℤ y
+    → low_along s (axis_vector n) ≤ℤ x → y ≤ℤ high_along s (axis_vector n)
+    → unsigned_abs x ≤ greatest_cross
+first_within s n x y is short rising low high =
+    between_is_small s n x is short low (through x y (high_along s (axis_vector n)) rising high)
+  where
+    through : (a b c : ℤ) → a <ℤ b → b ≤ℤ c → a ≤ℤ c
+    through a b c one two = omega (arith, ints)
+
+pub last_within : (s : Upright) (n : Axis) (x y : ℤ) → IsTrue (is_upright s) → IsShortAxis n → x <ℤ y
+    → low_along s (axis_vector n) ≤ℤ x → y ≤ℤ high_along s (axis_vector n)
+    → unsigned_abs y ≤ greatest_cross
+last_within s n x y is short rising low high =
+    between_is_small s n y is short (through (low_along s (axis_vector n)) x y low rising) high
+  where
+    through : (a b c : ℤ) → a ≤ℤ b → b <ℤ c → a ≤ℤ c
+    through a b c one two = omega (arith, ints)

@@ -27,7 +27,8 @@ use Rattle.theory_sight.proofs.BandsCut.{layer_is}
 use Rattle.theory_sight.proofs.CrossingItems.{not_across, items_of_piece, IsWithinExtent}
 use Rattle.theory_sight.proofs.Extents.{low-opposite, high-opposite}
 use Rattle.theory_sight.proofs.ItemsReversed.{items_reversed, inner-opposite, LiesWithin}
-use Rattle.sb_layers.specs.Parts.{parts_along}
+use Rattle.sb_layers.specs.Parts.{parts_along, way_of}
+use Rattle.sb_model.specs.Solids.{Upright}
 use Rattle.sb_layers.specs.InWalks.{AreItemsInWalks}
 use Rattle.sb_layers.proofs.PartsAreItems.{layers_found, from_start}
 
@@ -138,3 +139,28 @@ items_in_walks e n x y some low high items same m model r normal start x0 starts
       high = subst (λ v. y ≤ℤ high_along e.prism v) (sym normal) high;
     }) items).1
     (same ∙ ap (λ v. items_between e v x y) (sym normal))
+
+-- the way through an element with this extent and this sum of layers
+pub way_is : (e : Element) (n : Vector) (x y : ℤ) (layers : List Layer) (low high : ℤ) (total : ℕ)
+    → low ≡ low_along e.prism n → high ≡ high_along e.prism n → total ≡ total_of layers
+    → way_of e.number (high -ℤ low) low total x y
+    ≡ way_of e.number (high_along e.prism n -ℤ low_along e.prism n) (low_along e.prism n) (total_of layers) x y
+way_is e n x y layers low high total low_is high_is total_is =
+    ap (λ t. way_of e.number (high -ℤ low) low t x y) total_is
+    ∙ ap (λ t. way_of e.number (t -ℤ low) low (total_of layers) x y) high_is
+    ∙ ap (λ t. way_of e.number (high_along e.prism n -ℤ t) t (total_of layers) x y) low_is
+
+-- the ends of the way back
+pub back_low : (s : Upright) (n m : Vector) (y z : ℤ) → m ≡ opposite n → z ≡ neg_ℤ y
+    → y ≤ℤ high_along s n → low_along s m ≤ℤ z
+back_low s n m y z m_is z_is less = rw (m_is, z_is, low-opposite s n) (turned (high_along s n) y less)
+  where
+    turned : (a b : ℤ) → b ≤ℤ a → neg_ℤ a ≤ℤ neg_ℤ b
+    turned a b less = omega (arith, ints)
+
+pub back_high : (s : Upright) (n m : Vector) (x z : ℤ) → m ≡ opposite n → z ≡ neg_ℤ x
+    → low_along s n ≤ℤ x → z ≤ℤ high_along s m
+back_high s n m x z m_is z_is less = rw (m_is, z_is, high-opposite s n) (turned (low_along s n) x less)
+  where
+    turned : (a b : ℤ) → a ≤ℤ b → neg_ℤ b ≤ℤ neg_ℤ a
+    turned a b less = omega (arith, ints)

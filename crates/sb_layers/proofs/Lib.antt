@@ -7,3 +7,4 @@ mod ItemsAlong
 mod ExtentsAreSmall
 mod LongestIsFirst
 mod RoundedThickness
+mod Examples

@@ -13,7 +13,8 @@ use Rattle.sb_fraction.specs.declared.point.Point.{Point}
 use Rattle.sb_fraction.specs.Plane.{is_plan_point, are_two_points}
 use Rattle.sb_fraction.specs.Edges.{Edge, is_in_range, has_length}
 use Rattle.theory_plans.specs.LoopEdges.{edges_of, edges_of_loop}
-use Rattle.theory_plans.specs.Plans.{is_plan, is_loop}
+use Rattle.theory_plans.specs.Plans.{is_plan}
+use Rattle.theory_plans.specs.Loops.{is_loop}
 use Rattle.theory_plans.proofs.EdgesOfPlans.{is_proper_edge, plan_edges_are_proper, plan_is}
 use Rattle.sb_layers.specs.Axes.{squared_length, is_longest, longest_of, outer_edges}
 use Rattle.sb_layers.specs.Longest.{longer, longest_after}
@@ -136,11 +137,14 @@ longest_of_all e es = longest_is_first e es
 found_passes : {X : Type 0} (p q : X → Bool) (xs : List X) (x : X) → find p xs ≡ Some x
     → list_all q xs ≡ true → q x ≡ true
 found_passes p q [] x found all = absurd (none-some x found)
-found_passes p q (y ∷ ys) x found all = by (p y) (and_parts (q y) _ all) found
+found_passes p q (y ∷ ys) x found all =
+    let parts = and_parts (q y) _ all in
+    by (p y) parts.0 (λ same. found_passes p q ys x same parts.1) found
   where
-    by : (t : Bool) → (q y ≡ true) × (list_all q ys ≡ true) → cond t (Some y) (find p ys) ≡ Some x → q x ≡ true
-    by true parts same = let e : y ≡ x = cc in subst (λ z. q z ≡ true) e parts.0
-    by false parts same = found_passes p q ys x same parts.1
+    by : (t : Bool) → q y ≡ true → (find p ys ≡ Some x → q x ≡ true)
+        → cond t (Some y) (find p ys) ≡ Some x → q x ≡ true
+    by true first later same = let e : y ≡ x = cc in subst (λ z. q z ≡ true) e first
+    by false first later same = later same
 
 first_all : {X : Type 0} (q : X → Bool) (xs ys : List X) → list_all q (xs ++ ys) ≡ true → list_all q xs ≡ true
 first_all q [] ys all = refl
@@ -180,3 +184,15 @@ outer_is_some (first ∷ loops) points other plan is none =
     let p = plan_is (first ∷ loops) plan in
     let one = and_parts (is_loop first) _ p.each in
     false≢true (subst (λ l. is_loop l ≡ true) (sym is ∙ none) one.0)
+
+-- the longest of the first loop of a plan
+pub longest_of_outer : (loops : List (List Point)) (points other : List Point) (e : Edge)
+    → IsTrue (is_plan loops) → points ≡ get_or loops 0 other
+    → Some e ≡ longest_after None (edges_of_loop points) → longest_of (outer_edges loops) ≡ Some e
+longest_of_outer loops points other e plan is found =
+    ap longest_of (outer_is_first loops points other plan is)
+    ∙ sym (found ∙ of_all (edges_of_loop points))
+  where
+    of_all : (es : List Edge) → longest_after None es ≡ longest_of es
+    of_all [] = refl
+    of_all (x ∷ xs) = longest_of_all x xs

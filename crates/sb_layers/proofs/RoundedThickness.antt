@@ -100,3 +100,13 @@ root_rounds (pos n) k q r unit_in q_is low high =
 
         through : (a b : ℕ) → a ≤ b → b ≤ q → a ≤ q
         through a b one two = omega arith
+
+-- the quotient of the scaled square and the unit
+pub quotient_is : (square unit : ℕ) (length k n : ℤ)
+    → square ≡ 4000000 * (unsigned_abs length * unsigned_abs length) → length ≡ k
+    → unit ≡ unsigned_abs n
+    → square / unit ≡ (4000000 * (unsigned_abs k * unsigned_abs k)) / unsigned_abs n
+quotient_is square unit length k n square_is length_is unit_is =
+    ap (λ a. a / unit) square_is
+    ∙ ap (λ a. (4000000 * (unsigned_abs a * unsigned_abs a)) / unit) length_is
+    ∙ ap (λ a. (4000000 * (unsigned_abs k * unsigned_abs k)) / a) unit_is

@@ -151,10 +151,7 @@ pub(crate) fn opposite(axis: Axis) -> Axis
 pub(crate) fn inner_product(a: Axis, b: Axis) -> i128
     ensures { result ≡ inner (axis_vector a) (axis_vector b) }
 {
-    sum(
-        sum(product(a.x, b.x), product(a.y, b.y)),
-        product(a.z, b.z),
-    )
+    sum(sum(product(a.x, b.x), product(a.y, b.y)), product(a.z, b.z))
 }
 
 /// The product of two coordinates.

@@ -46,6 +46,28 @@ pub fn crossed(
     ensures value { IfOk result (λ items. items ≡ items_between element.now (axis_vector n) from to) }
     ensures of_walks { IfOk result (λ items. AreItemsInWalks element.now (axis_vector n) from to items) }
 {
+    by_layering(alloc, element, n, from, to)
+}
+
+/// The items by the element's layering.
+fn by_layering(
+    alloc: Global,
+    element: &Element,
+    n: Axis,
+    from: i64,
+    to: i64,
+) -> Result<Items, AllocError>
+    requires layering_in { IsTrue (is_layering element.now.layering) }
+    requires along { IsTrue (lies_along element.now.layering (axis_vector n)) }
+    requires short { IsShortAxis n }
+    requires some { pos 0 <ℤ inner (axis_vector n) (axis_vector n) }
+    requires rising { from <ℤ to }
+    requires low_in { low_along element.now.prism (axis_vector n) ≤ℤ from }
+    requires high_in { to ≤ℤ high_along element.now.prism (axis_vector n) }
+    requires from_in { unsigned_abs from ≤ greatest_cross }
+    requires to_in { unsigned_abs to ≤ greatest_cross }
+    ensures { IfOk result (λ items. items ≡ items_between element.now (axis_vector n) from to) }
+{
     match &element.layering {
         Layering::Plain | Layering::Single(_) => one_item(alloc, element.number, n, from, to),
         Layering::Layered(layers, axis) => {
@@ -55,13 +77,7 @@ pub fn crossed(
 }
 
 /// The one item of an element without layers along an axis.
-fn one_item(
-    alloc: Global,
-    number: u32,
-    n: Axis,
-    from: i64,
-    to: i64,
-) -> Result<Items, AllocError>
+fn one_item(alloc: Global, number: u32, n: Axis, from: i64, to: i64) -> Result<Items, AllocError>
     requires some { pos 0 <ℤ inner (axis_vector n) (axis_vector n) }
     requires from_in { unsigned_abs from ≤ greatest_cross }
     requires to_in { unsigned_abs to ≤ greatest_cross }
@@ -71,7 +87,17 @@ fn one_item(
     items.push(Item {
         element: number,
         layer: 0,
-        thickness: Fraction::new(rounded_micrometres(n, from, to), 1),
+        thickness: whole_thickness(n, from, to),
     })?;
     Ok(items)
+}
+
+/// The length of a crossing in whole micrometres (µm).
+fn whole_thickness(n: Axis, from: i64, to: i64) -> Fraction
+    requires some { pos 0 <ℤ inner (axis_vector n) (axis_vector n) }
+    requires from_in { unsigned_abs from ≤ greatest_cross }
+    requires to_in { unsigned_abs to ≤ greatest_cross }
+    ensures { result ≡ whole_number (pos (rounded_thickness (inner (axis_vector n) (axis_vector n)) (to -ℤ from))) }
+{
+    Fraction::new(rounded_micrometres(n, from, to), 1)
 }

@@ -1,10 +1,10 @@
 //! The bands of an element's layers that a straight way crosses.
 
-ghost use Rattle.std.specs.Prelude.{◌≡◌, ◌≤◌, ◌≤ℤ◌, ◌<ℤ◌, ◌++◌, ◌+◌, ◌*◌, ◌-ℤ◌, ◌*ℤ◌, pos, length, unsigned_abs, IfOk, OnOk, IsTrue, reverse};
+ghost use Rattle.std.specs.Prelude.{◌≡◌, ◌≤◌, ◌≤ℤ◌, ◌<ℤ◌, ◌++◌, ◌+◌, ◌*◌, ◌-ℤ◌, ◌*ℤ◌, pos, neg_ℤ, length, int_lt, unsigned_abs, IfOk, OnOk, IsTrue, reverse};
 ghost use Rattle.std.specs.Int.{int_min, int_max};
 ghost use Rattle.theory_numbers.specs.Fractions.{reduced};
 ghost use Rattle.sb_fraction.specs.Bounds.{greatest_cross, greatest_num};
-ghost use Rattle.sb_fraction.specs.Spots.{inner};
+ghost use Rattle.sb_fraction.specs.Spots.{inner, opposite as opposite_of};
 ghost use Rattle.sb_model.specs.Bands.{greatest_total};
 ghost use Rattle.sb_model.specs.declared.layers.Layering.TheVariants.{Layered};
 ghost use Rattle.sb_model.specs.Building.{is_layering, are_layers, most_layers};
@@ -48,13 +48,61 @@ pub(crate) fn layered_items(
     requires rising { from <ℤ to }
     requires low_in { low_along element.now.prism (axis_vector n) ≤ℤ from }
     requires high_in { to ≤ℤ high_along element.now.prism (axis_vector n) }
+    requires from_in { unsigned_abs from ≤ greatest_cross }
+    requires to_in { unsigned_abs to ≤ greatest_cross }
     ensures { IfOk result (λ items. items ≡ items_between element.now (axis_vector n) from to) }
 {
-    if inner_product(axis, n) > 0 {
+    if points_along(axis, n) {
         items_up(alloc, element, layers, n, from, to)
     } else {
-        reversed(&items_up(alloc, element, layers, opposite(n), -to, -from)?, alloc)
+        items_down(alloc, element, layers, n, from, to)
     }
+}
+
+/// Whether a normal points as the axis does.
+fn points_along(axis: Axis, n: Axis) -> bool
+    ensures { result ≡ int_lt (pos 0) (inner (axis_vector axis) (axis_vector n)) }
+{
+    inner_product(axis, n) > 0
+}
+
+/// The items of a way against the axis of the layers: those of the way back, in the other order.
+fn items_down(
+    alloc: Global,
+    element: &Element,
+    layers: &Layers,
+    n: Axis,
+    from: i64,
+    to: i64,
+) -> Result<Items, AllocError>
+    requires layers_in { IsTrue (are_layers 0 layers.now) }
+    requires few { length layers.now ≤ most_layers }
+    requires short { IsShortAxis n }
+    requires rising { from <ℤ to }
+    requires low_in { low_along element.now.prism (axis_vector n) ≤ℤ from }
+    requires high_in { to ≤ℤ high_along element.now.prism (axis_vector n) }
+    requires from_in { unsigned_abs from ≤ greatest_cross }
+    requires to_in { unsigned_abs to ≤ greatest_cross }
+    ensures { IfOk result (λ items. items
+        ≡ reverse (parts_along element.now (opposite_of (axis_vector n)) (neg_ℤ to) (neg_ℤ from) layers.now)) }
+{
+    let back = items_up(
+        alloc,
+        element,
+        layers,
+        opposite(n),
+        turned(to),
+        turned(from),
+    )?;
+    reversed(&back, alloc)
+}
+
+/// A position along the opposite normal.
+fn turned(position: i64) -> i64
+    requires { unsigned_abs position ≤ greatest_cross }
+    ensures { result ≡ neg_ℤ position }
+{
+    -position
 }
 
 /// The items in the other order.
