@@ -1,5 +1,5 @@
 -- What is kept of a chain is what is judged.
-use Rattle.std.proofs.Common.{◌+◌, ◌≤◌, zero, suc, take, ap, ◌≡◌, ℕ, ◌-◌, ◌<◌, Bool, true, false, not, ◌&&◌, nat_le, List, [], ◌∷◌, length, Option, Some, None, is_some, Result, Ok, Err, IfOk, arith, refl, sym, subst}
+use Rattle.std.proofs.Common.{◌+◌, zero, suc, take, ap, ◌≡◌, ℕ, ◌-◌, ◌<◌, Bool, true, false, not, ◌&&◌, nat_le, List, [], ◌∷◌, length, Option, Some, None, is_some, Result, Ok, Err, IfOk, arith, refl, sym, subst}
 use Rattle.std.proofs.lemmas.List.{take_all}
 use Rattle.std.proofs.lemmas.Bool.{le-leb, false≢true}
 use Rattle.sb_fraction.specs.declared.unit.Unit as units
@@ -187,15 +187,15 @@ first_are_read indexed building (suc k) from (l ∷ links) reached chain = (
   chain.2,
   omega arith,
   next_of indexed chain.0
-  (λ above. IsChain indexed building (length (l ∷ links) + 1 - 1) above links reached)
-  (λ above. IsChain indexed building (suc k - 1) above (take k links) (reached && nat_le (length (l ∷ links)) (suc k)))
-  l (IsLost links reached) (IsLost (take k links) (reached && nat_le (length (l ∷ links)) (suc k)))
-  (λ above upper. later above (first_are_read indexed building k above links reached (whole above upper)))
-  (λ last. (
-    rw last.0 (take_all {A = Link} k [] (omega arith)),
-    ap (λ r. r && nat_le (length (l ∷ links)) (suc k)) last.1,
-  ))
-  chain.4,
+      (λ above. IsChain indexed building (length (l ∷ links) + 1 - 1) above links reached)
+      (λ above. IsChain indexed building (suc k - 1) above (take k links) (reached && nat_le (length (l ∷ links)) (suc k)))
+      l (IsLost links reached) (IsLost (take k links) (reached && nat_le (length (l ∷ links)) (suc k)))
+      (λ above upper. later above (first_are_read indexed building k above links reached (whole above upper)))
+      (λ last. (
+        rw last.0 (take_all {A = Link} k [] (omega arith)),
+        ap (λ r. r && nat_le (length (l ∷ links)) (suc k)) last.1,
+      ))
+      chain.4,
 )
   where
     whole : (above : Option ℕ) → IsChain indexed building (length (l ∷ links) + 1 - 1) above links reached

@@ -4,3 +4,5 @@ mod TurnsStandUpright
 mod ShiftsFit
 mod NearestIsRead
 mod ChainsAreJudged
+mod OneChain
+mod Examples

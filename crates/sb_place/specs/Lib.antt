@@ -6,3 +6,4 @@ pub mod Judgement
 pub mod Sizes
 pub mod Kept
 pub mod Steps
+pub mod Laws
