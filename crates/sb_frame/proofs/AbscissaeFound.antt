@@ -1,12 +1,13 @@
 -- What is found along a direction, rising and each once, are its abscissae.
 
 use Rattle.std.proofs.Common.{◌≡◌, ◌⊎◌, inl, inr, refl, sym, ap, ◌∙◌, subst, pos}
-use Rattle.std.proofs.Common.{true, List, [], ◌∷◌, map, Result, Ok, Err, IfOk}
+use Rattle.std.proofs.Common.{IsTrue, true, List, [], ◌∷◌, map, Result, Ok, Err, IfOk}
 use Rattle.std.specs.declared.alloc.AllocError.{AllocError}
-use Rattle.std.specs.List.{list_any, AllByRecursion}
+use Rattle.std.specs.List.{list_any, list_all, AllByRecursion}
+use Rattle.sb_fraction.specs.Bounds.{is_abscissa_size}
 use Rattle.std.specs.Ordering.{int_eq}
 use Rattle.std.specs.declared.cmp.Ordering.TheVariants.{Less, Equal}
-use Rattle.std.proofs.lemmas.Bool.{and_parts, or_cases}
+use Rattle.std.proofs.lemmas.Bool.{and_parts, and_from, or_cases}
 use Rattle.std.proofs.lemmas.Bool.Decides.{Decides-int_eq}
 use Rattle.theory_lists.specs.Members.{Stands, AllOfTwo}
 use Rattle.theory_lists.proofs.Blocks.{stands_before, stands_behind}
@@ -253,3 +254,15 @@ pub if_abscissae : (m : Building) (d : Arrow) (new : List Abscissa) (r : Result 
 if_abscissae m d new (Ok list) are given same is =
     subst (λ (rs : List Ratio). AreAbscissae m d (map number rs)) (sym (is ∙ ap ratios_of same)) are
 if_abscissae m d new (Err e) are given same is = tt
+
+sizes_fit : (list : List Abscissa) → list_all is_abscissa_size (ratios_of list) ≡ true
+sizes_fit [] = refl
+sizes_fit (a ∷ list) =
+    and_from (is_abscissa_size a.number) (list_all is_abscissa_size (ratios_of list)) a.size
+    (sizes_fit list)
+
+-- and its numbers have the size of abscissae
+pub if_sized : (r : Result (List Ratio) AllocError) (given : List Abscissa)
+    → IfOk r (λ list. list ≡ ratios_of given) → IfOk r (λ list. IsTrue (list_all is_abscissa_size list))
+if_sized (Ok list) given is = ap (list_all is_abscissa_size) is ∙ sizes_fit given
+if_sized (Err e) given is = tt

@@ -4,7 +4,7 @@ ghost use Rattle.std.specs.Prelude.{◌≡◌, ◌≤◌, ◌<ℤ◌, ◌+ℤ◌
 ghost use Rattle.std.specs.List.{list_all};
 ghost use Rattle.std.specs.Ordering.{is_eq};
 ghost use Rattle.theory_numbers.specs.Fractions.{whole, reduced};
-ghost use Rattle.sb_fraction.specs.Bounds.{is_crossing_size};
+ghost use Rattle.sb_fraction.specs.Bounds.{is_abscissa_size, is_crossing_size};
 ghost use Rattle.sb_fraction.specs.Bounds.{greatest_abscissa, greatest_cross, greatest_crossing};
 ghost use Rattle.sb_fraction.specs.Crossings.{abscissa_at};
 ghost use Rattle.sb_fraction.specs.Lines.{arrow_along, flat};
@@ -32,7 +32,8 @@ impl PlanEdges {
     /// The abscissae of a direction, rising, each once: those of all ends of plan edges and of all
     /// crossings.
     pub fn abscissae(&self, d: Direction) -> Result<Fractions, AllocError>
-        ensures { (m : Building) → IsNetwork m self.now
+        ensures size { IfOk result (λ list. IsTrue (list_all is_abscissa_size list)) }
+        ensures abscissae { (m : Building) → IsNetwork m self.now
             → IfOk result (λ list. AreAbscissae m (arrow_along d) (map number list)) }
     {
         let list = each_once(self.all_abscissae(d)?);
