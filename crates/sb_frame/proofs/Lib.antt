@@ -1,20 +1,6 @@
--- What is shown of the crate.
-mod LeastComesFirst
+-- What is shown of the crate, by topic.
 mod ProductsFit
-mod EdgesCross
-mod RisingLists
-mod NumbersInOrder
-mod ApartAlongX
-mod PairsOfEdges
-mod AsManyAtMost
-mod PointsOnce
-mod StepsOfFinding
-mod SortedOnce
-mod AbscissaeAre
-mod AbscissaeFound
-mod NetworkFound
-mod TakenFirst
-mod ReadInOrder
-mod PutInOrder
-mod DirectionsAre
-mod ReducedSizes
+mod Orders
+mod Products
+mod Meetings
+mod Along

@@ -3,3 +3,4 @@ pub mod Slabs
 -- what its steps promise
 pub mod Reaching
 pub mod Table
+pub mod Sorted

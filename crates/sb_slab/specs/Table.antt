@@ -1,6 +1,7 @@
 -- Edges over which a line stands, and how two of them are compared.
 
 use Rattle.std.specs.Prelude.{ℕ, Bool, ◌&&◌, List, ◌∷◌, slice_get, unwrap_or}
+use Rattle.std.specs.Prelude.{ℕ, Bool, ◌&&◌, List, ◌∷◌, slice_index_or, map}
 use Rattle.std.specs.List.{list_all}
 use Rattle.std.specs.declared.cmp.Ordering.{Ordering}
 use Rattle.std.specs.Ordering.{then_cmp, on, nat_cmp}
@@ -32,6 +33,7 @@ is_table t =
 -- the edge at a place
 abbrev pub item_at : Lines → ℕ → Reaching
 item_at t i = unwrap_or (slice_get t.edges i) t.first
+item_at t i = slice_index_or t.edges i t.first
 
 -- the line of the edge at a place
 abbrev pub line_at : Lines → ℕ → LineSide
@@ -41,3 +43,7 @@ line_at t i = line_of t.direction (item_at t i).segment
 abbrev pub order_of_two : Lines → ℕ → ℕ → Ordering
 order_of_two t =
     then_cmp (on (line_at t) (order_past (number t.at))) (on (λ i. (item_at t i).place) nat_cmp)
+
+-- the places of these edges
+abbrev pub places_of : Lines → List ℕ → List ℕ
+places_of t = map (λ i. (item_at t i).place)

@@ -7,11 +7,13 @@ ghost use Rattle.sb_fraction.specs.Edges.{edge_of, is_in_range};
 ghost use Rattle.sb_fraction.specs.Lines.{arrow_along, flat, lies_after as is_after, reaches_past};
 ghost use Rattle.sb_fraction.specs.Numbers.{number};
 ghost use Rattle.sb_fraction.specs.Plane.{is_plan_point, greatest_coordinate, longest_step};
+ghost use Rattle.sb_frame.specs.Network.{plan_edge_of};
 ghost use Rattle.sb_slab.specs.Reaching.{AreReaching};
 
 use crate::item::Reaching;
 use sb_fraction::{Direction, Fraction, Point, Segment};
 use sb_frame::PlanEdges;
+use sb_frame::{PlanEdge, PlanEdges};
 use std::alloc::{AllocError, Global};
 
 /// The plan edges with one end at or before the abscissa and the other after it, by their places.
@@ -32,9 +34,21 @@ pub(crate) fn reaching(
                 place,
                 segment: edge.segment,
             })?;
+            list.push(at_place(place, edge))?;
         }
     }
     Ok(list)
+}
+
+/// A plan edge with its place.
+fn at_place(place: usize, edge: PlanEdge) -> Reaching
+    ensures place { result.place ≡ place }
+    ensures segment { edge_of result.segment ≡ (plan_edge_of edge).edge }
+{
+    Reaching {
+        place,
+        segment: edge.segment,
+    }
 }
 
 /// Whether one end lies at or before the abscissa, and the other after it.

@@ -3,6 +3,10 @@
 ghost use Rattle.std.specs.Prelude.{◌≡◌, ◌+◌, ◌≤◌, IsTrue};
 ghost use Rattle.std.specs.Ordering.{nat_cmp};
 ghost use Rattle.sb_slab.specs.Table.{item_at, order_of_two as order_by_lines};
+ghost use Rattle.std.specs.Prelude.{◌≡◌, length, IsTrue};
+ghost use Rattle.sb_fraction.specs.Bounds.{is_abscissa_size};
+ghost use Rattle.sb_fraction.specs.Orders.{is_over};
+ghost use Rattle.sb_slab.specs.Table.{item_at, is_table, order_of_two as order_by_lines};
 
 use crate::item::Reaching;
 use sb_fraction::{Direction, Fraction, Steps, order_at};
@@ -47,6 +51,21 @@ impl Table {
         ensures { result ≡ item_at self.now i }
     {
         match self.edges.get(i) {
+    /// How many edges there are.
+    pub(crate) fn len(&self) -> usize
+        ensures value { result ≡ length self.now.edges }
+        ensures is_table { IsTrue (is_table self.now) }
+    {
+        self.edges.as_slice().len()
+    }
+
+    /// Edge `i`, or the first.
+    fn edge(&self, i: usize) -> Reaching
+        ensures value { result ≡ item_at self.now i }
+        ensures over { IsTrue (is_over self.now.direction result.segment self.now.at) }
+        ensures size { IsTrue (is_abscissa_size self.now.at) }
+    {
+        match self.edges.as_slice().get(i) {
             Some(edge) => *edge,
             None => self.first,
         }

@@ -5,8 +5,8 @@ use Rattle.std.proofs.lemmas.Fn.{always_returns_same, dedup_same}
 use Rattle.std.proofs.lemmas.List.Sorted.{ranks_by}
 use Rattle.sb_frame.specs.declared.abscissa.Abscissa.{Abscissa}
 use Rattle.sb_frame.specs.Abscissae.{order_of_abscissae}
-use Rattle.sb_frame.proofs.AbscissaeFound.{abscissae_total}
-use Rattle.sb_frame.proofs.SortedOnce.{rising_of}
+use Rattle.sb_frame.proofs.Along.AbscissaeFound.{abscissae_total}
+use Rattle.sb_frame.proofs.Orders.SortedOnce.{rising_of}
 use Rattle.sb_frame.proofs.abscissae.each_once.Goals as goal
 
 pub returns : goal.returns

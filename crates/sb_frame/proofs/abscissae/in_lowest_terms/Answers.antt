@@ -3,7 +3,7 @@ use Rattle.std.proofs.Common.{FitsSigned, rules, sym, subst, IsTrue}
 use Rattle.std.specs.Int.{w128}
 use Rattle.std.proofs.lemmas.Int.{to_z-of_z}
 use Rattle.sb_fraction.specs.Bounds.{is_abscissa_size}
-use Rattle.sb_frame.proofs.ReducedSizes.{reduced_size}
+use Rattle.sb_frame.proofs.Along.ReducedSizes.{reduced_size}
 use Rattle.sb_frame.proofs.abscissae.in_lowest_terms.Goals as goal
 
 pub invariant_of-result : goal.invariant_of-result

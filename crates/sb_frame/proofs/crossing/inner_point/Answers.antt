@@ -4,7 +4,7 @@ use Rattle.std.proofs.lemmas.Bool.{or_parts}
 use Rattle.sb_fraction.specs.Edges.{edge_of}
 use Rattle.sb_fraction.specs.Spots.{spot_of}
 use Rattle.sb_frame.specs.Crossings.{is_end}
-use Rattle.sb_frame.proofs.EdgesCross.{crossing_is, end_crosses_nowhere}
+use Rattle.sb_frame.proofs.Meetings.EdgesCross.{crossing_is, end_crosses_nowhere}
 use Rattle.sb_frame.proofs.crossing.inner_point.Goals as goal
 
 pub returns-then-is_end_of_one-clause-none : goal.returns-then-is_end_of_one-clause-none

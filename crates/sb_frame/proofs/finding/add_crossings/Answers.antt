@@ -4,8 +4,8 @@ use Rattle.theory_numbers.proofs.Signs.{less_from}
 use Rattle.sb_fraction.specs.Edges.{edge_of}
 use Rattle.sb_frame.specs.declared.crossing.Crossing.{Crossing}
 use Rattle.sb_frame.specs.Found.{left_of, right_of}
-use Rattle.sb_frame.proofs.StepsOfFinding.{AddedSoFar, added_none_at, added_one_at, added_apart_at}
-use Rattle.sb_frame.proofs.StepsOfFinding.{added_at_first, added_many_at, added_at_end}
+use Rattle.sb_frame.proofs.Meetings.StepsOfFinding.{AddedSoFar, added_none_at, added_one_at, added_apart_at}
+use Rattle.sb_frame.proofs.Meetings.StepsOfFinding.{added_at_first, added_many_at, added_at_end}
 use Rattle.sb_frame.proofs.finding.add_crossings.Goals as goal
 use Rattle.sb_frame.proofs.finding.add_crossings.Goals.{in-Some+in_ok-add, in_default}
 use Rattle.sb_frame.proofs.finding.add_crossings.Goals.{then-begins_behind-via-then-begins_behind, then-begins_behind-via-else-begins_behind+then-is_too_many}

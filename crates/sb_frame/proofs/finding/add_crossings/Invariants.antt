@@ -1,7 +1,7 @@
 -- The crossings that were added and those with edges that are left are all.
 use Rattle.std.proofs.Common.{drop}
 use Rattle.sb_fraction.specs.Edges.{edge_of}
-use Rattle.sb_frame.proofs.StepsOfFinding.{AddedSoFar}
+use Rattle.sb_frame.proofs.Meetings.StepsOfFinding.{AddedSoFar}
 use Rattle.sb_frame.proofs.finding.add_crossings.Given as goal
 
 abbrev pub invariant-others : goal.invariant-others

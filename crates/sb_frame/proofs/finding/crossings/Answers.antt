@@ -4,7 +4,7 @@ use Rattle.std.proofs.lemmas.Fn.{always_returns_same}
 use Rattle.sb_fraction.specs.Edges.{edge_of}
 use Rattle.sb_frame.specs.declared.edge.PlanEdge.{PlanEdge}
 use Rattle.sb_frame.specs.Found.{left_of}
-use Rattle.sb_frame.proofs.StepsOfFinding.{BeginInOrder, sorted_by_left, found_if}
+use Rattle.sb_frame.proofs.Meetings.StepsOfFinding.{BeginInOrder, sorted_by_left, found_if}
 use Rattle.sb_frame.proofs.finding.crossings.Goals as goal
 
 pub crossings_by_left-requires : goal.crossings_by_left-requires

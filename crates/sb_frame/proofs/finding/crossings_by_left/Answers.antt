@@ -1,7 +1,7 @@
 -- Edge after edge, with those behind it.
 use Rattle.std.proofs.Common.{◌∙◌, sym}
-use Rattle.sb_frame.proofs.StepsOfFinding.{found_next_of, many_found, found_at_end}
-use Rattle.sb_frame.proofs.StepsOfFinding.{too_many, not_too_many}
+use Rattle.sb_frame.proofs.Meetings.StepsOfFinding.{found_next_of, many_found, found_at_end}
+use Rattle.sb_frame.proofs.Meetings.StepsOfFinding.{too_many, not_too_many}
 use Rattle.sb_frame.proofs.finding.crossings_by_left.Goals as goal
 
 pub edges-preserved : goal.edges-preserved

@@ -1,5 +1,5 @@
 -- The point stands there, or is put in at its place.
-use Rattle.sb_frame.proofs.PutInOrder.{already_there, put_there}
+use Rattle.sb_frame.proofs.Meetings.PutInOrder.{already_there, put_there}
 use Rattle.sb_frame.proofs.found.add.Goals as goal
 
 pub returns-in-Ok : goal.returns-in-Ok

@@ -2,7 +2,7 @@
 use Rattle.std.proofs.Common.{FitsSigned, rules, ◌∙◌}
 use Rattle.std.specs.Int.{w128}
 use Rattle.std.proofs.lemmas.Int.{to_z-of_z}
-use Rattle.sb_frame.proofs.NumbersInOrder.{order_by_products}
+use Rattle.sb_frame.proofs.Orders.NumbersInOrder.{order_by_products}
 use Rattle.sb_frame.proofs.found.order_of_quotients.Goals as goal
 
 pub returns : goal.returns

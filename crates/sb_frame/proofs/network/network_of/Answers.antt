@@ -5,7 +5,7 @@ use Rattle.sb_fraction.specs.declared.point.HPoint.{HPoint}
 use Rattle.sb_fraction.specs.Bounds.{is_crossing_size}
 use Rattle.sb_frame.specs.Network.{spots_of}
 use Rattle.sb_frame.specs.Found.{HasFound}
-use Rattle.sb_frame.proofs.NetworkFound.{points_of, sizes_fit, network_kept, few_kept, more_kept}
+use Rattle.sb_frame.proofs.Meetings.NetworkFound.{points_of, sizes_fit, network_kept, few_kept, more_kept}
 use Rattle.sb_frame.proofs.network.network_of.Goals as goal
 
 pub invariant_of-result : goal.invariant_of-result

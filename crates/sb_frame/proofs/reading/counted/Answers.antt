@@ -1,6 +1,6 @@
 -- A loop has as many edges as points.
 use Rattle.std.proofs.Common.{arith}
-use Rattle.sb_frame.proofs.ReadInOrder.{edges_on-length}
+use Rattle.sb_frame.proofs.Products.ReadInOrder.{edges_on-length}
 use Rattle.sb_frame.proofs.reading.counted.Goals as goal
 
 pub returns-then-len-most-clause-none : goal.returns-then-len-most-clause-none

@@ -4,7 +4,7 @@ use Rattle.theory_plans.specs.LoopEdges.{edges_of}
 use Rattle.sb_model.specs.PlanEdges.{edges_in, in_order}
 use Rattle.sb_frame.specs.Network.{most_edges}
 use Rattle.sb_frame.specs.Owners.{products_in}
-use Rattle.sb_frame.proofs.ReadInOrder.{passes_limit}
+use Rattle.sb_frame.proofs.Products.ReadInOrder.{passes_limit}
 use Rattle.sb_frame.proofs.reading.first_beyond.Goals as goal
 
 pub returns-in-None : goal.returns-in-None

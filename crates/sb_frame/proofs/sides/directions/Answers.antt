@@ -2,7 +2,7 @@
 use Rattle.std.proofs.Common.{◌∙◌, ap}
 use Rattle.sb_frame.specs.Network.{plan_edges_of}
 use Rattle.sb_frame.specs.Directions.{space_edges, axis_and_headings}
-use Rattle.sb_frame.proofs.DirectionsAre.{are_directions, if_directions}
+use Rattle.sb_frame.proofs.Along.DirectionsAre.{are_directions, if_directions}
 use Rattle.sb_frame.proofs.sides.directions.Goals as goal
 
 pub returns : goal.returns

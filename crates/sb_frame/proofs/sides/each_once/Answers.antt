@@ -5,8 +5,8 @@ use Rattle.std.proofs.lemmas.Fn.{always_returns_same, dedup_same}
 use Rattle.std.proofs.lemmas.List.Sorted.{ranks_by}
 use Rattle.sb_fraction.specs.declared.direction.Direction.{Direction}
 use Rattle.sb_frame.specs.Directions.{order_of_directions}
-use Rattle.sb_frame.proofs.DirectionsAre.{directions_total}
-use Rattle.sb_frame.proofs.SortedOnce.{rising_of}
+use Rattle.sb_frame.proofs.Along.DirectionsAre.{directions_total}
+use Rattle.sb_frame.proofs.Orders.SortedOnce.{rising_of}
 use Rattle.sb_frame.proofs.sides.each_once.Goals as goal
 
 pub returns : goal.returns

@@ -2,7 +2,7 @@
 use Rattle.std.proofs.Common.{◌∙◌, sym, refl}
 use Rattle.sb_model.specs.PlanEdges.{plan_edges}
 use Rattle.sb_frame.specs.Network.{most_edges}
-use Rattle.sb_frame.proofs.NetworkFound.{within_limit, some_are_few, none_has_more}
+use Rattle.sb_frame.proofs.Meetings.NetworkFound.{within_limit, some_are_few, none_has_more}
 use Rattle.sb_frame.proofs.network.PlanEdges.new.Goals as goal
 
 pub returns-in-Ok-Some-clause-crossings : goal.returns-in-Ok-Some-clause-crossings

@@ -1,5 +1,5 @@
 -- The numbers of each list of a model rise.
-use Rattle.sb_frame.proofs.TakenFirst.{rising_of_model}
+use Rattle.sb_frame.proofs.Products.TakenFirst.{rising_of_model}
 use Rattle.sb_frame.proofs.owners.Queue.of.Goals as goal
 
 pub invariant_of-result : goal.invariant_of-result

@@ -1,7 +1,7 @@
 -- The first element comes first of all.
 use Rattle.std.proofs.Common.{◌∙◌, ap, subst}
 use Rattle.sb_frame.specs.Owners.{Queues, queues, first_of, IsTaken}
-use Rattle.sb_frame.proofs.TakenFirst.{element_taken}
+use Rattle.sb_frame.proofs.Products.TakenFirst.{element_taken}
 use Rattle.sb_frame.proofs.owners.Queue.take_element.Goals as goal
 
 pub returns-in-Some-clause-some : goal.returns-in-Some-clause-some

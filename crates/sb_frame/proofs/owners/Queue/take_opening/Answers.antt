@@ -1,7 +1,7 @@
 -- The first opening comes first of all.
 use Rattle.std.proofs.Common.{◌∙◌, ap, subst}
 use Rattle.sb_frame.specs.Owners.{Queues, queues, first_of, IsTaken}
-use Rattle.sb_frame.proofs.TakenFirst.{opening_taken}
+use Rattle.sb_frame.proofs.Products.TakenFirst.{opening_taken}
 use Rattle.sb_frame.proofs.owners.Queue.take_opening.Goals as goal
 
 pub returns-in-Some-clause-some : goal.returns-in-Some-clause-some

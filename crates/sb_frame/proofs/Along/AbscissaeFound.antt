@@ -29,14 +29,14 @@ use Rattle.sb_frame.specs.Abscissae.{ratios_of, order_of_abscissae, of_point, of
 use Rattle.sb_frame.specs.Abscissae.{all_along}
 use Rattle.sb_frame.specs.Network.{Network, IsNetwork}
 use Rattle.sb_frame.specs.Rising.{IsRisingOf}
-use Rattle.sb_frame.proofs.EdgesCross.{crosses_is}
+use Rattle.sb_frame.proofs.Meetings.EdgesCross.{crosses_is}
 use Rattle.std.specs.Cmp.{IsTotalOrder}
-use Rattle.sb_frame.proofs.NumbersInOrder.{below_from, same_from, numbers_total}
-use Rattle.sb_frame.proofs.AbscissaeAre.{along, abscissa_same, positive_den, reduced_same, same_along}
-use Rattle.sb_frame.proofs.AbscissaeAre.{reduced_in}
-use Rattle.sb_frame.proofs.AbscissaeAre.{reading_along, meeting_is_spot, made_from, made_stands}
-use Rattle.sb_frame.proofs.AbscissaeAre.{in_one_part, end_along, other_along, edge_of_end, ends_stand}
-use Rattle.sb_frame.proofs.AbscissaeAre.{end_is_one, other_is_one, crossing_is_one}
+use Rattle.sb_frame.proofs.Orders.NumbersInOrder.{below_from, same_from, numbers_total}
+use Rattle.sb_frame.proofs.Along.AbscissaeAre.{along, abscissa_same, positive_den, reduced_same, same_along}
+use Rattle.sb_frame.proofs.Along.AbscissaeAre.{reduced_in}
+use Rattle.sb_frame.proofs.Along.AbscissaeAre.{reading_along, meeting_is_spot, made_from, made_stands}
+use Rattle.sb_frame.proofs.Along.AbscissaeAre.{in_one_part, end_along, other_along, edge_of_end, ends_stand}
+use Rattle.sb_frame.proofs.Along.AbscissaeAre.{end_is_one, other_is_one, crossing_is_one}
 
 number_in : (a : Abscissa) → IsRational (number a.number)
 number_in a = positive_den a.number a.lowest

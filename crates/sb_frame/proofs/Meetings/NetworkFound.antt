@@ -25,10 +25,10 @@ use Rattle.std.proofs.Common.{zero, suc, None}
 use Rattle.std.proofs.lemmas.Option.{none-some}
 use Rattle.sb_frame.specs.Network.{AreCrossings, AreSomeCrossings, HasMoreCrossings, most_crossings}
 use Rattle.sb_frame.specs.Found.{TwoCross, AreSome, AreAll, IsFound}
-use Rattle.sb_frame.proofs.AsManyAtMost.{as_many_at_most}
-use Rattle.sb_frame.proofs.PointsOnce.{point_is, ascending_are_once, same_point_sym}
-use Rattle.sb_frame.proofs.PointsOnce.{same_point_trans}
-use Rattle.sb_frame.proofs.AbscissaeAre.{made_from, made_stands}
+use Rattle.sb_frame.proofs.Orders.AsManyAtMost.{as_many_at_most}
+use Rattle.sb_frame.proofs.Meetings.PointsOnce.{point_is, ascending_are_once, same_point_sym}
+use Rattle.sb_frame.proofs.Meetings.PointsOnce.{same_point_trans}
+use Rattle.sb_frame.proofs.Along.AbscissaeAre.{made_from, made_stands}
 
 -- the points of crossings
 abbrev pub points_of : List Crossing → List HPoint

@@ -17,8 +17,8 @@ use Rattle.sb_frame.specs.Owners.{Queues, queues, AreRising, products_in, first_
 use Rattle.sb_frame.specs.Owners.{own_edges}
 use Rattle.sb_frame.specs.declared.owners.Owner.{Owner}
 use Rattle.sb_frame.specs.declared.owners.Kind.TheVariants as kind
-use Rattle.sb_frame.proofs.LeastComesFirst.{space_first, element_first, opening_first}
-use Rattle.sb_frame.proofs.LeastComesFirst.{none_of_spaces, none_of_elements, none_of_openings}
+use Rattle.sb_frame.proofs.Products.LeastComesFirst.{space_first, element_first, opening_first}
+use Rattle.sb_frame.proofs.Products.LeastComesFirst.{none_of_spaces, none_of_elements, none_of_openings}
 
 -- the edges of the product with this number and prism
 same_edges : (o : Owner) (number : ℕ) (prism : Upright) → o.number ≡ number

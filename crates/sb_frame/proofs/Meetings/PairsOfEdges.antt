@@ -14,7 +14,7 @@ use Rattle.sb_fraction.specs.Edges.{Edge, edge_of, span_of}
 use Rattle.sb_fraction.specs.Crossings.{are_parallel, cross_at}
 use Rattle.sb_frame.specs.declared.edge.PlanEdge.{PlanEdge}
 use Rattle.sb_frame.specs.Found.{CrossesOne, TwoCross}
-use Rattle.sb_frame.proofs.EdgesCross.{crosses_is, crosses_from}
+use Rattle.sb_frame.proofs.Meetings.EdgesCross.{crosses_is, crosses_from}
 
 -- one of the edges crosses one that stands behind it
 abbrev pub CrossAhead : List PlanEdge → Spot → Type 0

@@ -33,7 +33,7 @@ use Rattle.theory_plans.proofs.PointsAlike.{same_of_alike, within_sees_no_factor
 use Rattle.theory_models.proofs.LabelsAlike.{abscissa_sees_no_factor, reading_sees_no_factor}
 use Rattle.theory_lines.proofs.LinesMeetAtCrossings.{meeting_is_alike}
 use Rattle.sb_frame.specs.Abscissae.{of_edges}
-use Rattle.sb_frame.proofs.EdgesCross.{level, crosses_is}
+use Rattle.sb_frame.proofs.Meetings.EdgesCross.{level, crosses_is}
 
 -- ---- one number, written in two ways
 

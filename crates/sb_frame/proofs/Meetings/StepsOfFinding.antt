@@ -13,7 +13,7 @@ use Rattle.std.specs.declared.cmp.Ordering.{Ordering}
 use Rattle.std.specs.declared.cmp.Ordering.TheVariants.{Less}
 use Rattle.std.proofs.lemmas.Cmp.{int_cmp_total}
 use Rattle.std.proofs.lemmas.List.Sorted.{ranks_by}
-use Rattle.sb_frame.proofs.RisingLists.{sorted_two}
+use Rattle.sb_frame.proofs.Orders.RisingLists.{sorted_two}
 use Rattle.std.proofs.Common.{ℤ, false, nat_lt}
 use Rattle.std.proofs.lemmas.Bool.{ltb-true}
 use Rattle.std.proofs.lemmas.Bool.Decides.{nat_tests}
@@ -33,9 +33,9 @@ use Rattle.sb_frame.specs.Network.{most_crossings}
 use Rattle.sb_frame.specs.Crossings.{IsCrossingOf, CrossNowhere}
 use Rattle.sb_frame.specs.Found.{Ascend, IsFound, IsAdded, CrossesOne, AreAdded, TwoCross, AreSome}
 use Rattle.sb_frame.specs.Found.{AreAll, HasFound, left_of, right_of}
-use Rattle.sb_frame.proofs.ApartAlongX.{apart_along_x}
-use Rattle.sb_frame.proofs.PairsOfEdges.{CrossAhead, ahead_from_two, two_elsewhere}
-use Rattle.sb_frame.proofs.PointsOnce.{point_is, same_point_trans}
+use Rattle.sb_frame.proofs.Meetings.ApartAlongX.{apart_along_x}
+use Rattle.sb_frame.proofs.Meetings.PairsOfEdges.{CrossAhead, ahead_from_two, two_elsewhere}
+use Rattle.sb_frame.proofs.Meetings.PointsOnce.{point_is, same_point_trans}
 
 -- edges that begin one after another along x
 abbrev pub BeginInOrder : List PlanEdge → Type 0

@@ -17,7 +17,7 @@ use Rattle.sb_fraction.specs.Spots.{Spot, IsSpot}
 use Rattle.sb_fraction.specs.Edges.{Edge, seen_from, turn_at, reach_at, is_within}
 use Rattle.sb_fraction.specs.Crossings.{cross_at}
 use Rattle.sb_frame.specs.Found.{left_of, right_of}
-use Rattle.sb_frame.proofs.EdgesCross.{crosses_is}
+use Rattle.sb_frame.proofs.Meetings.EdgesCross.{crosses_is}
 
 -- two ways that are opposite do not point to one side along x
 opposite_x : (a b : Arrow) → cross a b ≡ pos 0 → dot a b <ℤ pos 0 → (a.x *ℤ b.x) ≤ℤ pos 0

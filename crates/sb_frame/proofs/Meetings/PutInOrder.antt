@@ -11,9 +11,9 @@ use Rattle.theory_lists.specs.Members.{Stands}
 use Rattle.sb_fraction.specs.Spots.{spot_of}
 use Rattle.sb_frame.specs.declared.crossing.Crossing.{Crossing}
 use Rattle.sb_frame.specs.Found.{order_of_points, Ascend, IsAdded}
-use Rattle.sb_frame.proofs.PointsOnce.{points_total, same_if_equal, same_point_sym}
-use Rattle.sb_frame.proofs.RisingLists.{rising_is_sorted, insert_rises, kept_by_insert}
-use Rattle.sb_frame.proofs.RisingLists.{put_by_insert, only_by_insert}
+use Rattle.sb_frame.proofs.Meetings.PointsOnce.{points_total, same_if_equal, same_point_sym}
+use Rattle.sb_frame.proofs.Orders.RisingLists.{rising_is_sorted, insert_rises, kept_by_insert}
+use Rattle.sb_frame.proofs.Orders.RisingLists.{put_by_insert, only_by_insert}
 
 stands_at_place : (xs : List Crossing) (k : ℕ) (d : Crossing) → k < length xs
     → Stands (get_or xs k d) xs

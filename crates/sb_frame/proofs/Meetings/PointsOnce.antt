@@ -21,7 +21,7 @@ use Rattle.sb_fraction.specs.Numbers.{order_of}
 use Rattle.sb_fraction.specs.Meetings.{IsSamePoint}
 use Rattle.sb_frame.specs.declared.crossing.Crossing.{Crossing}
 use Rattle.sb_frame.specs.Found.{order_of_points, Ascend}
-use Rattle.sb_frame.proofs.NumbersInOrder.{numbers_total, same_order, same_from}
+use Rattle.sb_frame.proofs.Orders.NumbersInOrder.{numbers_total, same_order, same_from}
 
 -- ---- points as two numbers
 

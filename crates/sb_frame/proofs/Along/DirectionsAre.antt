@@ -31,8 +31,8 @@ use Rattle.sb_frame.specs.Directions.{IsDirectionOf, ComesBefore, AreDirections}
 use Rattle.sb_frame.specs.Directions.{order_of_directions, space_edges, heading, axis_and_headings}
 use Rattle.sb_frame.specs.Owners.{edge_in}
 use Rattle.sb_frame.specs.Rising.{IsRisingOf}
-use Rattle.sb_frame.proofs.AbscissaeAre.{made_from, made_stands, in_one_part}
-use Rattle.sb_frame.proofs.AbscissaeFound.{two_images}
+use Rattle.sb_frame.proofs.Along.AbscissaeAre.{made_from, made_stands, in_one_part}
+use Rattle.sb_frame.proofs.Along.AbscissaeFound.{two_images}
 
 -- (1, 0) is a direction
 pub x_is_direction : IsTrue (is_direction (pos 1) (pos 0))

@@ -1,0 +1,8 @@
+-- Where edges cross, and all crossings of edges.
+pub mod EdgesCross
+pub mod ApartAlongX
+pub mod PairsOfEdges
+pub mod PointsOnce
+pub mod PutInOrder
+pub mod StepsOfFinding
+pub mod NetworkFound

@@ -1,0 +1,27 @@
+-- The products of this crate fit 64 and 128 bits.
+
+use Rattle.std.proofs.Common.{◌≤◌, ℤ, ◌*ℤ◌, unsigned_abs, FitsSigned, lit<, w64}
+use Rattle.std.specs.Int.{w128}
+use Rattle.std.proofs.Math.Nat.{mul-le-mul}
+use Rattle.std.proofs.lemmas.Int.{to_z-of_z, fits_signed_mul, unsigned_abs-mul}
+use Rattle.sb_fraction.specs.Plane.{greatest_coordinate, longest_step}
+use Rattle.sb_fraction.specs.Bounds.{greatest_cross}
+
+-- a coordinate times a number of a direction
+pub part_fits : (a step : ℤ) → unsigned_abs a ≤ greatest_coordinate
+    → unsigned_abs step ≤ longest_step → FitsSigned w64 (a *ℤ step)
+part_fits a step a_in step_in =
+    fits_signed_mul w64 a step greatest_coordinate longest_step a_in step_in (lit< tt)
+
+pub part_size : (a step : ℤ) → unsigned_abs a ≤ greatest_coordinate
+    → unsigned_abs step ≤ longest_step → unsigned_abs (a *ℤ step) ≤ 500000000000
+part_size a step a_in step_in = rw unsigned_abs-mul (mul-le-mul a_in step_in)
+
+-- an abscissa of a plan point times a denominator
+pub abscissa_fits : (a den : ℤ) → unsigned_abs a ≤ greatest_cross
+    → unsigned_abs den ≤ greatest_cross → FitsSigned w128 (a *ℤ den)
+abscissa_fits a den a_in den_in =
+    fits_signed_mul w128 a den greatest_cross greatest_cross a_in den_in (lit< tt)
+
+-- for products
+pub ruleset products = (to_z-of_z, part_fits, part_size, abscissa_fits)
