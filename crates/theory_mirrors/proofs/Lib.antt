@@ -1,0 +1,6 @@
+-- The law, step by step.
+
+-- a walk that ends at a space has passed what lies between
+pub mod WalksToSpaces
+-- labels seen from the other end
+pub mod SeenFromBehind
