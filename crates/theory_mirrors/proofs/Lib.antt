@@ -4,3 +4,5 @@
 pub mod WalksToSpaces
 -- labels seen from the other end
 pub mod SeenFromBehind
+-- the way back over what was passed
+pub mod WalkedBack
