@@ -6,3 +6,5 @@ pub mod WalksToSpaces
 pub mod SeenFromBehind
 -- the way back over what was passed
 pub mod WalkedBack
+-- spaces on a ray
+pub mod SpacesAlongARay
