@@ -8,3 +8,5 @@ pub mod SeenFromBehind
 pub mod WalkedBack
 -- spaces on a ray
 pub mod SpacesAlongARay
+-- opposite vectors
+pub mod StepsOpposed
