@@ -10,3 +10,5 @@ pub mod WalkedBack
 pub mod SpacesAlongARay
 -- opposite vectors
 pub mod StepsOpposed
+-- level rays
+pub mod SpacesOnLevelRays
