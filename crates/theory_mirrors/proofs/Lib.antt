@@ -12,3 +12,7 @@ pub mod SpacesAlongARay
 pub mod StepsOpposed
 -- level rays
 pub mod SpacesOnLevelRays
+-- the way there
+pub mod WaysFromFaces
+-- there and back
+pub mod TheLaw

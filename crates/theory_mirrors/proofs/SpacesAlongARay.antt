@@ -306,7 +306,7 @@ pub record BeginsAt (m : Building) (r : Ray) (sees : SeesSpaces m r) (k : ℕ) (
   pub up_to : is_odd_up_to (sees.values space) at ≡ true
 
 module _ (m : Building) (r : Ray) (sees : SeesSpaces m r) (alone : HaveNoOverlap m) where
-  point_is : (u : Arrow) → IsRational u → IsSpot (at_depth r u)
+  pub point_is : (u : Arrow) → IsRational u → IsSpot (at_depth r u)
   point_is u u_in = along_is_spot r.start r.normal u sees.start sees.some u_in
 
   and_is : (a b c : Bool) → a ≡ c → b ≡ c → (a && b) ≡ c
