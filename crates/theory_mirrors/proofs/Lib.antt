@@ -16,3 +16,5 @@ pub mod SpacesOnLevelRays
 pub mod WaysFromFaces
 -- there and back
 pub mod TheLaw
+-- rays up and down
+pub mod SpacesOnUprightRays
