@@ -18,3 +18,5 @@ pub mod WaysFromFaces
 pub mod TheLaw
 -- rays up and down
 pub mod SpacesOnUprightRays
+-- and on which sides they arrive
+pub mod ArrivalsOnSides
