@@ -20,3 +20,5 @@ pub mod TheLaw
 pub mod SpacesOnUprightRays
 -- and on which sides they arrive
 pub mod ArrivalsOnSides
+-- the law
+pub mod ReversedWalks
