@@ -159,7 +159,7 @@ module _ (m : Building) (valid : IsTrue (is_building m)) (b : Arrow) (p : Spot) 
   bare behind = open_label m.ground_height p
 
   -- an odd number of a product's edges among those of the row
-  odd_in_row : (q : Product) → Stands q (products_of m) → (test : Arrow → Bool) (own : Edge → Bool)
+  pub odd_in_row : (q : Product) → Stands q (products_of m) → (test : Arrow → Bool) (own : Edge → Bool)
       → ((e : PlanEdge) → test (depth_of e) ≡ own e.edge)
       → is_odd_number test (own_depths q.number (passed ++ row))
       ≡ is_odd_number (λ e. reaches_past d u e && own e) (edges_of q.prism.loops)
@@ -180,11 +180,12 @@ module _ (m : Building) (valid : IsTrue (is_building m)) (b : Arrow) (p : Spot) 
       exchanged false true t = refl
       exchanged false false t = refl
 
-  below_moved : (t : Arrow) (e : PlanEdge)
+  -- an edge lies below a depth where its value lies below the position
+  pub below_moved : (t : Arrow) (e : PlanEdge)
       → is_below (depth_of e) t ≡ is_below (value_of d u e.edge) (moved_by x0 t)
   below_moved t e = ap is_positive (sym (cross-moved_back x0 (value_of d u e.edge) t))
 
-  up_to_moved : (t : Arrow) (e : PlanEdge)
+  pub up_to_moved : (t : Arrow) (e : PlanEdge)
       → is_at_most (depth_of e) t ≡ is_at_most (value_of d u e.edge) (moved_by x0 t)
   up_to_moved t e = ap (int_le (pos 0)) (sym (cross-moved_back x0 (value_of d u e.edge) t))
 

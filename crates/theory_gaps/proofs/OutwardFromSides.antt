@@ -77,7 +77,7 @@ use Rattle.theory_sight.specs.Crossings.{StartsAt}
 -- ---- the order of a slab, outward
 
 -- an edge on which a point lies reaches past the point's abscissa where it ends at no point over it
-reaches_if_on : (d : Arrow) (p : Spot) (e : Edge) → ends_over (flat d) (abscissa_in d p) e ≡ false
+pub reaches_if_on : (d : Arrow) (p : Spot) (e : Edge) → ends_over (flat d) (abscissa_in d p) e ≡ false
     → is_on p e ≡ true → reaches_past d (abscissa_in d p) e ≡ true
 reaches_if_on d p e no_end on =
     let u = abscissa_in d p in

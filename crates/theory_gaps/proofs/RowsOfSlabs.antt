@@ -167,7 +167,7 @@ edge_at_stands edges k e (j ∷ places) there (inr later) =
     by (Some f) rest = inr rest
 
 -- what stands in a list has a place
-place_of : {X : Type 0} (x : X) (xs : List X) → Stands x xs
+pub place_of : {X : Type 0} (x : X) (xs : List X) → Stands x xs
     → (k : ℕ) × (slice_get xs k ≡ Some x)
 place_of x [] there = absurd there
 place_of x (y ∷ ys) (inl same) = (zero, ap Some (sym same))

@@ -137,7 +137,7 @@ module _ (m : Building) (valid : IsTrue (is_building m)) (b : Arrow) (p : Spot) 
   own n es = own_depths m valid b p x0 starts p_is some passed row is none n es
 
   -- an edge of the model that reaches past the ray's abscissa
-  abbrev IsOver : PlanEdge → Type 0
+  abbrev pub IsOver : PlanEdge → Type 0
   IsOver e = Stands e (plan_edges m) × (reaches_past d u e.edge ≡ true)
 
   value_in : (e : PlanEdge) → IsOver e → IsRational (value_of d u e.edge)
@@ -527,7 +527,7 @@ module _ (m : Building) (valid : IsTrue (is_building m)) (b : Arrow) (p : Spot) 
         (same_sym (moved_by x0 (lowest_terms (depth e))) (value_of d u e.edge) there))
 
     -- the depth of an edge that stands across is whole
-    depth_is_whole : is_across (flat b) e.edge ≡ true
+    pub depth_is_whole : is_across (flat b) e.edge ≡ true
         → lowest_terms (depth e) ≡ rational (abscissa_at e.edge.a (flat b) -ℤ x0) (pos 1)
     depth_is_whole across =
         fraction_unique (lowest_terms (depth e))
@@ -544,7 +544,7 @@ module _ (m : Building) (valid : IsTrue (is_building m)) (b : Arrow) (p : Spot) 
         back y = omega (arith, ints)
 
     -- it ends as the edge says
-    ends_so : IsFarEnd m (ray_from p (flat b)) x0 (lowest_terms (depth e)) (far_end_at (flat b) e.edge)
+    pub ends_so : IsFarEnd m (ray_from p (flat b)) x0 (lowest_terms (depth e)) (far_end_at (flat b) e.edge)
     ends_so = by (is_across (flat b) e.edge) refl
       where
         test : PlanEdge → Bool

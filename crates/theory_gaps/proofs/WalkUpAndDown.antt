@@ -240,13 +240,13 @@ height_down x0 pz tx ty w same =
     (times (negated (num 1)) (times (var ty) (var w))))
     (negated (times (var w) (plus (times (var x0) (var tx)) (var ty)))) (omega arith)
 
-start_up : (p : Spot) (x0 : ℤ) → StartsAt (ray_from p axis_z) x0 → p.z ≡ x0 *ℤ p.w
+pub start_up : (p : Spot) (x0 : ℤ) → StartsAt (ray_from p axis_z) x0 → p.z ≡ x0 *ℤ p.w
 start_up p x0 starts = of p.x p.y p.z (x0 *ℤ p.w) starts
   where
     of : (x y z k : ℤ) → ((x *ℤ pos 0) +ℤ (y *ℤ pos 0)) +ℤ (z *ℤ pos 1) ≡ k → z ≡ k
     of x y z k same = omega (arith, ints)
 
-start_down : (p : Spot) (x0 : ℤ) → StartsAt (ray_from p (opposite axis_z)) x0
+pub start_down : (p : Spot) (x0 : ℤ) → StartsAt (ray_from p (opposite axis_z)) x0
     → p.z ≡ neg_ℤ (x0 *ℤ p.w)
 start_down p x0 starts = of p.x p.y p.z (x0 *ℤ p.w) starts
   where
@@ -325,7 +325,7 @@ bare_at false p x0 starts p_is g t =
     (ap (λ z. int_lt z (g *ℤ (p.w *ℤ (t.x *ℤ pos 1)))) height ∙ above_height_down x0 t p.w p_is g)
 
 -- a point of the ray lies in the plans in which p lies
-inside_at_depth : (up : Bool) (p : Spot) (loops : List (List Point)) (t : Arrow) → IsRational t
+pub inside_at_depth : (up : Bool) (p : Spot) (loops : List (List Point)) (t : Arrow) → IsRational t
     → is_in_plan loops (at_depth (ray_from p (upright_normal up)) t) ≡ is_in_plan loops p
 inside_at_depth up p loops t t_in = by up
   where

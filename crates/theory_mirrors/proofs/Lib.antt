@@ -1,0 +1,24 @@
+-- The law, step by step.
+
+-- a walk that ends at a space has passed what lies between
+pub mod WalksToSpaces
+-- labels seen from the other end
+pub mod SeenFromBehind
+-- the way back over what was passed
+pub mod WalkedBack
+-- spaces on a ray
+pub mod SpacesAlongARay
+-- opposite vectors
+pub mod StepsOpposed
+-- level rays
+pub mod SpacesOnLevelRays
+-- the way there
+pub mod WaysFromFaces
+-- there and back
+pub mod TheLaw
+-- rays up and down
+pub mod SpacesOnUprightRays
+-- and on which sides they arrive
+pub mod ArrivalsOnSides
+-- the law
+pub mod ReversedWalks
