@@ -6,4 +6,8 @@ mod LowestOfAList
 mod UnitsAreCounted
 mod LinksAreNoted
 mod ListsOfNumbers
+mod ChainsAreReached
+mod FoundTogether
+mod LeadsGoOn
+mod PlacesAreFollowed
 mod Examples

@@ -109,11 +109,14 @@ building_placement c =
     option_and_then (λ n. option_and_then (λ v. v.0) (c.given building n))
     (lowest c (has_keyword c building))
 
--- the placement, unless it is the building's, which no chain has
+-- the placement, unless it is this one
+abbrev pub below : Option ℕ → Option ℕ → Option ℕ
+below top None = None
+below top (Some n) = if option_map_or (nat_eq n) top false then None else Some n
+
+-- unless it is the building's, which no chain has
 abbrev pub below_building : Contents → Option ℕ → Option ℕ
-below_building c None = None
-below_building c (Some n) =
-    if option_map_or (nat_eq n) (building_placement c) false then None else Some n
+below_building c placement = below (building_placement c) placement
 
 -- the placement to which another is relative
 abbrev pub parent_of : Contents → ℕ → Option ℕ

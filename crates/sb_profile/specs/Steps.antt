@@ -4,3 +4,6 @@ pub mod Sights
 pub mod Counting
 pub mod Links
 pub mod Shapes
+pub mod Chains
+pub mod Found
+pub mod Survey

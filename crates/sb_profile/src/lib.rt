@@ -5,15 +5,19 @@
 #![tactic(auto)]
 
 mod buildings;
+mod chains;
 mod defects;
+mod found;
 mod kinds;
 mod laws;
 mod links;
 mod lowest;
 mod places;
 mod products;
+mod seeing;
 mod seen;
 mod sights;
+mod survey;
 mod units;
 
 pub use crate::defects::{Code, Defect};

@@ -1,7 +1,7 @@
 // The places at which instances are wanted.
 
 /// What an instance is wanted as, where another leads to it.
-#[derive(Clone, Copy, PartialEq)]
+#[derive(Clone, Copy)]
 pub enum Place {
     /// A placement of a product or the one to which it is relative: IFCLOCALPLACEMENT.
     Placement,

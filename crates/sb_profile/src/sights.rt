@@ -1,11 +1,14 @@
 // What is seen of an instance that is looked at as one of an entity.
-ghost use Rattle.std.specs.Prelude.{◌≡◌, Some, IfOk};
+ghost use Rattle.std.specs.Prelude.{◌≡◌, List, Some, IfOk, OnOk};
 ghost use Rattle.sb_schema.specs.Table.{Values};
 ghost use Rattle.sb_schema.specs.Views.{Views, Taking};
 ghost use Rattle.sb_profile.specs.Contents.{Contents, Says};
 ghost use Rattle.sb_profile.specs.Entities.{Entity, row_of};
+ghost use Rattle.sb_profile.specs.Following.{Lead};
+ghost use Rattle.sb_profile.specs.Steps.Found.{Leads};
 ghost use Rattle.sb_profile.specs.Steps.Sights.{sight_of, Shows};
 
+use crate::found::Found;
 use sb_schema::ViewError;
 use sb_step::StepFile;
 use std::alloc::{AllocError, Global};
@@ -31,9 +34,15 @@ pub(crate) trait Seen<'a>: Sized + Drop {
 
     ghost fields: { Self → Values (row_of entity).read };
 
+    ghost follow: { Values (row_of entity).read → List Lead };
+
     /// The view of the instance of this number.
     fn view(alloc: Global, file: &StepFile<'a>, number: u32) -> Result<Self, ViewError>
         ensures { Views taking (row_of entity) fields file.now number result };
+
+    /// Appends what follows.
+    fn push(&mut self, found: &mut Found) -> Result<(), AllocError>
+        ensures { OnOk result (Leads (follow (fields self.old)) found.old found.new) };
 }
 
 /// What is seen of the instance of this number.

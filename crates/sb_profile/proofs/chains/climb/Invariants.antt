@@ -1,0 +1,13 @@
+use Rattle.std.proofs.Common.{◌≡◌, ℕ, length}
+use Rattle.sb_profile.specs.Contents.{Contents, Says}
+use Rattle.sb_profile.specs.Following as following
+use Rattle.sb_profile.specs.Steps.Chains.{IsSeen, Grows, AreReached, Climbs}
+use Rattle.sb_profile.proofs.chains.climb.Given as goal
+
+abbrev pub invariant-placements : goal.invariant-placements
+invariant-placements l =
+    IsSeen l.chain × Grows l.fn.chain.placements.items l.chain.placements.items
+    × (l.end ≡ length l.fn.chain.placements.items)
+    × ((c : Contents) → Says l.file c → l.building ≡ following.building_placement c → (level : ℕ)
+    → AreReached c level l.fn.chain.placements.items l.fn.asked
+    → Climbs c level l.chain.placements.items l.at)
