@@ -1,6 +1,5 @@
 -- The plan edges that reach past a number, and the order in which they are sorted.
 
-use Rattle.std.specs.Prelude.{◌≡◌, ◌<◌, ◌+◌, ℕ, List, map, slice_get, Option, Some}
 use Rattle.std.specs.Prelude.{◌≡◌, true, List, map, slice_get, Some}
 use Rattle.std.specs.List.{AllByRecursion}
 use Rattle.std.specs.Option.{option_map}

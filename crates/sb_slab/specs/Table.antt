@@ -1,6 +1,5 @@
 -- Edges over which a line stands, and how two of them are compared.
 
-use Rattle.std.specs.Prelude.{ℕ, Bool, ◌&&◌, List, ◌∷◌, slice_get, unwrap_or}
 use Rattle.std.specs.Prelude.{ℕ, Bool, ◌&&◌, List, ◌∷◌, slice_index_or, map}
 use Rattle.std.specs.List.{list_all}
 use Rattle.std.specs.declared.cmp.Ordering.{Ordering}
@@ -32,7 +31,6 @@ is_table t =
 
 -- the edge at a place
 abbrev pub item_at : Lines → ℕ → Reaching
-item_at t i = unwrap_or (slice_get t.edges i) t.first
 item_at t i = slice_index_or t.edges i t.first
 
 -- the line of the edge at a place

@@ -12,7 +12,6 @@ ghost use Rattle.sb_slab.specs.Reaching.{AreReaching};
 
 use crate::item::Reaching;
 use sb_fraction::{Direction, Fraction, Point, Segment};
-use sb_frame::PlanEdges;
 use sb_frame::{PlanEdge, PlanEdges};
 use std::alloc::{AllocError, Global};
 
@@ -30,10 +29,6 @@ pub(crate) fn reaching(
     'edges: for place in 0..edges.len() {
         let edge = edges.edge(place);
         if reaches(&edge.segment, d, at) {
-            list.push(Reaching {
-                place,
-                segment: edge.segment,
-            })?;
             list.push(at_place(place, edge))?;
         }
     }

@@ -1,12 +1,5 @@
 //! The order of the edges over which a line stands.
 
-ghost use Rattle.std.specs.Prelude.{◌≡◌, ◌∷◌, [], IfOk, IsTrue, map, length, IsPermutation};
-ghost use Rattle.sb_fraction.specs.Bounds.{is_abscissa_size};
-ghost use Rattle.sb_fraction.specs.Lines.{arrow_along};
-ghost use Rattle.sb_fraction.specs.Numbers.{number};
-ghost use Rattle.sb_slab.specs.Sorted.{IsSortedAt, IsSortedTable, indices};
-ghost use Rattle.sb_slab.specs.Table.{item_at, is_table, lines};
-ghost use Rattle.sb_slab.specs.Reaching.{AreReaching};
 ghost use Rattle.std.specs.Prelude.{◌≡◌, IfOk, IsTrue, slice_get};
 ghost use Rattle.sb_fraction.specs.Bounds.{is_abscissa_size};
 ghost use Rattle.sb_fraction.specs.Lines.{arrow_along};
@@ -29,14 +22,6 @@ pub(crate) fn order_past<L: Ledger>(
     alloc: Global,
     edges: &PlanEdges,
     d: Direction,
-    at: &Fraction,
-    steps: &mut Steps<L>,
-) -> Result<Indices, AllocError>
-    requires { IsTrue (is_abscissa_size at.now) }
-    ensures { IfOk result (IsSortedAt edges.now.edges (arrow_along d) (number at.now)) }
-{
-    let list = reaching(alloc, edges, d, at)?;
-    match list.first() {
     at: Fraction,
     steps: &mut Steps<L>,
 ) -> Result<Indices, AllocError>
@@ -49,8 +34,6 @@ pub(crate) fn order_past<L: Ledger>(
         Some(first) => {
             let table = Table {
                 direction: d,
-                at: *at,
-                first: *first,
                 at,
                 first,
                 edges: list,

@@ -1,8 +1,5 @@
 //! The edges that are sorted.
 
-ghost use Rattle.std.specs.Prelude.{◌≡◌, ◌+◌, ◌≤◌, IsTrue};
-ghost use Rattle.std.specs.Ordering.{nat_cmp};
-ghost use Rattle.sb_slab.specs.Table.{item_at, order_of_two as order_by_lines};
 ghost use Rattle.std.specs.Prelude.{◌≡◌, length, IsTrue};
 ghost use Rattle.sb_fraction.specs.Bounds.{is_abscissa_size};
 ghost use Rattle.sb_fraction.specs.Orders.{is_over};
@@ -46,11 +43,6 @@ impl Table {
         lines.then(a.place.cmp(&b.place))
     }
 
-    /// Edge `i`, or the first.
-    fn edge(&self, i: usize) -> Reaching
-        ensures { result ≡ item_at self.now i }
-    {
-        match self.edges.get(i) {
     /// How many edges there are.
     pub(crate) fn len(&self) -> usize
         ensures value { result ≡ length self.now.edges }

@@ -46,7 +46,6 @@ use Rattle.theory_models.proofs.NumbersApart.{of_space, space_stands}
 use Rattle.theory_parity.specs.Below.{IsWay, value_of, is_through}
 use Rattle.theory_parity.proofs.BelowFlips.{reaching_is_line}
 use Rattle.theory_sight.specs.Reading.{square, slanted, IsFarEnd}
-use Rattle.theory_sight.proofs.LayeredItems.{StartsAt}
 use Rattle.theory_gaps.proofs.EdgesAtANumber.{no_end_over, value_is_position}
 use Rattle.theory_gaps.proofs.LabelsAlongTheNormal.{IsRow, plan_edge, edge_stands, ray_is_way, depth_of}
 use Rattle.theory_gaps.proofs.OneWalkEach.{proper_there}
@@ -59,6 +58,7 @@ use Rattle.theory_mirrors.proofs.SpacesAlongARay.{BeginsAt}
 use Rattle.theory_mirrors.proofs.SpacesOnLevelRays.{sees_spaces, ends_at_start, FacesBack, faces_back}
 use Rattle.theory_mirrors.proofs.StepsOpposed.{opposed_steps}
 use Rattle.theory_mirrors.proofs.WaysFromFaces.{ArrivesAt, SeesFromFace}
+use Rattle.theory_sight.specs.Crossings.{StartsAt}
 
 -- a multiple of a step along another's frame
 span_dot : (bx by t x y sx sy : ℤ) → sx ≡ t *ℤ x → sy ≡ t *ℤ y

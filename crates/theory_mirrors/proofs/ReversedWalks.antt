@@ -33,7 +33,6 @@ use Rattle.sb_model.specs.Solids.{is_between_heights}
 use Rattle.sb_model.specs.Walks.{IsWalk}
 use Rattle.theory_models.proofs.EdgesOfProducts.{plan_of_solid}
 use Rattle.theory_parity.specs.Below.{IsWay}
-use Rattle.theory_sight.proofs.LayeredItems.{StartsAt}
 use Rattle.theory_gaps.proofs.OneWalkEach.{plain_is_read, proper_there, not_true, starts_up, starts_down}
 use Rattle.theory_gaps.proofs.PointsOnTheRay.{frame_of, abscissa}
 use Rattle.theory_gaps.proofs.RaysOfFaces.{normal_of, normal_is, normal_is_some, side_starts}
@@ -44,6 +43,7 @@ use Rattle.theory_mirrors.proofs.ArrivalsOnSides.{sees_from_side}
 use Rattle.theory_mirrors.proofs.SpacesOnUprightRays.{sees_from_top, sees_from_bottom}
 use Rattle.theory_mirrors.proofs.TheLaw.{read_from, has_way_back}
 use Rattle.theory_mirrors.proofs.WaysFromFaces.{SeesFromFace}
+use Rattle.theory_sight.specs.Crossings.{StartsAt}
 
 level_is_way : IsWay (arrow (pos 1) (pos 0))
 unfolding dot

@@ -19,7 +19,7 @@ use Rattle.sb_model.specs.PlanEdges.{PlanEdge, plan_edges}
 use Rattle.sb_model.specs.Passages.{Ray, ray_from, at_depth}
 use Rattle.sb_model.specs.Walks.{is_across, is_square}
 use Rattle.theory_models.proofs.LabelsAlike.{label_sees_no_factor}
-use Rattle.theory_sight.proofs.CrossingItems.{label_along}
+use Rattle.theory_sight.specs.Crossings.{label_along}
 
 -- a depth seen from depth k on the way back
 abbrev pub back_from : ℤ → Arrow → Arrow

@@ -37,10 +37,10 @@ use Rattle.sb_model.specs.Solids.{is_in_solid}
 use Rattle.theory_models.proofs.NumbersApart.{own_numbers}
 use Rattle.theory_models.proofs.RaysAlike.{along_is_spot}
 use Rattle.theory_sight.specs.Coarse.{coarse, IsOpen}
-use Rattle.theory_sight.proofs.CrossingItems.{label_along}
 use Rattle.theory_sight.proofs.Stacked.{open_is_open}
 use Rattle.theory_mirrors.specs.Laws.{HaveNoOverlap}
 use Rattle.theory_numbers.proofs.Shapes.{cross_eq}
+use Rattle.theory_sight.specs.Crossings.{label_along}
 
 -- ---- beside a number
 

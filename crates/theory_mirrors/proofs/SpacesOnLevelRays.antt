@@ -42,12 +42,12 @@ use Rattle.theory_parity.specs.Below.{IsWay, value_of, is_lower_at, is_up_to_at,
 use Rattle.theory_parity.proofs.BelowFlips.{reaching_is_line}
 use Rattle.theory_parity.proofs.InsideByValues.{HoldsNoEnd, at_most_one_at, on_is_through, up_to_by_cases}
 use Rattle.theory_parity.proofs.SensesAlternate.{senses_alternate}
-use Rattle.theory_sight.proofs.LayeredItems.{StartsAt}
 use Rattle.theory_gaps.proofs.EdgesAtANumber.{no_end_over}
 use Rattle.theory_gaps.proofs.LabelsAlongTheNormal.{IsRow, plan_edge, edge_stands, own_depths, odd_in_row}
 use Rattle.theory_gaps.proofs.LabelsAlongTheNormal.{below_moved, up_to_moved, of_prism, ray_is_way, depth_of}
 use Rattle.theory_gaps.proofs.PointsOnTheRay.{frame_of, abscissa, on_at}
 use Rattle.theory_mirrors.proofs.SpacesAlongARay.{SeesSpaces, EndsAtStart, BeginsAt}
+use Rattle.theory_sight.specs.Crossings.{StartsAt}
 
 -- the order to a number is that to the same number
 below_the_same : (t v w : Arrow) → IsRational t → IsRational v → IsRational w → IsSame v w

@@ -30,7 +30,6 @@ use Rattle.sb_model.specs.PlanEdges.{PlanEdge, is_abscissa}
 use Rattle.sb_model.specs.Solids.{Upright, is_upright}
 use Rattle.theory_models.proofs.NumbersApart.{of_space, space_stands}
 use Rattle.theory_parity.specs.Below.{IsWay}
-use Rattle.theory_sight.proofs.LayeredItems.{StartsAt}
 use Rattle.theory_gaps.specs.Gaps.{is_present}
 use Rattle.theory_gaps.specs.Borders.{entry_along, exit_along}
 use Rattle.theory_gaps.proofs.WalkUpAndDown.{AreBelow, present_is_inside, off_own_edges, upright_normal}
@@ -38,6 +37,7 @@ use Rattle.theory_gaps.proofs.WalkUpAndDown.{depth_from, of_prism, entry_first}
 use Rattle.theory_gaps.proofs.WalkUpAndDown.{start_up, start_down}
 use Rattle.theory_mirrors.proofs.SpacesAlongARay.{SeesSpaces, EndsAtStart, BeginsAt}
 use Rattle.theory_mirrors.proofs.WaysFromFaces.{SeesFromFace}
+use Rattle.theory_sight.specs.Crossings.{StartsAt}
 
 -- ---- whole positions
 

@@ -27,8 +27,8 @@ use Rattle.theory_models.proofs.RaysAlike.{along_is_spot}
 use Rattle.theory_sight.specs.Coarse.{coarse}
 use Rattle.theory_sight.specs.Reading.{FarEnd, Stretch, stretch, Crossing, end_position, there, back, read}
 use Rattle.theory_sight.specs.Reading.{AreStretches, all_items}
-use Rattle.theory_sight.proofs.CrossingItems.{IsSeen, label_along}
-use Rattle.theory_sight.proofs.LayeredItems.{StartsAt, reading_at_depth}
+use Rattle.theory_sight.proofs.CrossingItems.{IsSeen}
+use Rattle.theory_sight.proofs.LayeredItems.{reading_at_depth}
 use Rattle.theory_sight.proofs.ReadBack.{there_and_back}
 use Rattle.theory_sight.proofs.WalkIsRead.{walk_is_read}
 use Rattle.theory_gaps.proofs.RaysWithBorders.{HasColumn}
@@ -41,6 +41,7 @@ use Rattle.theory_mirrors.proofs.WalkedBack.{reduced_from, stretches_from, IsBac
 use Rattle.theory_mirrors.proofs.WalksToSpaces.{PassesTo, passes_to_space}
 use Rattle.theory_mirrors.proofs.WaysFromFaces.{ArrivesAt, SeesFromFace, IsAhead, ahead, first_label}
 use Rattle.theory_mirrors.proofs.WaysFromFaces.{stretches_are_coarse, begins_on_the_way}
+use Rattle.theory_sight.specs.Crossings.{StartsAt, label_along}
 
 -- ---- a ray from a known position
 

@@ -31,13 +31,14 @@ use Rattle.theory_sight.specs.Reading.{square, Stretch, stretch}
 use Rattle.theory_sight.specs.Reading.{AreStretches, Crossing, end_position, AllPassed, there, back}
 use Rattle.theory_sight.specs.Reading.{is_passed_over}
 use Rattle.theory_sight.proofs.BandsOfPrisms.{low_end_of, high_end_of}
-use Rattle.theory_sight.proofs.CrossingItems.{IsSeen, label_along, element_layering}
+use Rattle.theory_sight.proofs.CrossingItems.{IsSeen, element_layering}
 use Rattle.theory_sight.proofs.ElementAt.{element_is_at, coarse_element}
 use Rattle.theory_sight.proofs.ItemsReversed.{LiesWithin}
 use Rattle.theory_sight.proofs.ReadBack.{AllWithin}
 use Rattle.theory_mirrors.proofs.SeenFromBehind.{back_from, cross-back, back-whole, ray_there, ray_back}
 use Rattle.theory_mirrors.proofs.SeenFromBehind.{label_back, square_back}
 use Rattle.theory_numbers.proofs.Arrows.{cross-turn}
+use Rattle.theory_sight.specs.Crossings.{label_along}
 
 -- ---- a column from a number on
 

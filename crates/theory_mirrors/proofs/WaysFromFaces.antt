@@ -29,13 +29,13 @@ use Rattle.sb_model.specs.Walks.{is_square}
 use Rattle.theory_sight.specs.Coarse.{coarse}
 use Rattle.theory_sight.specs.Reading.{FarEnd, Stretch, stretch, Crossing, end_position, there}
 use Rattle.theory_sight.specs.Reading.{AreStretches}
-use Rattle.theory_sight.proofs.CrossingItems.{label_along}
 use Rattle.theory_mirrors.specs.Laws.{HaveNoOverlap}
 use Rattle.theory_mirrors.proofs.SpacesAlongARay.{SeesSpaces, EndsAtStart, BeginsAt}
 use Rattle.theory_mirrors.proofs.SpacesAlongARay.{label_before_start, begins_there, label_inside}
 use Rattle.theory_mirrors.proofs.SpacesAlongARay.{space_is_at, only_space, one_space, just_after}
 use Rattle.theory_mirrors.proofs.SpacesAlongARay.{IsJustAfter, point_is}
 use Rattle.theory_mirrors.proofs.WalksToSpaces.{AreCoarse}
+use Rattle.theory_sight.specs.Crossings.{label_along}
 
 -- a face of the space with this number that faces back, on which a ray arrives at position y
 pub record ArrivesAt (m : Building) (r : Ray) (x0 y : ℤ) (k : ℕ) : Type 0 where

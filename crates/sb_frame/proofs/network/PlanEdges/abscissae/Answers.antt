@@ -1,6 +1,5 @@
 -- These are the abscissae of the direction.
 use Rattle.sb_fraction.specs.Lines.{arrow_along}
-use Rattle.sb_frame.proofs.AbscissaeFound.{are_abscissae, if_abscissae, if_sized}
 use Rattle.sb_frame.proofs.Along.AbscissaeFound.{are_abscissae, if_abscissae, if_sized}
 use Rattle.sb_frame.proofs.network.PlanEdges.abscissae.Goals as goal
 
