@@ -23,4 +23,4 @@ pub use crate::laws::one_chain;
 pub use crate::placed::placed_on;
 pub use crate::position::{Local, Position, told};
 pub use crate::reading::{plan_position, space_position};
-pub use crate::sight::Seen;
+pub use crate::sight::{Seen, sighted};

@@ -1,5 +1,8 @@
 // What a reference leads to.
-ghost use Rattle.std.specs.Prelude.{◌≡◌, List, slice_get};
+ghost use Rattle.std.specs.Prelude.{◌≡◌, ℕ, List, slice_get, IfOk};
+ghost use Rattle.sb_step.specs.Indexed.{Indexed};
+ghost use Rattle.sb_schema.specs.Table.{Row, Values};
+ghost use Rattle.sb_schema.specs.Views.{Views, Taking};
 ghost use Rattle.sb_place.specs.Sight as spec;
 ghost use Rattle.sb_place.specs.Steps.{seen_of};
 
@@ -19,8 +22,17 @@ pub enum Seen<V> {
     Shown(V),
 }
 
-/// What is seen by a view.
-pub(crate) fn sighted<V: Drop>(view: Result<V, ViewError>) -> Result<Seen<V>, AllocError>
+/// What is seen by a view of an instance: its one fault, or its attributes. `Err` exactly where the view
+/// wanted memory.
+pub fn sighted<V: Drop>(view: Result<V, ViewError>) -> Result<Seen<V>, AllocError>
+    ensures value { result ≡ seen_of view }
+    ensures seen { (taking : Taking) (row : Row) (fields : V → Values row.read) (indexed : Indexed) (n : ℕ)
+        → Views taking row fields indexed n view → IfOk result (λ s. spec.IsSeen row indexed n fields s) }
+{
+    seen_by(view)
+}
+
+fn seen_by<V: Drop>(view: Result<V, ViewError>) -> Result<Seen<V>, AllocError>
     ensures { result ≡ seen_of view }
 {
     match view {
@@ -34,7 +46,7 @@ pub(crate) fn sighted<V: Drop>(view: Result<V, ViewError>) -> Result<Seen<V>, Al
 
 impl<V> Seen<V> {
     /// The number that no instance has.
-    pub(crate) fn absent(&self) -> Option<u32>
+    pub fn absent(&self) -> Option<u32>
         ensures { result ≡ slice_get (spec.absent_at self.now) 0 }
     {
         match self {
@@ -44,7 +56,7 @@ impl<V> Seen<V> {
     }
 
     /// The number of the instance that is not of its row.
-    pub(crate) fn broken(&self) -> Option<u32>
+    pub fn broken(&self) -> Option<u32>
         ensures { result ≡ slice_get (spec.broken_at self.now) 0 }
     {
         match self {
@@ -54,7 +66,7 @@ impl<V> Seen<V> {
     }
 
     /// Whether the instance is of another entity.
-    pub(crate) fn is_other(&self) -> bool
+    pub fn is_other(&self) -> bool
         ensures { result ≡ spec.is_other self.now }
     {
         matches!(self, Seen::Other)

@@ -6,4 +6,4 @@ use Rattle.sb_place.proofs.reading.direction_seen.Goals as goal
 pub returns : goal.returns
 returns c =
     views_are_seen with_memory rows.direction (λ v. (v.a1, tt)) c.args.file.now c.args.number
-    c.direction-view.result c.sighted.result c.direction-view.ensures c.sighted.ensures
+    c.direction-view.result c.sighted.result c.direction-view.ensures c.sighted.ensures.value

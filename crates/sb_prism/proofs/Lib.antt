@@ -1,0 +1,2 @@
+-- The proofs by topic.
+mod Examples

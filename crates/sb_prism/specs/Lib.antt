@@ -1,0 +1,5 @@
+pub mod Grid
+pub mod Shapes
+pub mod Faults
+pub mod Outlines
+pub mod Prisms
