@@ -24,3 +24,4 @@ pub mod ArrivalsOnSides
 pub mod ReversedWalks
 -- worked cases
 pub mod ModelsApart
+mod Examples
