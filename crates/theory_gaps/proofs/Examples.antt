@@ -58,22 +58,22 @@ use Rattle.theory_models.proofs.BoxesAreSolid.{is_box}
 use Rattle.theory_gaps.specs.Gaps.{edges_at}
 
 -- the whole number n
-abbrev at : ℕ → Arrow
+abbrev pub at : ℕ → Arrow
 at n = rational (pos n) (pos 1)
 
 -- a side of a room of a model, a slab of its direction with its order, and a point of the side
-record SideCase : Type 0 where
-  model : Building
-  room : Space
-  side : ℕ
-  over : Edge
-  low : Arrow
-  high : Arrow
-  order : List ℕ
-  point : Spot
+pub record SideCase : Type 0 where
+  pub model : Building
+  pub room : Space
+  pub side : ℕ
+  pub over : Edge
+  pub low : Arrow
+  pub high : Arrow
+  pub order : List ℕ
+  pub point : Spot
 
 -- the slab is one and the order sorted, and the point is a plain point of the side over it
-abbrev is_side_case : SideCase → Bool
+abbrev pub is_side_case : SideCase → Bool
 is_side_case c =
     is_building c.model
     && (is_positive (dot (way_along c.over) (way_along c.over))
@@ -85,14 +85,14 @@ is_side_case c =
     && is_below (reading c.point (direction_of c.over)) c.high))))))
 
 -- what the side case reads outward
-abbrev reads : SideCase → Walk → Type 0
+abbrev pub reads : SideCase → Walk → Type 0
 reads c w =
     course_of w
     ≡ read c.model (normal_over c.over) ((side_over c.over).position) ((side_over c.over).position)
     (stretches_outward c.model c.over c.point c.order)
 
 -- is the walk of its point, and no other is
-walk_of_case : (c : SideCase) → Stands c.room c.model.spaces
+pub walk_of_case : (c : SideCase) → Stands c.room c.model.spaces
     → edge_numbered c.room.prism c.side ≡ Some c.over
     → rising_numbers c.order ≡ spanning_places (plan_edges c.model) (way_along c.over) c.low c.high
     → is_side_case c ≡ true → (w : Walk)
@@ -120,12 +120,12 @@ walk_of_case c room_in found places answer w =
     (less_from (pos 0) (cross (reading c.point (direction_of c.over)) c.high) last.1) w
 
 -- a point at x = 1500 along y and at height z
-abbrev on_east_side : ℕ → ℕ → Spot
+abbrev pub on_east_side : ℕ → ℕ → Spot
 on_east_side x z = spot (pos x) (pos 1500) (pos z) (pos 1)
 
 -- Side(1) of a room from x = 0 to x = 4000, over the slab along y from 0 to 3000, and a point at height
 -- 1000. The order from below goes against x
-abbrev east_of : Building → List ℕ → SideCase
+abbrev pub east_of : Building → List ℕ → SideCase
 east_of m order =
     record {
       model = m;
@@ -139,33 +139,33 @@ east_of m order =
     }
 
 -- the models are those of a room and of others to its east
-abbrev with_room : List Space → List Element → Building
+abbrev pub with_room : List Space → List Element → Building
 with_room spaces elements = model (box_room 20 0 4000 0 3000 2500 refl ∷ spaces) elements
 
 -- a box to the east, from one x to another
-abbrev space_from : ℕ → (x0 x1 : ℕ) → IsTrue (is_box (block x0 x1 0 3000 2500)) → Space
+abbrev pub space_from : ℕ → (x0 x1 : ℕ) → IsTrue (is_box (block x0 x1 0 3000 2500)) → Space
 space_from number x0 x1 box = box_room number x0 x1 0 3000 2500 box
 
-abbrev element_from : ℕ → (x0 x1 : ℕ) → IsTrue (is_box (block x0 x1 0 3000 2500)) → Element
+abbrev pub element_from : ℕ → (x0 x1 : ℕ) → IsTrue (is_box (block x0 x1 0 3000 2500)) → Element
 element_from number x0 x1 box = box_element number x0 x1 0 3000 2500 box Plain
 
 -- ---- a wall of three layers between two rooms
 
-abbrev through_the_wall : SideCase
+abbrev pub through_the_wall : SideCase
 through_the_wall = east_of layered_wall_between_rooms (5 ∷ 7 ∷ 9 ∷ 1 ∷ 11 ∷ 3 ∷ [])
 
-wall_is_case : is_side_case through_the_wall ≡ true
+pub wall_is_case : is_side_case through_the_wall ≡ true
 unfolding cross dot clearance span_along step runs_along direction_of greatest_divisor divisor_within
 wall_is_case = refl
 
-wall_places : rising_numbers through_the_wall.order
+pub wall_places : rising_numbers through_the_wall.order
     ≡ spanning_places (plan_edges layered_wall_between_rooms) (way_along through_the_wall.over) (at 0)
     (at 3000)
 unfolding cross step runs_along direction_of greatest_divisor divisor_within
 wall_places = refl
 
 -- plaster, brick and gypsum, and the other room 100 mm behind
-abbrev layers_and_room : Walk
+abbrev pub layers_and_room : Walk
 layers_and_room =
     walk_of
     (item 30 1 (whole (pos 12500)) ∷ item 30 2 (whole (pos 75000)) ∷ item 30 3 (whole (pos 12500)) ∷ [])
@@ -175,7 +175,7 @@ wall_reads : reads through_the_wall layers_and_room
 unfolding cross dot step runs_along direction_of normal_over reduced greatest_divisor divisor_within
 wall_reads = refl
 
-wall_walk : IsWalk layered_wall_between_rooms (side_over through_the_wall.over)
+pub wall_walk : IsWalk layered_wall_between_rooms (side_over through_the_wall.over)
     (on_east_side 4000 1000) layers_and_room
 wall_walk =
     (walk_of_case through_the_wall (inl refl) refl wall_places wall_is_case layers_and_room).1
@@ -183,14 +183,14 @@ wall_walk =
 
 -- ---- touching rooms
 
-abbrev touching : SideCase
+abbrev pub touching : SideCase
 touching = east_of (with_room (space_from 21 4000 8000 refl ∷ []) []) (5 ∷ 1 ∷ 7 ∷ 3 ∷ [])
 
-touching_is_case : is_side_case touching ≡ true
+pub touching_is_case : is_side_case touching ≡ true
 unfolding cross dot clearance span_along step runs_along direction_of greatest_divisor divisor_within
 touching_is_case = refl
 
-touching_places : rising_numbers touching.order
+pub touching_places : rising_numbers touching.order
     ≡ spanning_places (plan_edges touching.model) (way_along touching.over) (at 0) (at 3000)
 unfolding cross step runs_along direction_of greatest_divisor divisor_within
 touching_places = refl
@@ -200,7 +200,7 @@ touching_reads : reads touching (walk_of [] (pos 0) (end.Space 21))
 unfolding cross dot step runs_along direction_of normal_over reduced greatest_divisor divisor_within
 touching_reads = refl
 
-touching_walk : IsWalk touching.model (side_over touching.over) touching.point
+pub touching_walk : IsWalk touching.model (side_over touching.over) touching.point
     (walk_of [] (pos 0) (end.Space 21))
 touching_walk =
     (walk_of_case touching (inl refl) refl touching_places touching_is_case
@@ -260,15 +260,15 @@ own_line_left_out_is_refused walks =
 -- ---- a slanted far end
 
 -- an element whose far side is not parallel to the room's
-abbrev wedge : Upright
+abbrev pub wedge : Upright
 wedge =
     slab (plan_point 4000 0 ∷ plan_point 4100 0 ∷ plan_point 4400 3000 ∷ plan_point 4000 3000 ∷ []) 0 2500
 
-wedge_is_solid : IsTrue (is_upright wedge)
+pub wedge_is_solid : IsTrue (is_upright wedge)
 unfolding cross dot
 wedge_is_solid = refl
 
-abbrev to_a_slanted_end : SideCase
+abbrev pub to_a_slanted_end : SideCase
 to_a_slanted_end =
     east_of (with_room [] (element 30 wedge wedge_is_solid Plain ∷ [])) (5 ∷ 1 ∷ 7 ∷ 3 ∷ [])
 
@@ -287,7 +287,7 @@ unfolding cross dot step runs_along direction_of normal_over reduced greatest_di
 slanted_reads = refl
 
 -- the element is not passed
-slanted_walk : IsWalk to_a_slanted_end.model (side_over to_a_slanted_end.over) to_a_slanted_end.point
+pub slanted_walk : IsWalk to_a_slanted_end.model (side_over to_a_slanted_end.over) to_a_slanted_end.point
     (walk_of [] (pos 0) (end.Solid 30))
 slanted_walk =
     (walk_of_case to_a_slanted_end (inl refl) refl slanted_places slanted_is_case

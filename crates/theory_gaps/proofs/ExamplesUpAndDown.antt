@@ -36,29 +36,29 @@ use Rattle.theory_gaps.proofs.RowsThatRise.{heights_above, all_ends, have_height
 use Rattle.theory_gaps.proofs.ThroughGaps.{has_walk_up_and_down}
 
 -- along x
-abbrev along_x : Arrow
+abbrev pub along_x : Arrow
 along_x = arrow (pos 1) (pos 0)
 
 -- Bottom or Top of a room of a model, a slab along x with its order, a point and its gap
-record LevelCase : Type 0 where
-  model : Building
-  room : Space
-  face : FaceKind
-  surface : Surface
-  low : Arrow
-  high : Arrow
-  order : List ℕ
-  point : Spot
-  gap : ℕ
+pub record LevelCase : Type 0 where
+  pub model : Building
+  pub room : Space
+  pub face : FaceKind
+  pub surface : Surface
+  pub low : Arrow
+  pub high : Arrow
+  pub order : List ℕ
+  pub point : Spot
+  pub gap : ℕ
 
 -- the places whose edges lie below the point
-abbrev lower : LevelCase → ℕ → Bool
+abbrev pub lower : LevelCase → ℕ → Bool
 lower c k =
     is_lower_place (plan_edges c.model) along_x (abscissa_in along_x c.point)
     (ordinate_of (in_frame along_x c.point)) k
 
 -- the slab is one and the order sorted, and the point is plain and lies in the gap
-abbrev is_level_case : LevelCase → Bool
+abbrev pub is_level_case : LevelCase → Bool
 is_level_case c =
     is_building c.model
     && (is_slab_of c.model along_x c.low c.high
@@ -71,7 +71,7 @@ is_level_case c =
     && list_all (λ k. not (lower c k)) (drop c.gap c.order))))))))
 
 -- what is read in the gap
-abbrev reads : LevelCase → Walk → Type 0
+abbrev pub reads : LevelCase → Walk → Type 0
 reads c w =
     course_of w
     ≡ read c.model c.surface.normal c.surface.position c.surface.position
@@ -101,7 +101,7 @@ unfolding dot
 along_x_is_way = less_from (pos 0) (dot along_x along_x) refl
 
 -- is the walk of the point, and no other is
-walk_of_case : (c : LevelCase) → (c.face ≡ kind.Bottom) ⊎ (c.face ≡ kind.Top)
+pub walk_of_case : (c : LevelCase) → (c.face ≡ kind.Bottom) ⊎ (c.face ≡ kind.Top)
     → surface_of c.room.prism c.face ≡ Some c.surface
     → rising_numbers c.order ≡ spanning_places (plan_edges c.model) along_x c.low c.high
     → is_level_case c ≡ true → (w : Walk) → IsWalk c.model c.surface c.point w ↔ reads c w

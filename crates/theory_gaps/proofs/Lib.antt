@@ -32,5 +32,6 @@ pub mod RealGaps
 pub mod OverlapInGaps
 -- slabs and orders of worked models
 pub mod OrdersByTests
-mod Examples
-mod ExamplesUpAndDown
+-- worked cases
+pub mod Examples
+pub mod ExamplesUpAndDown

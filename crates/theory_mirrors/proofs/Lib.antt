@@ -22,3 +22,6 @@ pub mod SpacesOnUprightRays
 pub mod ArrivalsOnSides
 -- the law
 pub mod ReversedWalks
+-- worked cases
+pub mod ModelsApart
+mod Examples
