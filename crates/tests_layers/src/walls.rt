@@ -1,6 +1,6 @@
 //! Walls of one box each: 100 mm thick, from x = 4000 to 4100.
 
-ghost use Rattle.std.specs.Prelude.{◌≡◌, IfOk, IsTrue, pos, negsuc};
+ghost use Rattle.std.specs.Prelude.{◌≡◌, ◌∷◌, [], IfOk, IsTrue, pos, negsuc};
 ghost use Rattle.sb_fraction.specs.Spots.{vector};
 ghost use Rattle.sb_model.specs.declared.layers.Layering.TheVariants.{Plain, Layered};
 ghost use Rattle.sb_model.specs.Building.{is_layering};
@@ -33,10 +33,22 @@ fn wall_box(alloc: Global) -> Result<Prism, AllocError> {
 fn three_layers(alloc: Global) -> Result<Layers, AllocError>
     ensures { IfOk result (λ layers. IsTrue (is_layering (Layered layers (record { x = pos 1; y = pos 0; z = pos 0 })))) }
 {
+    listed(
+        alloc,
+        layer(alloc, 1, 12500),
+        layer(alloc, 2, 75000),
+        layer(alloc, 3, 12500),
+    )
+}
+
+/// Three layers as a list.
+fn listed(alloc: Global, first: Layer, second: Layer, third: Layer) -> Result<Layers, AllocError>
+    ensures { IfOk result (λ layers. layers ≡ first ∷ second ∷ third ∷ []) }
+{
     let mut layers = Layers::new(alloc);
-    layers.push(layer(alloc, 1, 12500))?;
-    layers.push(layer(alloc, 2, 75000))?;
-    layers.push(layer(alloc, 3, 12500))?;
+    layers.push(first)?;
+    layers.push(second)?;
+    layers.push(third)?;
     Ok(layers)
 }
 

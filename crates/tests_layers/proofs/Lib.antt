@@ -1,0 +1,2 @@
+-- The wall of three layers stands right.
+mod ThreeLayers
