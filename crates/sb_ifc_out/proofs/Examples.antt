@@ -1,6 +1,7 @@
 -- Worked identifiers, points and lines, and wrong ones that are refused.
 
 use Rattle.std.proofs.Common.{◌≡◌, refl, sym, ap, ◌∙◌, arith, ℕ, ℤ, pos, negsuc, List, [], ◌∷◌, ◌++◌, None, Some, codes, replicate}
+use Rattle.std.specs.Fmt.{digits}
 use Rattle.theory_numbers.specs.Fractions.{Ratio, whole}
 use Rattle.sb_fraction.specs.declared.unit.Unit.TheVariants.{Metre, Millimetre}
 use Rattle.sb_fraction.specs.Spots.{Vector, vector}
@@ -16,9 +17,11 @@ use Rattle.sb_ifc_out.specs.BoundaryLines.{point_text, surface_text, direction_t
 -- ---- identifiers
 
 guid_of_zero : guid_of 0 ≡ replicate 22 48
+unfolding guid_of
 guid_of_zero = refl
 
 guid_of_greatest : guid_of 340282366920938463463374607431768211455 ≡ codes "3$$$$$$$$$$$$$$$$$$$$$"
+unfolding guid_of
 guid_of_greatest = refl
 
 -- ---- rounding
@@ -71,12 +74,12 @@ across_bottom = refl
 
 in_metres : point_text Metre (vector (pos 4000000000) (pos 0) (pos 2500000000))
     ≡ codes "IFCCARTESIANPOINT((4.000000000,0.000000000,2.500000000))"
-unfolding scaled_text
+unfolding scaled_text digits
 in_metres = refl
 
 in_millimetres : point_text Millimetre (vector (negsuc 0) (pos 0) (pos 2500000000))
     ≡ codes "IFCCARTESIANPOINT((-0.000001,0.000000,2500.000000))"
-unfolding scaled_text
+unfolding scaled_text digits
 in_millimetres = refl
 
 -- the eight lines of a surface of four corners from #81 on
@@ -89,4 +92,5 @@ surface_of_four : surface_text (vector (pos 1) (pos 0) (pos 0)) (vector (pos 0) 
     ++ codes "#90=IFCPLANE(#89);\n"
     ++ codes "#91=IFCFACESURFACE((#86),#90,.T.);\n"
     ++ codes "#92=IFCCONNECTIONSURFACEGEOMETRY(#91,$);\n"
+unfolding digits
 surface_of_four = refl

@@ -31,9 +31,9 @@ coordinate u nanometres = scaled_text nanometres (places_in u)
 abbrev pub point_text : unit.Unit → Vector → List ℕ
 point_text u v =
     concat (
-      codes "IFCCARTESIANPOINT((" ∷ coordinate u v.x ∷ codes "," ∷ coordinate u v.y ∷ codes ","
-      ∷ coordinate u v.z ∷ codes "))" ∷ []
-      )
+    codes "IFCCARTESIANPOINT((" ∷ coordinate u v.x ∷ codes "," ∷ coordinate u v.y ∷ codes ","
+    ∷ coordinate u v.z ∷ codes "))" ∷ []
+    )
 
 -- a line for each corner, from this number on
 abbrev pub corner_lines : unit.Unit → Frame → ℕ → List Corner → List ℕ
@@ -44,9 +44,9 @@ corner_lines u frame n (c ∷ cs) =
 abbrev pub direction_text : Vector → List ℕ
 direction_text v =
     concat (
-      codes "IFCDIRECTION((" ∷ whole v.x ∷ codes "," ∷ whole v.y ∷ codes "," ∷ whole v.z ∷ codes "))"
-      ∷ []
-      )
+    codes "IFCDIRECTION((" ∷ whole v.x ∷ codes "," ∷ whole v.y ∷ codes "," ∷ whole v.z ∷ codes "))"
+    ∷ []
+    )
 
 -- the eight lines of a surface whose corners stand on the lines from `first` on, up to before `n`: its loop
 -- and bound, the plane through its first corner with its normal and its direction, and its connection
@@ -57,11 +57,11 @@ surface_text normal across first corners n = concat (
     ∷ line (n + 2) (direction_text normal)
     ∷ line (n + 3) (direction_text across)
     ∷ line (n + 4)
-      (codes "IFCAXIS2PLACEMENT3D(" ++ reference first ++ codes "," ++ reference (n + 2) ++ codes ","
-      ++ reference (n + 3) ++ codes ")")
+    (codes "IFCAXIS2PLACEMENT3D(" ++ reference first ++ codes "," ++ reference (n + 2) ++ codes ","
+    ++ reference (n + 3) ++ codes ")")
     ∷ line (n + 5) (codes "IFCPLANE(" ++ reference (n + 4) ++ codes ")")
     ∷ line (n + 6)
-      (codes "IFCFACESURFACE((" ++ reference (n + 1) ++ codes ")," ++ reference (n + 5) ++ codes ",.T.)")
+    (codes "IFCFACESURFACE((" ++ reference (n + 1) ++ codes ")," ++ reference (n + 5) ++ codes ",.T.)")
     ∷ line (n + 7) (codes "IFCCONNECTIONSURFACEGEOMETRY(" ++ reference (n + 6) ++ codes ",$)")
     ∷ []
     )

@@ -11,18 +11,22 @@ use Rattle.uuid.specs.declared.Variant.TheVariants as variant
 abbrev pub digits : List ℕ
 digits = codes "0123456789ABCDEFGHIJKLMNOPQRSTUVWXYZabcdefghijklmnopqrstuvwxyz_$"
 
+-- the digit of a value
+abbrev pub digit_of : ℕ → ℕ
+digit_of value = slice_index digits value
+
 -- the digits of a number at the places below one, the most significant first
 abbrev pub digits_below : ℕ → ℕ → List ℕ
 digits_below zero value = []
 digits_below (suc place) value =
-    slice_index digits ((value / 64 ^ place) % 64) ∷ digits_below place value
+    digit_of ((value / 64 ^ place) % 64) ∷ digits_below place value
 
 -- how many digits an identifier has
 abbrev pub guid_length : ℕ
 guid_length = 22
 
 -- the identifier of a number
-abbrev pub guid_of : ℕ → List ℕ
+unfoldable pub guid_of : ℕ → List ℕ
 guid_of value = digits_below guid_length value
 
 -- the namespace 00112233-4455-6677-8899-aabbccddeeff
