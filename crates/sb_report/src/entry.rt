@@ -130,7 +130,13 @@ pub fn boundary_value(
     let corners = corners(model, &boundary.patch);
     let mut entry = Map::new(alloc);
     put(&mut entry, alloc, "id", Value::from(id))?;
-    put_face(&mut entry, alloc, face, &corners, facing_of(model, face).normal)?;
+    put_face(
+        &mut entry,
+        alloc,
+        face,
+        &corners,
+        facing_of(model, face).normal,
+    )?;
     put_walk(&mut entry, alloc, model, &boundary.walk)?;
     put_ties(&mut entry, alloc, boundary)?;
     Ok(Value::Object(entry))

@@ -448,7 +448,6 @@ module _ (m : Building) (r : Ray) (x0 : ℤ) (seen : IsSeen m r x0) (x y : ℤ) 
               let in_extent = seen.within e c.stands u is.0.rational at.3 in
               not_short_at x0 (high_along e.prism r.normal) u is.1.after in_extent.1
 
-
   -- the items of a crossing that is seen are those of the function
   pub crossing_items : (layer : ℕ) (items : List Item)
       → AreItemsOf m r (piece_to b before (Some (rational (y -ℤ x0) (pos 1))))
