@@ -1,2 +1,3 @@
--- The wall of three layers stands right.
+-- The wall of three layers stands right, and worked crossings.
 mod ThreeLayers
+mod Examples
