@@ -24,4 +24,6 @@ pub mod ArrivalsOnSides
 pub mod ReversedWalks
 -- worked cases
 pub mod ModelsApart
-mod Examples
+pub mod Examples
+mod ExamplesToItself
+mod ExamplesOfFloors
