@@ -22,6 +22,8 @@ pub mod SpacesOnUprightRays
 pub mod ArrivalsOnSides
 -- the law
 pub mod ReversedWalks
+-- u and v on both faces
+pub mod SamePlaces
 -- worked cases
 pub mod ModelsApart
 pub mod Examples
