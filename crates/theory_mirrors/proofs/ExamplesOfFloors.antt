@@ -109,4 +109,3 @@ floor_turns =
     (at_most_from (high_along room_below.prism axis_z) (low_along room_above.prism axis_z) refl))
     room_below (inl refl) kind.Top (top_of room_below.prism) refl through_the_floor.point
     (less_from (pos 0) through_the_floor.point.w fourth.0) fifth.0 floor_and_room floor_walk 21 refl
-

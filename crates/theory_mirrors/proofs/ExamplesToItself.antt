@@ -79,4 +79,3 @@ itself_turns =
     side_case_turns to_itself (inl refl) refl itself_is_case
     (one_alone to_itself.model (room 20 around_a_wall around_is_solid) refl) wall_and_itself itself_walk 20
     refl
-

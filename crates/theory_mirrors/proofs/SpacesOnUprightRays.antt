@@ -243,32 +243,32 @@ module _ (m : Building) (valid : IsTrue (is_building m)) (up : Bool) (p : Spot) 
 
 -- it has the plan of the point at which it begins
 module _ (m : Building) (p : Spot) (q : Spot) (same_x : q.x ≡ p.x) (same_y : q.y ≡ p.y) (same_w : q.w ≡ p.w)
-    where
-  off_level_cuts : is_off_level_cuts m p ≡ true → is_off_level_cuts m q ≡ true
-  off_level_cuts off =
-      ap₂ (λ a b. not a && not b)
-      (λ i. is_on_plan_edge m (spot (same_x i) (same_y i) (pos 0) (same_w i)))
-      (ap₂ (λ k w. is_abscissa m axis_x (rational k w))
-      (reads q.x q.y q.z p.x p.y p.z same_x same_y) same_w)
-      ∙ off
-    where
-      reads : (x y z a b c : ℤ) → x ≡ a → y ≡ b
-          → ((x *ℤ pos 1) +ℤ (y *ℤ pos 0)) +ℤ (z *ℤ pos 0)
-          ≡ ((a *ℤ pos 1) +ℤ (b *ℤ pos 0)) +ℤ (c *ℤ pos 0)
-      reads x y z a b c one two = omega (arith, ints, one, two)
+  where
+    off_level_cuts : is_off_level_cuts m p ≡ true → is_off_level_cuts m q ≡ true
+    off_level_cuts off =
+        ap₂ (λ a b. not a && not b)
+        (λ i. is_on_plan_edge m (spot (same_x i) (same_y i) (pos 0) (same_w i)))
+        (ap₂ (λ k w. is_abscissa m axis_x (rational k w))
+        (reads q.x q.y q.z p.x p.y p.z same_x same_y) same_w)
+        ∙ off
+      where
+        reads : (x y z a b c : ℤ) → x ≡ a → y ≡ b
+            → ((x *ℤ pos 1) +ℤ (y *ℤ pos 0)) +ℤ (z *ℤ pos 0)
+            ≡ ((a *ℤ pos 1) +ℤ (b *ℤ pos 0)) +ℤ (c *ℤ pos 0)
+        reads x y z a b c one two = omega (arith, ints, one, two)
 
-  plan_there : (s : Upright) → is_in_plan s.loops p ≡ true → is_in_plan s.loops q ≡ true
-  plan_there s inside =
-      (λ i. is_in_plan s.loops (spot (same_x i) (same_y i) (pos 0) (same_w i))) ∙ inside
+    plan_there : (s : Upright) → is_in_plan s.loops p ≡ true → is_in_plan s.loops q ≡ true
+    plan_there s inside =
+        (λ i. is_in_plan s.loops (spot (same_x i) (same_y i) (pos 0) (same_w i))) ∙ inside
 
-  plain_at : (s : Upright) (z : ℤ) → is_in_plan s.loops p ≡ true → is_off_level_cuts m p ≡ true
-      → q.z ≡ z *ℤ p.w
-      → ((is_in_plan s.loops q && int_eq q.z (z *ℤ q.w)) && is_off_level_cuts m q) ≡ true
-  plain_at s z inside off height =
-      and_from (is_in_plan s.loops q && int_eq q.z (z *ℤ q.w)) (is_off_level_cuts m q)
-      (and_from (is_in_plan s.loops q) (int_eq q.z (z *ℤ q.w)) (plan_there s inside)
-      ((Decides-int_eq q.z (z *ℤ q.w)).1 (height ∙ ap (λ w. z *ℤ w) (sym same_w))))
-      (off_level_cuts off)
+    plain_at : (s : Upright) (z : ℤ) → is_in_plan s.loops p ≡ true → is_off_level_cuts m p ≡ true
+        → q.z ≡ z *ℤ p.w
+        → ((is_in_plan s.loops q && int_eq q.z (z *ℤ q.w)) && is_off_level_cuts m q) ≡ true
+    plain_at s z inside off height =
+        and_from (is_in_plan s.loops q && int_eq q.z (z *ℤ q.w)) (is_off_level_cuts m q)
+        (and_from (is_in_plan s.loops q) (int_eq q.z (z *ℤ q.w)) (plan_there s inside)
+        ((Decides-int_eq q.z (z *ℤ q.w)).1 (height ∙ ap (λ w. z *ℤ w) (sym same_w))))
+        (off_level_cuts off)
 
 one_times : (x far : ℤ) → (x *ℤ (pos 1 *ℤ pos 1)) +ℤ (pos 0 *ℤ far) ≡ x
 one_times x far =

@@ -113,19 +113,17 @@ module _ (m : Building) (r : Ray) (x0 : ℤ) where
       → IsCutting (λ u. coarse (label_along m r u)) (Some at) None first bs → (ss : List Stretch)
       → AreStretches m r x0 (break_at at first ∷ bs) ss → AreCoarse ss
   stretches_are_coarse at at_in first [] cut [] are = absurd are
-  stretches_are_coarse at at_in first [] cut (t ∷ []) are =
-      (
-        ap coarse are.0 ∙ first_is_coarse at first at_in (ahead at at_in first [] cut) ∙ sym are.0,
-        tt,
-      )
+  stretches_are_coarse at at_in first [] cut (t ∷ []) are = (
+    ap coarse are.0 ∙ first_is_coarse at first at_in (ahead at at_in first [] cut) ∙ sym are.0,
+    tt,
+  )
   stretches_are_coarse at at_in first [] cut (t ∷ q ∷ ts) are = absurd are
   stretches_are_coarse at at_in first (b ∷ bs) cut [] are = absurd are
-  stretches_are_coarse at at_in first (b ∷ bs) cut (t ∷ ts) are =
-      (
-        ap coarse are.0 ∙ first_is_coarse at first at_in (ahead at at_in first (b ∷ bs) cut)
-            ∙ sym are.0,
-        stretches_are_coarse b.start cut.0.positive b.label bs cut.3 ts are.2,
-      )
+  stretches_are_coarse at at_in first (b ∷ bs) cut (t ∷ ts) are = (
+    ap coarse are.0 ∙ first_is_coarse at first at_in (ahead at at_in first (b ∷ bs) cut)
+        ∙ sym are.0,
+    stretches_are_coarse b.start cut.0.positive b.label bs cut.3 ts are.2,
+  )
 
   -- the first stretch has the first label
   pub first_label : (b : Break Label) (bs : List (Break Label)) (t : Stretch) (ts : List Stretch)
