@@ -22,6 +22,10 @@ pub mod SpacesOnUprightRays
 pub mod ArrivalsOnSides
 -- the law
 pub mod ReversedWalks
+-- u and v on both faces
+pub mod SamePlaces
 -- worked cases
 pub mod ModelsApart
-mod Examples
+pub mod Examples
+mod ExamplesToItself
+mod ExamplesOfFloors

@@ -1,8 +1,9 @@
 -- The law of reversed walks: where no two spaces overlap, a walk that ends at a space has its way back.
 use Rattle.std.specs.Prelude.{◌≡◌, ℕ, pos, neg_ℤ, ◌+ℤ◌, true, IsTrue, Some, reverse}
 use Rattle.theory_lists.specs.Members.{Stands}
-use Rattle.theory_numbers.specs.Rationals.{rational}
-use Rattle.sb_fraction.specs.Spots.{Spot, IsSpot, along, opposite}
+use Rattle.theory_numbers.specs.Arrows.{Arrow}
+use Rattle.theory_numbers.specs.Rationals.{IsSame, rational}
+use Rattle.sb_fraction.specs.Spots.{Spot, IsSpot, along, opposite, reading}
 use Rattle.sb_model.specs.declared.face.FaceKind.{FaceKind}
 use Rattle.sb_model.specs.declared.products.Space.{Space}
 use Rattle.sb_model.specs.declared.walk.End.TheVariants as end
@@ -51,3 +52,18 @@ HasReversedWalks =
     → (k : FaceKind) (f : Surface) → surface_of s.prism k ≡ Some f → (p : Spot) → IsSpot p
     → is_plain m s.prism k p ≡ true → (w : Walk) → IsWalk m f p w → (to : ℕ)
     → w.end ≡ end.Space to → HasWayBack m f w s.number to (far_point p f w)
+
+-- the faces read u and v along the same vectors, and two points have the same u and v
+pub record HasPlace (f g : Surface) (p q : Spot) : Type 0 where
+  pub across : g.across ≡ f.across
+  pub up : g.up ≡ f.up
+  pub same_u : IsSame (reading q f.across) (reading p f.across)
+  pub same_v : IsSame (reading q f.up) (reading p f.up)
+
+-- faces of spaces with opposite normals have one u and v, and a point further along the normal has those
+-- of the first
+abbrev pub HaveSamePlaces : Type 0
+HaveSamePlaces =
+    (s t : Space) (j k : FaceKind) (f g : Surface) → surface_of s.prism j ≡ Some f
+    → surface_of t.prism k ≡ Some g → g.normal ≡ opposite f.normal → (p : Spot) (depth : Arrow)
+    → HasPlace f g p (along p f.normal depth)
