@@ -190,3 +190,30 @@ reached_first c items first = record {
   complete = λ n within. (first n).1 within;
   closed = λ m n none parent. absurd none;
 }
+
+-- ---- where chains begin
+
+pub reached_more : (xs : List ℕ) (i : ℕ) (old new : Chain) (n : ℕ) → i < length xs
+    → Reaches (Some (get_or xs i 0)) old new
+    → (Stands n old.placements.items ↔ Stands n (take i xs))
+    → Stands n new.placements.items ↔ Stands n (take (i + 1) xs)
+reached_more xs i old new n within reaches same = (
+  λ stands. subst (Stands n) (sym taken) (either (reaches.old_or_found n stands)),
+  λ stands. back (stands_either n (take i xs) (get_or xs i 0 ∷ []) (subst (Stands n) taken stands)),
+)
+  where
+    taken : take (i + 1) xs ≡ take i xs ++ get_or xs i 0 ∷ []
+    taken = take_more xs i 0 within
+
+    either : Stands n old.placements.items ⊎ (Some (get_or xs i 0) ≡ Some n)
+        → Stands n (take i xs ++ get_or xs i 0 ∷ [])
+    either (inl there) =
+        stands_before n (take i xs) (get_or xs i 0 ∷ []) (same.0 there)
+    either (inr found) =
+        stands_behind n (take i xs) (get_or xs i 0 ∷ []) (inl (sym (same_Some _ n found)))
+
+    back : Stands n (take i xs) ⊎ Stands n (get_or xs i 0 ∷ []) → Stands n new.placements.items
+    back (inl there) =
+        grown_stands n old.placements.items new.placements.items reaches.grows (same.1 there)
+    back (inr (inl here)) = reaches.has_found n (ap Some (sym here))
+    back (inr (inr none)) = absurd none

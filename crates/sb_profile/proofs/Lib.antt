@@ -10,4 +10,7 @@ mod ChainsAreReached
 mod FoundTogether
 mod LeadsGoOn
 mod PlacesAreFollowed
+mod BodiesAgree
+mod LeadsFromProducts
+mod TablesAreRead
 mod Examples

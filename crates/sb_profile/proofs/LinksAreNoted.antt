@@ -110,3 +110,9 @@ module _ (target : ℕ → ℕ) where
     pub noted_is_lowest : (rs : List ℕ)
         → noted_all step None rs ≡ option_map linked (lowest_of (filter names rs))
     noted_is_lowest rs = from_any None rs ∙ ap (option_map linked) (lowered_none (filter names rs))
+
+-- lists one after another, as they are read
+pub lowered_then : (u v w : Option ℕ) (a rest : List ℕ) → v ≡ lowered u a → w ≡ lowered v rest
+    → w ≡ lowered u (a ++ rest)
+lowered_then u v w a rest first then_rest =
+    then_rest ∙ (ap (λ o. lowered o rest) first ∙ sym (lowered-append u a rest))

@@ -258,13 +258,15 @@ module _ (bodies : ℕ → Bool) (c : Contents) (at : Place) (old new : List Lea
       back m (inr mark) = by_rank m mark (cases_lt (rank_of mark.at) (rank_of at))
 
 -- all of it
-pub surveyed_more : (bodies : ℕ → Bool) (c : Contents) (roots : List ℕ) (at : Place) (old new : Found)
+pub surveyed_more : (bodies : ℕ → Bool) (c : Contents) (roots : List ℕ) (first : List Lead) (at : Place) (old new : Found)
     (ns : List ℕ) → ((n : ℕ) → Stands n ns ↔ Stands n (wanted_there at old.leads.items))
     → new.leads.items ≡ old.leads.items ++ flat_map (leads_with bodies c at) ns
     → new.unfit ≡ lowered old.unfit (filter (is_unfit_at c at) ns)
     → new.absent ≡ lowered old.absent (filter (is_absent c) ns)
-    → IsSurveyed bodies c roots (rank_of at) old → IsSurveyed bodies c roots (rank_of at + 1) new
-surveyed_more bodies c roots at old new ns wanted grown unfit absent surveyed = record {
+    → IsSurveyed bodies c roots first (rank_of at) old
+    → IsSurveyed bodies c roots first (rank_of at + 1) new
+surveyed_more bodies c roots first at old new ns wanted grown unfit absent surveyed = record {
+  keeps = λ lead there. stays bodies c at olds news ns wanted grown lead (surveyed.keeps lead there);
   sound = λ low n stands. sound_by low n (old_or_later bodies c at olds news ns wanted grown (low, n) stands);
   agree = λ low n stands. agree_by low n (old_or_later bodies c at olds news ns wanted grown (low, n) stands);
   closed = λ low n lead below stands follows.

@@ -38,7 +38,7 @@ none_if None refuted = refl
 none_if (Some a) refuted = absurd (refuted a refl)
 
 -- what is not found has no keyword
-unkeyed : (keywords : List (List ℕ)) (indexed : Indexed) (n : ℕ)
+pub unkeyed : (keywords : List (List ℕ)) (indexed : Indexed) (n : ℕ)
     → lookup (nat_eq n) indexed.file.instances ≡ None
     → is_one_of keywords (keyword_of indexed n) ≡ false
 unkeyed keywords indexed n missing =

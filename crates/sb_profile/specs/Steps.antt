@@ -7,3 +7,4 @@ pub mod Shapes
 pub mod Chains
 pub mod Found
 pub mod Survey
+pub mod Read

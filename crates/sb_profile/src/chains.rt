@@ -47,7 +47,7 @@ pub(crate) fn reach(
     }
 }
 
-fn below(placement: Option<u32>, building: Option<u32>) -> Option<u32>
+pub(crate) fn below(placement: Option<u32>, building: Option<u32>) -> Option<u32>
     ensures { result ≡ following.below building placement }
 {
     match placement {
@@ -56,7 +56,7 @@ fn below(placement: Option<u32>, building: Option<u32>) -> Option<u32>
     }
 }
 
-fn add(chain: &mut Chain, number: u32) -> Result<(), AllocError>
+pub(crate) fn add(chain: &mut Chain, number: u32) -> Result<(), AllocError>
     requires { IsSeen chain.old }
     ensures { OnOk result (Reaches (Some number) chain.old chain.new) }
 {

@@ -4,12 +4,14 @@
 //! taken, `specs/Following.antt`, which instances are read, and `specs/Defects.antt`, what is a defect.
 #![tactic(auto)]
 
+mod bodies;
 mod buildings;
 mod chains;
 mod defects;
 mod found;
 mod kinds;
 mod laws;
+mod leading;
 mod links;
 mod lowest;
 mod places;
@@ -18,6 +20,7 @@ mod seeing;
 mod seen;
 mod sights;
 mod survey;
+mod tables;
 mod units;
 
 pub use crate::defects::{Code, Defect};

@@ -4,6 +4,7 @@ ghost use Rattle.std.specs.Ordering.{nat_cmp};
 ghost use Rattle.std.specs.BTreeSet.{contains};
 ghost use Rattle.theory_lists.specs.Members.{Stands};
 ghost use Rattle.sb_profile.specs.Contents.{Contents, Says};
+ghost use Rattle.sb_profile.specs.Following.{Lead};
 ghost use Rattle.sb_profile.specs.Steps.Survey.{rank_of, is_to, wanted_there, IsSurveyed, places};
 
 use crate::found::Found;
@@ -20,9 +21,9 @@ pub(crate) fn survey(
     bodies: &BTreeSet<u32>,
     found: &mut Found,
 ) -> Result<(), AllocError>
-    ensures { OnOk result ((c : Contents) (roots : List ℕ) → Says file.now c
-        → IsSurveyed (contains nat_cmp bodies.now) c roots 0 found.old
-        → IsSurveyed (contains nat_cmp bodies.now) c roots places found.new) }
+    ensures { OnOk result ((c : Contents) (roots : List ℕ) (first : List Lead) → Says file.now c
+        → IsSurveyed (contains nat_cmp bodies.now) c roots first 0 found.old
+        → IsSurveyed (contains nat_cmp bodies.now) c roots first places found.new) }
 {
     survey_shapes(alloc, file, bodies, found)?;
     survey_positions(alloc, file, bodies, found)?;
@@ -36,9 +37,9 @@ fn survey_shapes(
     bodies: &BTreeSet<u32>,
     found: &mut Found,
 ) -> Result<(), AllocError>
-    ensures { OnOk result ((c : Contents) (roots : List ℕ) → Says file.now c
-        → IsSurveyed (contains nat_cmp bodies.now) c roots 0 found.old
-        → IsSurveyed (contains nat_cmp bodies.now) c roots 8 found.new) }
+    ensures { OnOk result ((c : Contents) (roots : List ℕ) (first : List Lead) → Says file.now c
+        → IsSurveyed (contains nat_cmp bodies.now) c roots first 0 found.old
+        → IsSurveyed (contains nat_cmp bodies.now) c roots first 8 found.new) }
 {
     follow(alloc, file, bodies, Place::Placement, found)?;
     follow(alloc, file, bodies, Place::Shape, found)?;
@@ -58,9 +59,9 @@ fn survey_positions(
     bodies: &BTreeSet<u32>,
     found: &mut Found,
 ) -> Result<(), AllocError>
-    ensures { OnOk result ((c : Contents) (roots : List ℕ) → Says file.now c
-        → IsSurveyed (contains nat_cmp bodies.now) c roots 8 found.old
-        → IsSurveyed (contains nat_cmp bodies.now) c roots places found.new) }
+    ensures { OnOk result ((c : Contents) (roots : List ℕ) (first : List Lead) → Says file.now c
+        → IsSurveyed (contains nat_cmp bodies.now) c roots first 8 found.old
+        → IsSurveyed (contains nat_cmp bodies.now) c roots first places found.new) }
 {
     follow(alloc, file, bodies, Place::Position3d, found)?;
     follow(alloc, file, bodies, Place::Position2d, found)?;
@@ -81,9 +82,9 @@ fn follow(
     at: Place,
     found: &mut Found,
 ) -> Result<(), AllocError>
-    ensures { OnOk result ((c : Contents) (roots : List ℕ) → Says file.now c
-        → IsSurveyed (contains nat_cmp bodies.now) c roots (rank_of at) found.old
-        → IsSurveyed (contains nat_cmp bodies.now) c roots (rank_of at + 1) found.new) }
+    ensures { OnOk result ((c : Contents) (roots : List ℕ) (first : List Lead) → Says file.now c
+        → IsSurveyed (contains nat_cmp bodies.now) c roots first (rank_of at) found.old
+        → IsSurveyed (contains nat_cmp bodies.now) c roots first (rank_of at + 1) found.new) }
 {
     let numbers = wanted(alloc, found.leads.as_slice(), at)?;
     'numbers: for number in numbers.as_slice() {

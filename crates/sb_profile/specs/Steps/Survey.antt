@@ -58,8 +58,9 @@ IsOneOrMarked roots test rank leads n = Stands n roots ⊎ IsMarked test rank le
 
 -- The leads to places of lower ranks were followed: what follows from them is found, and the lowest that
 -- is not of its row of them or of the roots is kept, and the lowest that is absent.
-pub record IsSurveyed (bodies : ℕ → Bool) (c : Contents) (roots : List ℕ) (rank : ℕ) (found : Found)
-    : Type 0 where
+pub record IsSurveyed (bodies : ℕ → Bool) (c : Contents) (roots : List ℕ) (first : List Lead)
+    (rank : ℕ) (found : Found) : Type 0 where
+  pub keeps : (lead : Lead) → Stands lead first → Stands lead found.leads.items
   pub sound : (at : Place) (n : ℕ) → Stands (at, n) found.leads.items → IsFollowed c at n
   pub agree : (at : Place) (n : ℕ) → Stands (at, n) found.leads.items
       → leads_with bodies c at n ≡ leads c at n

@@ -40,12 +40,12 @@ numbers-preserved c =
     )
 
 pub returns : goal.returns
-returns c = λ said roots says surveyed.
+returns c = λ said roots first says surveyed.
     let xs = c.as_slice-number-items.result.now in
     let bodies = contains nat_cmp c.args.bodies.now in
     let at = c.args.at in
     let whole = take_all c.numbers.number-index xs c.numbers-test.false in
-    surveyed_more bodies said roots at c.args.found.now c.numbers.found xs
+    surveyed_more bodies said roots first at c.args.found.now c.numbers.found xs
     (λ n. (
       λ stands. subst (λ ls. Stands n (wanted_there at ls)) c.as_slice.ensures.value
           ((c.in_ok-numbers.ensures n).0
