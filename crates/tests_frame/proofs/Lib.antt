@@ -1,0 +1,2 @@
+-- What the rows rest on.
+mod FourDirections
