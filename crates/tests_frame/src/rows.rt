@@ -99,7 +99,10 @@ fn edges_stand_by_product_and_then_by_place(rt: HostRuntime) -> Result<(), Fail>
     let right = Point { x: 10, y: 0 };
     let corner = Point { x: 10, y: 10 };
     let left = Point { x: 0, y: 10 };
-    assert!(rt; is_edge(&edges, 1, 20, right, corner), "the second of the space");
+    assert!(rt;
+        is_edge(&edges, 1, 20, right, corner),
+        "the second of the space"
+    );
     assert!(rt;
         is_edge(&edges, 4, 30, least, Point { x: 5, y: 10 }),
         "the first of the slab after it"
@@ -144,7 +147,12 @@ fn abscissae_of_directions(rt: HostRuntime) -> Result<(), Fail> {
         "the slabs cross at 10/3"
     );
     assert!(rt;
-        has_abscissae(alloc, crossing_slabs(alloc)?, along_y(), &[(0, 1), (20, 3), (10, 1)])?,
+        has_abscissae(
+            alloc,
+            crossing_slabs(alloc)?,
+            along_y(),
+            &[(0, 1), (20, 3), (10, 1)]
+        )?,
         "and at 20/3"
     );
     assert!(rt;
@@ -175,7 +183,10 @@ fn abscissae_of_directions(rt: HostRuntime) -> Result<(), Fail> {
         )?,
         "two crossings at 16, three at 20"
     );
-    assert!(rt; has_abscissae(alloc, rooms(alloc, 0)?, along_x(), &[])?, "none of nothing");
+    assert!(rt;
+        has_abscissae(alloc, rooms(alloc, 0)?, along_x(), &[])?,
+        "none of nothing"
+    );
     Ok(())
 }
 
@@ -188,12 +199,14 @@ fn has_directions(
         return Ok(false);
     };
     let list = directions(alloc, &model)?;
-    Ok(list.len() == wanted.len()
-        && list
-            .as_slice()
-            .iter()
-            .zip(wanted)
-            .all(|(a, b)| a.x == b.0 && a.y == b.1))
+    Ok(
+        list.len() == wanted.len()
+            && list
+                .as_slice()
+                .iter()
+                .zip(wanted)
+                .all(|(a, b)| a.x == b.0 && a.y == b.1),
+    )
 }
 
 #[test]
@@ -207,6 +220,9 @@ fn directions_of_models(rt: HostRuntime) -> Result<(), Fail> {
         has_directions(alloc, fan(alloc)?, &[(0, 1), (1, -4), (1, 0), (4, -1)])?,
         "by x and then by y"
     );
-    assert!(rt; has_directions(alloc, walls(alloc, 1, 1)?, &[(1, 0)])?, "no space");
+    assert!(rt;
+        has_directions(alloc, walls(alloc, 1, 1)?, &[(1, 0)])?,
+        "no space"
+    );
     Ok(())
 }
