@@ -1,6 +1,6 @@
 -- Worked crossings: in part, whole, up to a band's end, of one layer and of sixty-four.
 
-use Rattle.std.proofs.Common.{◌≡◌, refl, ℕ, zero, suc, ◌+◌, ◌-◌, pos, neg_ℤ, negsuc, List, [], ◌∷◌, length}
+use Rattle.std.proofs.Common.{◌≡◌, refl, ℕ, zero, suc, ◌+◌, ◌-◌, pos, neg_ℤ, negsuc, List, [], ◌∷◌}
 use Rattle.theory_numbers.specs.Arrows.{cross}
 use Rattle.theory_numbers.specs.Divisors.{greatest_divisor, divisor_within}
 use Rattle.theory_numbers.specs.Fractions.{reduced, whole}
@@ -9,6 +9,7 @@ use Rattle.sb_model.specs.declared.layers.Axis.{Axis}
 use Rattle.sb_model.specs.declared.layers.Layer.{Layer}
 use Rattle.sb_model.specs.declared.layers.Layering.TheVariants.{Plain, Layered}
 use Rattle.sb_model.specs.declared.products.Element.{Element}
+use Rattle.sb_model.specs.declared.walk.Item.{Item}
 use Rattle.sb_model.specs.Walks.{item}
 use Rattle.theory_models.proofs.ExampleModels.{box_element, layer}
 use Rattle.theory_sight.specs.Bands.{items_between}
@@ -78,3 +79,28 @@ half_the_share = refl
 plain_wall : items_between (box_element 33 0 100 0 3000 2500 refl Plain) east (pos 0) (pos 100)
     ≡ item 33 0 (whole (pos 100000)) ∷ []
 plain_wall = refl
+
+-- ---- sixty-four layers of a millimetre
+
+-- so many layers, numbered from this one
+abbrev thin_layers : ℕ → ℕ → List Layer
+thin_layers zero from = []
+thin_layers (suc more) from = layer from 1000 ∷ thin_layers more (suc from)
+
+-- so many items of a millimetre, of the layers from this one
+abbrev thin_items : ℕ → ℕ → List Item
+thin_items zero from = []
+thin_items (suc more) from = item 35 from (whole (pos 1000)) ∷ thin_items more (suc from)
+
+abbrev of_sixty_four : Element
+of_sixty_four = box_element 35 4000 4064 0 3000 2500 refl (Layered (thin_layers 64 1) eastward)
+
+sixty_four_layers : items_between of_sixty_four east (pos 4000) (pos 4064) ≡ thin_items 64 1
+unfolding reduced greatest_divisor divisor_within cross
+sixty_four_layers = refl
+
+-- the last two alone
+the_last_layers : items_between of_sixty_four east (pos 4062) (pos 4064)
+    ≡ item 35 63 (whole (pos 1000)) ∷ item 35 64 (whole (pos 1000)) ∷ []
+unfolding reduced greatest_divisor divisor_within cross
+the_last_layers = refl
