@@ -88,7 +88,7 @@ is_turned_profile _ = false
 -- nothing else of the shape.
 abbrev pub is_turned_by : Option Solid → Bool
 is_turned_by None = false
-is_turned_by (Some s) = is_turned_where s.position || is_turned_profile s.profile
+is_turned_by (Some s) = is_turned_profile s.profile || is_turned_where s.position
 
 abbrev pub is_turned : Seen Shape → Bool
 is_turned s = is_turned_by (solid_of s)
