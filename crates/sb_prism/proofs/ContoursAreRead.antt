@@ -2,7 +2,7 @@
 use Rattle.std.proofs.Common.{◌≡◌, ℕ, ℤ, Bool, true, false, ◌||◌, not, List, [], ◌∷◌, ◌++◌, map, Option, Some, None, refl, sym, ap, ◌∙◌, subst}
 use Rattle.std.specs.Prelude.{neg_ℤ, is_none, if◌then◌else◌}
 use Rattle.std.specs.List.{flat_map, list_any}
-use Rattle.std.proofs.lemmas.List.{map-append, append-nil}
+use Rattle.std.proofs.lemmas.List.{map-append}
 use Rattle.sb_fraction.specs.declared.unit.Unit as units
 use Rattle.sb_fixed.specs.Lengths.{nanometres_of}
 use Rattle.sb_place.specs.declared.sight.Seen.{Seen}
@@ -18,15 +18,15 @@ use Rattle.sb_prism.specs.declared.spot.Spot.{Spot}
 use Rattle.sb_prism.specs.declared.contour.Contour.{Contour}
 use Rattle.sb_prism.specs.declared.outline.Outline.{Outline}
 use Rattle.sb_step.specs.Indexed.{Indexed}
-use Rattle.sb_prism.specs.Shapes.{Curve, Profile, AreEach, IsCurve}
+use Rattle.sb_prism.specs.Shapes.{Curve, AreEach, IsCurve}
 use Rattle.sb_prism.specs.Shapes.Profile.{rectangle, area}
 use Rattle.sb_prism.specs.Faults.{in_curve, in_position, is_no_curve, is_turned_where, is_stray_where, is_above}
 use Rattle.sb_prism.specs.Faults.Fault.{not_of_row, not_there}
-use Rattle.sb_prism.specs.Outlines.{points_of, spot_by, half_of, frame_where, corners_about}
+use Rattle.sb_prism.specs.Outlines.{points_of, spot_by, frame_where, corners_about}
 use Rattle.sb_prism.specs.Prisms.{is_far_point, is_far_curve, is_far_where}
 use Rattle.sb_prism.specs.Kept.{faults_of, faults_of_local, joined, spot_of, spot_at, spot_or_none, outline_of, contour_of, without_loops, with_loop, length_in, measure_of, measure_faults, local_where, corner_at, rectangle_loops, IsContourOf}
 use Rattle.sb_prism.proofs.FaultsAreJoined.{joined_faults, joined_lengths}
-use Rattle.sb_prism.proofs.OutlinesAreRead.{any_push, flat_push, or_false}
+use Rattle.sb_prism.proofs.OutlinesAreRead.{any_push, flat_push}
 
 -- one curve more
 pub contour_more : (u : units.Unit) (cs : List (Seen Curve)) (c : Seen Curve)

@@ -1,6 +1,6 @@
 -- Of each number of a list one thing is read, number by number.
 use Rattle.std.proofs.lemmas.List.{take_more, take_all}
-use Rattle.std.proofs.Common.{◌≡◌, ◌<◌, ◌≤◌, ◌+◌, length, take, get_or, subst, ℕ, List, [], ◌∷◌, ◌++◌, drop, Option, Some, None, slice_get, refl, sym, ap, ◌∙◌, append_assoc, append-nil}
+use Rattle.std.proofs.Common.{◌≡◌, ◌<◌, ◌≤◌, ◌+◌, length, take, get_or, subst, ℕ, List, [], ◌∷◌, ◌++◌, drop, Some, None, slice_get, sym, ap, ◌∙◌, append_assoc, append-nil}
 use Rattle.sb_prism.specs.Shapes.{AreEach}
 
 -- of each number one thing, and of one number more

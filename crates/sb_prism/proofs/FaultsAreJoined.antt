@@ -1,6 +1,5 @@
 -- The faults of one thing and of another behind it are those of both.
 use Rattle.std.proofs.Common.{◌≡◌, ℕ, Bool, true, false, ◌||◌, List, [], ◌∷◌, ◌++◌, refl}
-use Rattle.sb_prism.specs.declared.faults.Faults.{Faults}
 use Rattle.sb_prism.specs.Kept.{faults_of, joined}
 
 pub joined_faults : (b c a d : List ℕ) (t u s r f g : Bool)

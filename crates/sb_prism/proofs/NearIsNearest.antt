@@ -1,10 +1,10 @@
 -- No whole millimetre but the nearest one is near.
-use Rattle.std.proofs.Common.{◌≡◌, ℕ, ℤ, pos, ◌+◌, ◌*◌, ◌/◌, ◌≤◌, ◌<◌, Bool, true, false, arith, refl, sym, ◌∙◌, ap}
-use Rattle.std.specs.Prelude.{neg_ℤ, ◌-ℤ◌, ◌*ℤ◌, ◌≤ℤ◌, ◌<ℤ◌, unsigned_abs, int_lt, nat_le, if◌then◌else◌}
+use Rattle.std.proofs.Common.{◌≡◌, ℕ, ℤ, pos, ◌+◌, ◌*◌, ◌/◌, ◌≤◌, ◌<◌, Bool, true, false, arith, refl}
+use Rattle.std.specs.Prelude.{neg_ℤ, ◌-ℤ◌, ◌*ℤ◌, ◌≤ℤ◌, ◌<ℤ◌, unsigned_abs, int_lt, if◌then◌else◌}
 use Rattle.std.proofs.lemmas.Int.{ints}
 use Rattle.std.proofs.lemmas.Bool.{leb-true}
 use Rattle.theory_numbers.proofs.Signs.{less_from, not_less_from}
-use Rattle.sb_prism.specs.Grid.{millimetre, tolerance, nearest_millimetre, is_near_to, NearIsNearest}
+use Rattle.sb_prism.specs.Grid.{NearIsNearest}
 
 -- the quotient of a number by a million
 quotient : (n : ℕ) → (1000000 * (n / 1000000) ≤ n) × (n < 1000000 * (n / 1000000) + 1000000)

@@ -14,11 +14,10 @@ use Rattle.sb_place.specs.Sight.{absent_at, broken_at, is_other}
 use Rattle.sb_prism.specs.declared.faults.Faults.{Faults}
 use Rattle.sb_prism.specs.declared.spot.Spot.{Spot}
 use Rattle.sb_prism.specs.declared.outline.Outline.{Outline}
-use Rattle.sb_prism.specs.Shapes.{Curve}
-use Rattle.sb_prism.specs.Shapes.Curve.{polyline, indexed}
+use Rattle.sb_prism.specs.Shapes.Curve.{polyline}
 use Rattle.sb_prism.specs.Outlines.{texts_at}
 use Rattle.sb_prism.specs.Prisms.{is_far_point}
-use Rattle.sb_prism.specs.Kept.{faults_of, joined, spot_in, spot_at, spot_or_none, outline_of, point_faults, with_spot, with_measured, with_points}
+use Rattle.sb_prism.specs.Kept.{faults_of, joined, spot_in, spot_at, outline_of, point_faults, with_spot, with_measured, with_points}
 use Rattle.sb_prism.proofs.FaultsAreJoined.{joined_faults}
 
 -- ---- lists with one more

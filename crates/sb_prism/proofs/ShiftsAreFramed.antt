@@ -1,7 +1,6 @@
 -- A frame whose shift is a length in range can be applied.
-use Rattle.std.proofs.Common.{◌≡◌, ℕ, ℤ, pos, ◌≤◌, ◌^◌, true, List, [], ◌∷◌, IsTrue, arith, refl}
+use Rattle.std.proofs.Common.{ℤ, pos, ◌≤◌, List, [], ◌∷◌, IsTrue, arith, refl}
 use Rattle.std.specs.Prelude.{unsigned_abs, nat_le}
-use Rattle.std.specs.List.{list_all}
 use Rattle.std.proofs.lemmas.Bool.{and_parts, and_from, leb-true, le-leb}
 use Rattle.sb_fixed.specs.Lengths.{greatest_nanometres}
 use Rattle.sb_model.specs.Frames.{are_framed, greatest_framed}

@@ -1,5 +1,5 @@
 -- A length that is not 0 has the sign that its text begins with.
-use Rattle.std.proofs.Common.{◌≡◌, ℕ, ℤ, pos, ◌<◌, ◌^◌, Bool, true, false, not, List, Option, Some, None, ◌⊎◌, inl, inr, arith, refl, sym, ap, ◌∙◌}
+use Rattle.std.proofs.Common.{◌≡◌, ℕ, ℤ, pos, ◌<◌, ◌^◌, Bool, true, false, not, List, Option, Some, None, ◌⊎◌, inl, inr, arith, sym, ap, ◌∙◌}
 use Rattle.std.specs.Prelude.{neg_ℤ, ◌*ℤ◌, ◌≤ℤ◌, ◌<ℤ◌, unsigned_abs, int_lt}
 use Rattle.std.proofs.lemmas.Int.{ints}
 use Rattle.theory_numbers.proofs.Signs.{less_or_not, test_less, test_not_less}

@@ -1,9 +1,6 @@
 -- What is kept of a solid, from what is kept of its parts.
-use Rattle.std.proofs.Common.{◌≡◌, ℕ, ℤ, pos, Bool, true, false, ◌||◌, not, List, [], ◌∷◌, ◌++◌, Option, Some, None, refl, sym, ap, ◌∙◌, subst}
-use Rattle.std.specs.Prelude.{if◌then◌else◌}
+use Rattle.std.proofs.Common.{◌≡◌, ℕ, ℤ, false, ◌||◌, not, ◌++◌, Some, sym, ap, ◌∙◌, subst}
 use Rattle.sb_fraction.specs.declared.unit.Unit as units
-use Rattle.sb_fixed.specs.Lengths.{nanometres_of}
-use Rattle.sb_place.specs.declared.sight.Seen.{Seen}
 use Rattle.sb_place.specs.declared.sight.Seen.TheVariants as seen
 use Rattle.sb_place.specs.declared.position.Local.{Local}
 use Rattle.sb_model.specs.declared.frame.Frame.{Frame}
@@ -22,7 +19,7 @@ use Rattle.sb_prism.specs.Shapes.{Solid, ShowsSolid}
 use Rattle.sb_prism.specs.Faults.{in_position, in_profile, is_no_profile, is_no_extrusion, is_turned_where, is_turned_profile, is_stray_where, is_above}
 use Rattle.sb_prism.specs.Faults.Fault.{not_of_row, not_there}
 use Rattle.sb_prism.specs.Outlines.{is_upward}
-use Rattle.sb_prism.specs.Prisms.{is_far_where, is_far_profile, has_far_length}
+use Rattle.sb_prism.specs.Prisms.{is_far_where, is_far_profile}
 use Rattle.sb_prism.specs.Kept.{faults_of, faults_of_local, joined, measure_of, measure_faults, local_where, heading_of, profile_faults, way_where, IsContourOf, IsExtrusionOf, IsOfView}
 use Rattle.sb_prism.proofs.FaultsAreJoined.{joined_faults, joined_plain, joined_lengths}
 use Rattle.sb_prism.proofs.ContoursAreRead.{neither, local_faults, local_frame, measured_faults, length_kept}

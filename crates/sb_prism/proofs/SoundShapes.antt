@@ -1,5 +1,5 @@
 -- What is kept of a shape tells its first fault.
-use Rattle.std.proofs.Common.{◌≡◌, ℕ, Bool, true, false, ◌||◌, not, List, [], ◌∷◌, ◌++◌, inl, Option, Some, None, slice_get, refl, sym, ap, ◌∙◌, subst}
+use Rattle.std.proofs.Common.{◌≡◌, ℕ, true, false, List, [], ◌∷◌, ◌++◌, inl, Option, Some, None, slice_get, refl, sym, ap, ◌∙◌, subst}
 use Rattle.theory_lists.specs.Members.{Stands}
 use Rattle.sb_fraction.specs.declared.unit.Unit as units
 use Rattle.sb_place.specs.declared.sight.Seen.{Seen}
@@ -7,7 +7,7 @@ use Rattle.sb_place.specs.declared.sight.Seen.TheVariants as seen
 use Rattle.sb_prism.specs.declared.kept.Extrusion.{Extrusion}
 use Rattle.sb_prism.specs.declared.kept.Kept.{Kept}
 use Rattle.sb_prism.specs.Shapes.{Solid, Shape}
-use Rattle.sb_prism.specs.Faults.{Fault, in_shape, in_items, is_turned, is_misshapen, is_no_body, solid_of, only_solid}
+use Rattle.sb_prism.specs.Faults.{in_shape, in_items, is_turned, is_misshapen, is_no_body, solid_of, only_solid}
 use Rattle.sb_prism.specs.Faults.Fault.{not_of_row, not_there}
 use Rattle.sb_prism.specs.Prisms.{IsRead, has_far_length}
 use Rattle.sb_prism.specs.Kept.{KeepsSolid, Keeps, IsKeptOf, is_far_by}

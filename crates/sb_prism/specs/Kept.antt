@@ -1,6 +1,6 @@
 -- What is kept of a shape as it is read: of its faults the first of each kind, and the points of its
 -- profile, not as texts.
-use Rattle.std.specs.Prelude.{◌≡◌, ◌≤◌, ℕ, ℤ, pos, neg_ℤ, unsigned_abs, ◌++◌, ◌||◌, not, Bool, true, false, List, [], ◌∷◌, map, Option, Some, None, slice_get, is_none, if◌then◌else◌}
+use Rattle.std.specs.Prelude.{◌≡◌, ◌≤◌, ℕ, ℤ, pos, neg_ℤ, unsigned_abs, ◌++◌, ◌||◌, not, Bool, false, List, [], ◌∷◌, map, Option, Some, None, slice_get, is_none, if◌then◌else◌}
 use Rattle.std.specs.List.{list_any, flat_map}
 use Rattle.sb_fraction.specs.declared.unit.Unit as units
 use Rattle.sb_fraction.specs.Spots.{Vector, vector}

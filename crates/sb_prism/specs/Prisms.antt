@@ -1,12 +1,11 @@
 -- The prism of a shape in a frame, or its first fault.
-use Rattle.std.specs.Prelude.{◌≡◌, ℕ, ℤ, pos, Bool, true, false, not, ◌&&◌, ◌||◌, int_lt, int_le, List, [], ◌∷◌, map, Option, Some, None, Result, Ok, Err, if◌then◌else◌}
+use Rattle.std.specs.Prelude.{◌≡◌, ℕ, ℤ, pos, Bool, true, false, not, ◌&&◌, ◌||◌, int_lt, List, [], ◌∷◌, map, Option, Some, None, Result, Ok, Err, if◌then◌else◌}
 use Rattle.std.specs.List.{list_all, list_any}
 use Rattle.std.specs.Ordering.{int_eq}
 use Rattle.theory_lists.specs.Members.{Stands}
 use Rattle.sb_fraction.specs.declared.unit.Unit as units
 use Rattle.sb_fraction.specs.declared.point.Point.{Point}
 use Rattle.sb_fraction.specs.Spots.{Vector, vector}
-use Rattle.sb_fixed.specs.Lengths.{nanometres_of, greatest_nanometres}
 use Rattle.theory_turns.specs.Turns.{turned_by}
 use Rattle.theory_plans.specs.Rectangles.{corner, rectangle}
 use Rattle.theory_plans.specs.Plans.{is_same_point}

@@ -1,6 +1,6 @@
 -- Shapes as they are read: of a product's IfcProductDefinitionShape the first Body, its items, and of each
 -- extruded solid the profile with its curves, the position, the direction and the depth.
-use Rattle.std.specs.Prelude.{◌≡◌, ◌⊎◌, ℕ, Bool, true, false, ◌++◌, List, [], ◌∷◌, codes, Option, Some, None, if◌then◌else◌}
+use Rattle.std.specs.Prelude.{◌≡◌, ◌⊎◌, ℕ, Bool, false, List, [], ◌∷◌, codes, Option, Some, None, if◌then◌else◌}
 use Rattle.std.specs.Str.{bytes_eq}
 use Rattle.sb_step.specs.Indexed.{Indexed}
 use Rattle.sb_schema.specs.declared.lists.TypedList.{TypedList}

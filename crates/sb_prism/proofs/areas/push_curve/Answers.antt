@@ -1,6 +1,4 @@
-use Rattle.std.proofs.Common.{◌∙◌, ap}
 use Rattle.std.proofs.lemmas.Result.{on_ok_weaker}
-use Rattle.sb_prism.specs.Kept.{with_loop}
 use Rattle.sb_prism.proofs.ContoursAreRead.{contour_grows}
 use Rattle.sb_prism.proofs.areas.push_curve.Goals as goal
 

@@ -1,4 +1,4 @@
-use Rattle.std.proofs.Common.{◌∙◌, ap, append_assoc, sym, subst, refl, append-nil, ◌++◌, ◌∷◌, [], ◌≡◌}
+use Rattle.std.proofs.Common.{◌∙◌, ap, append_assoc, ◌++◌, ◌∷◌, []}
 use Rattle.sb_prism.specs.Shapes.{IsCurve}
 use Rattle.sb_prism.specs.Kept.{contour_of}
 use Rattle.sb_prism.proofs.EachIsRead.{each_next, each_whole}

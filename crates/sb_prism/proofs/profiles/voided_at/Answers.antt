@@ -1,4 +1,4 @@
-use Rattle.std.proofs.Common.{ap, ◌∙◌, inl, inr, subst}
+use Rattle.std.proofs.Common.{ap, ◌∙◌, inr, subst}
 use Rattle.std.proofs.lemmas.Result.{IfOk-weaker}
 use Rattle.sb_place.specs.declared.sight.Seen.TheVariants as seen
 use Rattle.sb_prism.specs.Shapes.{AreEach, IsCurve}

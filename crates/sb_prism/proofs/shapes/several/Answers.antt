@@ -1,6 +1,6 @@
 use Rattle.std.proofs.Common.{◌++◌, ◌∷◌, [], ◌∙◌, ap, Some, sym, subst}
 use Rattle.sb_prism.specs.Shapes.{IsSolid}
-use Rattle.sb_prism.specs.Kept.{IsItemsOf, joined, instances_alone, solid_faults}
+use Rattle.sb_prism.specs.Kept.{IsItemsOf, joined, instances_alone}
 use Rattle.sb_prism.proofs.EachIsRead.{each_next, each_whole}
 use Rattle.sb_prism.proofs.ShapesAreRead.{solids_more, solids_faults, several_is}
 use Rattle.sb_prism.proofs.shapes.several.Goals as goal
