@@ -13,4 +13,6 @@ mod PlacesAreFollowed
 mod BodiesAgree
 mod LeadsFromProducts
 mod TablesAreRead
+mod HeadIsFirst
+mod AllIsRead
 mod Examples
