@@ -9,3 +9,4 @@ mod NumbersOfLines
 mod LinesOfFaces
 mod NamedInModel
 mod NamesKept
+mod OutlinesOfLists

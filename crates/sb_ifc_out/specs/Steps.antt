@@ -1,7 +1,7 @@
 -- What the private calls promise.
 
 use Rattle.std.specs.Prelude.{◌≡◌, ◌≤◌, ℕ, ◌*◌, ◌^◌, ⊤, ◌++◌, List, Option, Some, None, unsigned_abs, codes}
-use Rattle.std.specs.Prelude.{length}
+use Rattle.std.specs.Prelude.{length, map}
 use Rattle.sb_fraction.specs.declared.unit.Unit as unit
 use Rattle.sb_model.specs.declared.corner.Corners.{Corners}
 use Rattle.sb_model.specs.declared.facing.Facing.{Facing}
@@ -11,6 +11,8 @@ use Rattle.sha1.specs.Sha1.{Holds}
 use Rattle.sb_fraction.specs.Spots.{Vector, vector}
 use Rattle.sb_model.specs.declared.products.Space.{Space}
 use Rattle.sb_model.specs.Building.{Building}
+use Rattle.sb_model.specs.declared.boundary.Boundary.{Boundary}
+use Rattle.sb_model.specs.Corners.{corners_of}
 use Rattle.sb_model.specs.Faces.{space_numbered}
 use Rattle.sb_ifc_out.specs.declared.in_space.Span.{Span}
 use Rattle.sb_ifc_out.specs.declared.names.Names.{Names}
@@ -89,3 +91,8 @@ drawn_text u frame first corners facing n =
     corner_lines u frame first listed
     ++ surface_text (turned_back frame.turn (axis_vector facing.normal))
     (turned_back frame.turn (axis_vector facing.across)) first (length listed) n
+
+-- the corners of a list's boundaries, in its order
+abbrev pub AreOutlines : Building → List Boundary → List Corners → Type 0
+AreOutlines m bs outlines =
+    map (λ (c : Corners). Some c) outlines ≡ map (λ (b : Boundary). corners_of m b.patch) bs

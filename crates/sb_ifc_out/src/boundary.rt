@@ -3,6 +3,7 @@
 ghost use Rattle.std.specs.Prelude.{◌≡◌, ◌<◌, ◌+◌, ◌^◌, ◌++◌, ℕ, List, OnOk, IsTrue, Some};
 ghost use Rattle.sha1.specs.Sha1.{Holds};
 ghost use Rattle.sb_model.specs.Building.{is_shift};
+ghost use Rattle.sb_model.specs.Corners.{corners_of};
 ghost use Rattle.sb_model.specs.Faces.{is_face_of, space_numbered};
 ghost use Rattle.sb_ifc_out.specs.Numbers.{element_of, virtual_lines, line_count};
 ghost use Rattle.sb_ifc_out.specs.BoundaryLines.{virtual_text, element_number, related_text, told_of};
@@ -19,7 +20,7 @@ use crate::relation::{
 };
 use crate::surface::{append_corners, append_surface};
 use sb_list::Text;
-use sb_model::{Boundary, Corners, Facing, Model, Space, corners, facing_of};
+use sb_model::{Boundary, Corners, Facing, Model, Space, facing_of};
 use sha1::Sha1;
 use std::alloc::{AllocError, Global};
 
@@ -27,6 +28,7 @@ use std::alloc::{AllocError, Global};
 #[derive(Clone, Copy)]
 pub struct Entry<'a> {
     pub boundary: &'a Boundary,
+    pub corners: &'a Corners,
     pub id: u64,
     /// The line before its first.
     pub before: u64,
@@ -48,16 +50,25 @@ pub fn append_boundary(
     requires face { IsTrue (is_face_of model.now entry.now.boundary.now.patch.face) }
     requires space_is { space_numbered model.now entry.now.boundary.now.patch.face.space ≡ Some space.now }
     requires shift { IsTrue (is_shift space.now.frame.shift) }
+    requires corners { Some entry.now.corners.now ≡ corners_of model.now entry.now.boundary.now.patch }
     requires names { Holds begun.now (beginning space.now.global_id) }
     requires fits { entry.now.before + line_count model.now entry.now.boundary.now < 2 ^ 64 }
     ensures { OnOk result (text.new ≡ text.old
         ++ lines_in model.now (Some space.now) entry.now.parent entry.now.pair entry.now.before entry.now.id entry.now.boundary.now) }
 {
-    let corners = corners(model, &entry.boundary.patch);
     let facing = facing_of(model, entry.boundary.patch.face);
     let first = entry.before + 1;
-    let behind = first + count_of(&corners);
-    append_drawn(text, alloc, model, space, first, &corners, facing, behind)?;
+    let behind = first + count_of(entry.corners);
+    append_drawn(
+        text,
+        alloc,
+        model,
+        space,
+        first,
+        entry.corners,
+        facing,
+        behind,
+    )?;
     append_related(text, model, begun, entry, behind + 7)
 }
 

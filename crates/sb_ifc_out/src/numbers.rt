@@ -1,12 +1,14 @@
 //! The elements that boundaries are related to, and the numbers of their lines.
 
-ghost use Rattle.std.specs.Prelude.{◌≡◌, ◌≤◌, ◌<◌, ◌+◌, ◌^◌, ℕ, IfOk, IsTrue, Some, length, map, option_map, slice_index};
+ghost use Rattle.std.specs.Prelude.{◌≡◌, ◌≤◌, ◌<◌, ◌+◌, ◌^◌, ℕ, IfOk, IsTrue, Some, length, map, option_map, slice_get, slice_index};
 ghost use Rattle.std.specs.List.{range_with_len};
+ghost use Rattle.sb_model.specs.Building.{Building};
 ghost use Rattle.sb_model.specs.Corners.{corners_of};
 ghost use Rattle.sb_model.specs.Faces.{is_face_of};
 ghost use Rattle.sb_model.specs.ListOfModel.{is_list_of, is_id_in};
 ghost use Rattle.sb_ifc_out.specs.Numbers.{element_of, first_element, end_element, first_there, virtual_lines};
 ghost use Rattle.sb_ifc_out.specs.Numbers.{corners_listed, surface_lines, line_count, last_line};
+ghost use Rattle.sb_ifc_out.specs.Steps.{AreOutlines};
 
 use crate::places::boundary_at;
 use sb_list::Listed;
@@ -18,6 +20,9 @@ pub const SURFACE_LINES: u64 = 8;
 
 /// The lines of the relations of a list, in its order.
 pub type Relations = Listed<u64>;
+
+/// The corners of the boundaries of a list, in its order.
+pub type Outlines = Listed<Corners>;
 
 /// The element that a boundary is related to, where there is one.
 pub fn element_of(boundary: &Boundary) -> Option<u32>
@@ -84,13 +89,33 @@ pub fn count_of(corners: &Corners) -> u64
     }
 }
 
-/// How many lines a boundary has.
-fn line_count(model: &Model, boundary: &Boundary) -> u64
-    requires face { IsTrue (is_face_of model.now boundary.now.patch.face) }
-    ensures { result ≡ line_count model.now boundary.now }
+/// How many lines a boundary with these corners has.
+fn line_count(corners: &Corners, boundary: &Boundary) -> u64
+    ensures { (m : Building) → Some corners.now ≡ corners_of m boundary.now.patch
+        → result ≡ line_count m boundary.now }
 {
-    let corners = count_of(&corners(model, &boundary.patch));
-    corners + SURFACE_LINES + virtual_lines(element_of(boundary)) + 1
+    count_of(corners) + SURFACE_LINES + virtual_lines(element_of(boundary)) + 1
+}
+
+/// The corners of a list's boundaries, in its order. They are kept, since to work them out takes
+/// longer than to write them.
+pub fn outlines(alloc: Global, model: &Model, bounds: &Boundaries) -> Result<Outlines, AllocError>
+    requires of_model { IsTrue (is_list_of model.now bounds.now) }
+    ensures { IfOk result (λ list. AreOutlines model.now bounds.now list) }
+{
+    let mut outlines = Outlines::new(alloc);
+    for index in 0..bounds.len() {
+        outlines.push(corners(model, &boundary_at(bounds, index).patch))?;
+    }
+    Ok(outlines)
+}
+
+/// The corners of the boundary at a place of the list, counted from 0.
+pub fn outline_at(outlines: &[Corners], index: usize) -> &Corners
+    requires { index < length outlines.now }
+    ensures { slice_get outlines.now index ≡ Some result.now }
+{
+    &outlines[index]
 }
 
 /// The number after so many more. A text whose numbers pass 64 bits has no room in any memory.
@@ -106,18 +131,19 @@ fn after(number: u64, more: u64) -> Result<u64, AllocError>
 /// The lines of the relations, behind the greatest number of the input.
 pub fn relations(
     alloc: Global,
-    model: &Model,
     bounds: &Boundaries,
+    outlines: &[Corners],
     greatest: u32,
 ) -> Result<Relations, AllocError>
-    requires of_model { IsTrue (is_list_of model.now bounds.now) }
-    ensures { IfOk result (λ list. list
-        ≡ map (last_line model.now greatest bounds.now) (range_with_len 1 (length bounds.now))) }
+    requires { length outlines.now ≡ length bounds.now }
+    ensures { (m : Building) → AreOutlines m bounds.now outlines.now → IfOk result (λ list. list
+        ≡ map (last_line m greatest bounds.now) (range_with_len 1 (length bounds.now))) }
 {
     let mut relations = Relations::new(alloc);
     let mut last = u64::from(greatest);
     for index in 0..bounds.len() {
-        last = after(last, line_count(model, boundary_at(bounds, index)))?;
+        let corners = outline_at(outlines, index);
+        last = after(last, line_count(corners, boundary_at(bounds, index)))?;
         relations.push(last)?;
     }
     Ok(relations)

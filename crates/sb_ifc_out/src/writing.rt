@@ -8,14 +8,14 @@ ghost use Rattle.sb_model.specs.ListOfModel.{is_list_of};
 ghost use Rattle.sb_step.specs.Numbers.{IsGreatest};
 ghost use Rattle.sb_ifc_out.specs.Numbers.{last_line, line_count};
 ghost use Rattle.sb_ifc_out.specs.IfcText.{lines_at, lines_from, lines_of, ifc_text_of, IsIfcText};
-ghost use Rattle.sb_ifc_out.specs.Steps.{AreKept, IsBegunFor};
+ghost use Rattle.sb_ifc_out.specs.Steps.{AreKept, AreOutlines, IsBegunFor};
 
 use crate::boundary::{Entry, append_boundary};
 use crate::names::{Names, names_of};
-use crate::numbers::{line_at, relation_of, relations};
+use crate::numbers::{line_at, outline_at, outlines, relation_of, relations};
 use crate::places::{boundary_at, space_of};
 use sb_list::Text;
-use sb_model::{Boundaries, Model};
+use sb_model::{Boundaries, Corners, Model};
 use sb_step::StepFile;
 use std::alloc::{AllocError, Global};
 
@@ -50,7 +50,7 @@ fn with_lines(
     ensures { IfOk result (λ text. text.items ≡ take place bytes.now ++ lines.now ++ drop place bytes.now) }
 {
     let (front, back) = parted(bytes, place);
-    let mut text = Vec::new(alloc);
+    let mut text = Vec::with_capacity(alloc, bytes.len().saturating_add(lines.len()))?;
     text.extend_from_slice(front)?;
     text.extend_from_slice(lines)?;
     text.extend_from_slice(back)?;
@@ -77,13 +77,15 @@ fn lines_of(
     requires { IsTrue (is_list_of model.now bounds.now) }
     ensures { IfOk result (λ text. text ≡ lines_of model.now greatest bounds.now) }
 {
-    let relations = relations(alloc, model, bounds, greatest)?;
+    let outlines = outlines(alloc, model, bounds)?;
+    let relations = relations(alloc, bounds, outlines.as_slice(), greatest)?;
     let mut text = Text::new(alloc);
     append_boundaries(
         &mut text,
         alloc,
         model,
         bounds,
+        outlines.as_slice(),
         relations.as_slice(),
         greatest,
     )?;
@@ -96,10 +98,12 @@ fn append_boundaries(
     alloc: Global,
     model: &Model,
     bounds: &Boundaries,
+    outlines: &[Corners],
     relations: &[u64],
     greatest: u32,
 ) -> Result<(), AllocError>
     requires of_model { IsTrue (is_list_of model.now bounds.now) }
+    requires outlines { AreOutlines model.now bounds.now outlines.now }
     requires lines { relations.now ≡ map (last_line model.now greatest bounds.now) (range_with_len 1 (length bounds.now)) }
     ensures { OnOk result (text.new
         ≡ text.old ++ lines_from model.now (last_line model.now greatest bounds.now) greatest 1 bounds.now) }
@@ -107,7 +111,9 @@ fn append_boundaries(
     let mut before = u64::from(greatest);
     let mut names = None;
     for index in 0..bounds.len() {
-        names = append_at(text, alloc, model, bounds, relations, index, before, names)?;
+        names = append_at(
+            text, alloc, model, bounds, outlines, relations, index, before, names,
+        )?;
         before = line_at(relations, index);
     }
     Ok(())
@@ -119,6 +125,7 @@ fn append_at(
     alloc: Global,
     model: &Model,
     bounds: &Boundaries,
+    outlines: &[Corners],
     relations: &[u64],
     index: usize,
     before: u64,
@@ -126,6 +133,7 @@ fn append_at(
 ) -> Result<Option<Names>, AllocError>
     requires of_model { IsTrue (is_list_of model.now bounds.now) }
     requires within { index < length bounds.now }
+    requires outlines { AreOutlines model.now bounds.now outlines.now }
     requires count { length relations.now ≡ length bounds.now }
     requires fits { index < usize.MAX }
     requires last { slice_get relations.now index
@@ -141,6 +149,7 @@ fn append_at(
     let names = names_of(names, boundary.patch.face.space, space.global_id.bytes());
     let entry = Entry {
         boundary,
+        corners: outline_at(outlines, index),
         id: index as u64 + 1,
         before,
         parent: relation_of(relations, boundary.parent),

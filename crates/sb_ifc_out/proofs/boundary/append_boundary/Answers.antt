@@ -14,7 +14,7 @@ returns c =
     let s = c.args.space.now in
     let e = c.args.entry.now in
     let b = e.boundary.now in
-    let corners = c.corners-corners.result in
+    let corners = e.corners.now in
     let facing = c.facing_of-facing.result in
     let n = (e.before + 1) + length (corners_listed (Some corners)) in
     let count = c.count_of.ensures.value in
@@ -24,7 +24,7 @@ returns c =
     (lines_in m (Some s) e.parent e.pair e.before e.id b)
     (sym
     (lines_drawn m s corners facing e.parent e.pair e.before e.id b c.requires.space_is
-    c.corners-corners.ensures c.facing_of-facing.ensures.normal c.facing_of-facing.ensures.across))
+    c.requires.corners c.facing_of-facing.ensures.normal c.facing_of-facing.ensures.across))
     (joined c.append_related.result c.args.text.now c.append_drawn.new.text
     c.append_related.new.text drawn related (rw count at c.in_ok-append_drawn.ensures)
     (rw count at (c.append_related.ensures s.global_id c.requires.names)))

@@ -3,6 +3,7 @@ use Rattle.std.proofs.Common.{◌∙◌, ap, length, Some, ◌++◌, ◌+◌, ar
 use Rattle.std.proofs.lemmas.Option.{get_or_from_slice_get}
 use Rattle.sb_ifc_out.proofs.LinesOfFaces.{lines_placed}
 use Rattle.sb_ifc_out.proofs.NamedInModel.{are_named}
+use Rattle.sb_ifc_out.proofs.OutlinesOfLists.{outlines_length, outline_is}
 use Rattle.sb_ifc_out.proofs.NamesKept.{kept_for, kept_again}
 use Rattle.sb_ifc_out.proofs.writing.append_at.Goals as goal
 
@@ -60,3 +61,15 @@ returns-clause-lines c = λ f is.
     (c.relation_of-2.ensures f is) in
     rw c.boundary_at-boundary.ensures.value
     (ap Some (c.in_ok-append_boundary.ensures ∙ ap (λ t. c.args.text.now ++ t) placed))
+
+pub outline_at-requires : goal.outline_at-requires
+outline_at-requires c =
+    let long = outlines_length c.args.model.now c.args.bounds.now c.args.outlines.now
+    c.requires.outlines in
+    omega (arith, long, c.requires.within)
+
+pub append_boundary-requires-clause-corners : goal.append_boundary-requires-clause-corners
+append_boundary-requires-clause-corners c =
+    outline_is c.args.model.now c.args.bounds.now c.args.outlines.now c.args.index
+    c.boundary_at-boundary.result.now c.outline_at.result.now c.requires.outlines
+    c.boundary_at-boundary.ensures.value c.outline_at.ensures
