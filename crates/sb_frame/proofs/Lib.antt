@@ -4,3 +4,4 @@ mod Orders
 mod Products
 mod Meetings
 mod Along
+mod Examples

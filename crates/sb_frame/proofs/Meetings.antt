@@ -6,3 +6,4 @@ pub mod PointsOnce
 pub mod PutInOrder
 pub mod StepsOfFinding
 pub mod NetworkFound
+pub mod PlacesThrough

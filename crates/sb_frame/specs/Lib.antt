@@ -5,5 +5,6 @@ pub mod Directions
 pub mod Owners
 pub mod Crossings
 pub mod Found
+pub mod Through
 pub mod Rising
 pub mod Abscissae

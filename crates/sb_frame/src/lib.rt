@@ -13,8 +13,10 @@ mod found;
 mod network;
 mod owners;
 mod reading;
+mod seen;
 mod sides;
 mod slab;
+mod through;
 
 pub use abscissae::Fractions;
 pub use edge::PlanEdge;

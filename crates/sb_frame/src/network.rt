@@ -11,11 +11,14 @@ ghost use Rattle.sb_model.specs.PlanEdges.{plan_edges as edges_of_model};
 ghost use Rattle.sb_frame.specs.Network.{network, IsNetwork, HasMoreCrossings, product_beyond};
 ghost use Rattle.sb_frame.specs.Network.{most_edges, most_crossings, plan_edge_of, plan_edges_of};
 ghost use Rattle.sb_frame.specs.Network.{IsMade, spots_of};
+ghost use Rattle.sb_frame.specs.Through.{places_through};
 
 use crate::crossing::Crossing;
 use crate::edge::PlanEdge;
 use crate::finding::{Found, crossings};
 use crate::reading::{first_beyond, plan_edges};
+use crate::slab::Indices;
+use crate::through::through_each;
 use sb_fraction::HPoint;
 use sb_list::Listed;
 use sb_model::Model;
@@ -31,6 +34,9 @@ pub type HPoints = Listed<HPoint>;
 pub struct PlanEdges {
     pub(crate) edges: Vec<PlanEdge>,
     pub(crate) crossings: HPoints,
+    /// For each crossing the places of the edges that have it strictly inside.
+    pub(crate) through: Listed<Indices>,
+    ghost passing: { through ≡ map (places_through (plan_edges_of edges.items)) (spots_of crossings) },
 }
 
 impl marker::Model for PlanEdges {
@@ -119,7 +125,12 @@ fn network_of(alloc: Global, model: &Model) -> Result<Option<PlanEdges>, AllocEr
     match crossings(alloc, edges.as_slice())? {
         Found::Within(list) => {
             let crossings = points(alloc, list.as_slice())?;
-            Ok(Some(PlanEdges { edges, crossings }))
+            let through = through_each(alloc, edges.as_slice(), list.as_slice())?;
+            Ok(Some(PlanEdges {
+                edges,
+                crossings,
+                through,
+            }))
         }
         Found::Beyond => Ok(None),
     }

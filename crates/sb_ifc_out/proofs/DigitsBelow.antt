@@ -1,6 +1,6 @@
 -- The digits of a number in base 64, written from the least significant one on.
 
-use Rattle.std.proofs.Common.{◌≡◌, refl, sym, ap, ap₂, ◌∙◌, arith, ℕ, zero, suc, ◌+◌, ◌*◌, ◌/◌, ◌%◌, ◌^◌, ◌<◌}
+use Rattle.std.proofs.Common.{◌≡◌, refl, sym, ap, ap₂, ◌∙◌, arith, ℕ, zero, suc, ◌+◌, ◌/◌, ◌%◌, ◌^◌, ◌<◌}
 use Rattle.std.proofs.Common.{List, [], ◌∷◌, ◌++◌, length, drop, set, ◌-◌, ◌≤◌}
 use Rattle.std.proofs.lemmas.List.{drop-set, length-set}
 use Rattle.std.proofs.Math.Nat.{div-div-eq-div-mul, pow-succ', div-one}

@@ -1,18 +1,19 @@
 -- Worked identifiers, points and lines, and wrong ones that are refused.
 
-use Rattle.std.proofs.Common.{◌≡◌, refl, sym, ap, ◌∙◌, arith, ℕ, ℤ, pos, negsuc, List, [], ◌∷◌, ◌++◌, None, Some, codes, replicate}
+use Rattle.std.proofs.Common.{◌≡◌, refl, ℕ, pos, negsuc, [], ◌∷◌, ◌++◌, codes, replicate}
 use Rattle.std.specs.Fmt.{digits}
-use Rattle.theory_numbers.specs.Fractions.{Ratio, whole}
+use Rattle.theory_numbers.specs.Fractions.{whole}
 use Rattle.sb_fraction.specs.declared.unit.Unit.TheVariants.{Metre, Millimetre}
-use Rattle.sb_fraction.specs.Spots.{Vector, vector}
+use Rattle.sb_fraction.specs.Spots.{vector}
 use Rattle.sb_fixed.specs.Printed.{scaled_text}
 use Rattle.sb_fixed.specs.Rounding.{rounded}
-use Rattle.theory_turns.specs.Turns.{Quarter}
 use Rattle.sb_model.specs.declared.corner.Corner.{Corner}
 use Rattle.sb_model.specs.declared.frame.Frame.{Frame}
 use Rattle.sb_ifc_out.specs.Guids.{guid_of}
 use Rattle.sb_ifc_out.specs.InTheSpace.{nanometres, in_frame, turned_back}
-use Rattle.sb_ifc_out.specs.BoundaryLines.{point_text, surface_text, direction_text}
+use Rattle.sb_ifc_out.specs.Lines.{line, point_body, loop_body, bound_body, direction_body}
+use Rattle.sb_ifc_out.specs.Lines.{placement_body, plane_body, face_body, connection_body}
+use Rattle.sb_ifc_out.specs.BoundaryLines.{point_text, surface_text}
 
 -- ---- identifiers
 
@@ -74,12 +75,12 @@ across_bottom = refl
 
 in_metres : point_text Metre (vector (pos 4000000000) (pos 0) (pos 2500000000))
     ≡ codes "IFCCARTESIANPOINT((4.000000000,0.000000000,2.500000000))"
-unfolding scaled_text digits
+unfolding scaled_text digits point_body
 in_metres = refl
 
 in_millimetres : point_text Millimetre (vector (negsuc 0) (pos 0) (pos 2500000000))
     ≡ codes "IFCCARTESIANPOINT((-0.000001,0.000000,2500.000000))"
-unfolding scaled_text digits
+unfolding scaled_text digits point_body
 in_millimetres = refl
 
 -- the eight lines of a surface of four corners from #81 on
@@ -92,5 +93,5 @@ surface_of_four : surface_text (vector (pos 1) (pos 0) (pos 0)) (vector (pos 0) 
     ++ codes "#90=IFCPLANE(#89);\n"
     ++ codes "#91=IFCFACESURFACE((#86),#90,.T.);\n"
     ++ codes "#92=IFCCONNECTIONSURFACEGEOMETRY(#91,$);\n"
-unfolding digits
+unfolding digits line loop_body bound_body direction_body placement_body plane_body face_body connection_body
 surface_of_four = refl

@@ -35,12 +35,16 @@ namespace =
     0x00 ∷ 0x11 ∷ 0x22 ∷ 0x33 ∷ 0x44 ∷ 0x55 ∷ 0x66 ∷ 0x77 ∷ 0x88 ∷ 0x99 ∷ 0xaa ∷ 0xbb ∷ 0xcc
     ∷ 0xdd ∷ 0xee ∷ 0xff ∷ []
 
--- the identifier of a name: its version 5 UUID in the namespace (RFC 9562)
-abbrev pub guid_of_name : List ℕ → List ℕ
-guid_of_name name =
+-- the identifier of a digest: the first 16 bytes of it as a version 5 UUID (RFC 9562)
+unfoldable pub guid_of_digest : List ℕ → List ℕ
+guid_of_digest digest =
     guid_of
     (from_be_bytes w128
-    (with_version (with_variant (take 16 (sha1 (namespace ++ name))) variant.RFC4122) version.Sha1))
+    (with_version (with_variant (take 16 digest) variant.RFC4122) version.Sha1))
+
+-- the identifier of a name: its version 5 UUID in the namespace
+abbrev pub guid_of_name : List ℕ → List ℕ
+guid_of_name name = guid_of_digest (sha1 (namespace ++ name))
 
 -- the name of a boundary's relation: the space's GlobalId as read, a stroke, and the boundary's id
 abbrev pub relation_name : List ℕ → ℕ → List ℕ

@@ -1,6 +1,6 @@
 -- Points and directions as a space's own frame has them.
 
-use Rattle.std.specs.Prelude.{ℕ, ℤ, pos, List, [], ◌∷◌}
+use Rattle.std.specs.Prelude.{ℕ, ℤ}
 use Rattle.sb_fraction.specs.declared.unit.Unit as unit
 use Rattle.sb_fraction.specs.declared.unit.Unit.TheVariants.{Metre, Millimetre}
 use Rattle.theory_numbers.specs.Fractions.{Ratio}

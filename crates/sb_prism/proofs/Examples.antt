@@ -1,5 +1,5 @@
 -- Worked coordinates, curves and solids that the definitions accept, and wrong ones that they refuse.
-use Rattle.std.proofs.Common.{◌≡◌, ℕ, pos, negsuc, true, false, List, [], ◌∷◌, Some, None, codes, refl}
+use Rattle.std.proofs.Common.{◌≡◌, pos, true, false, [], ◌∷◌, Some, None, codes, refl}
 use Rattle.std.specs.Prelude.{neg_ℤ}
 use Rattle.sb_fraction.specs.declared.unit.Unit.TheVariants as unit
 use Rattle.sb_fraction.specs.Spots.{vector}
@@ -10,12 +10,10 @@ use Rattle.sb_place.specs.declared.sight.Seen.{Seen}
 use Rattle.sb_place.specs.declared.sight.Seen.TheVariants as seen
 use Rattle.sb_prism.specs.Grid.{is_near, is_in_world, nearest_millimetre}
 use Rattle.sb_prism.specs.Shapes.{Curve, is_named_body}
-use Rattle.sb_prism.specs.Shapes.Curve.{polyline, indexed}
-use Rattle.sb_prism.specs.Faults.{index_of, is_index, is_segment, is_no_curve, is_above, is_along_z}
-use Rattle.sb_prism.specs.Outlines.{points_of, half_of, corners_about, carried}
+use Rattle.sb_prism.specs.Shapes.Curve.{indexed}
+use Rattle.sb_prism.specs.Faults.{is_index, is_segment, is_no_curve, is_above, is_along_z}
+use Rattle.sb_prism.specs.Outlines.{points_of, half_of}
 use Rattle.sb_prism.specs.Prisms.{rectangle_in, box_along_x, standing}
-use Rattle.sb_place.specs.Chains.{unmoved}
-use Rattle.sb_model.specs.Solids.{upright}
 
 -- ---- the grid
 

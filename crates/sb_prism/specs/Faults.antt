@@ -1,6 +1,6 @@
 -- What is at fault in a shape: instances that are not of their row or absent, directions that do not snap,
 -- and what makes it no extruded solid of the three profiles.
-use Rattle.std.specs.Prelude.{ℕ, ℤ, pos, Bool, true, false, not, ◌&&◌, ◌||◌, ◌++◌, nat_le, int_lt, List, [], ◌∷◌, length, codes}
+use Rattle.std.specs.Prelude.{ℕ, pos, Bool, true, false, not, ◌&&◌, ◌||◌, ◌++◌, nat_le, int_lt, List, [], ◌∷◌, length, codes}
 use Rattle.std.specs.Prelude.{Option, Some, None, if◌then◌else◌}
 use Rattle.std.specs.List.{list_all, list_any, flat_map}
 use Rattle.std.specs.Str.{bytes_eq}
@@ -88,7 +88,7 @@ is_turned_profile _ = false
 -- nothing else of the shape.
 abbrev pub is_turned_by : Option Solid → Bool
 is_turned_by None = false
-is_turned_by (Some s) = is_turned_where s.position || is_turned_profile s.profile
+is_turned_by (Some s) = is_turned_profile s.profile || is_turned_where s.position
 
 abbrev pub is_turned : Seen Shape → Bool
 is_turned s = is_turned_by (solid_of s)

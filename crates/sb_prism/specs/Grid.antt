@@ -1,5 +1,5 @@
 -- The grid of whole millimetres, and which world coordinates lie near enough to it.
-use Rattle.std.specs.Prelude.{ℕ, ℤ, pos, neg_ℤ, ◌+◌, ◌/◌, ◌-ℤ◌, ◌*ℤ◌, Bool, nat_le, int_lt, unsigned_abs, if◌then◌else◌}
+use Rattle.std.specs.Prelude.{◌≡◌, true, ℕ, ℤ, pos, neg_ℤ, ◌+◌, ◌/◌, ◌-ℤ◌, ◌*ℤ◌, Bool, nat_le, int_lt, unsigned_abs, if◌then◌else◌}
 
 -- a millimetre in nanometres
 abbrev pub millimetre : ℕ
@@ -32,4 +32,9 @@ is_near nm = is_near_to nm (nearest_millimetre nm)
 abbrev pub is_in_world : ℤ → Bool
 is_in_world nm = nat_le (unsigned_abs nm) farthest
 
--- Law: no other millimetre is near
+-- Law
+
+-- A coordinate lies near no other whole millimetre than the nearest one. So it is near none where it is not
+-- near that one.
+abbrev pub NearIsNearest : Type 0
+NearIsNearest = (nm mm : ℤ) → is_near_to nm mm ≡ true → mm ≡ nearest_millimetre nm

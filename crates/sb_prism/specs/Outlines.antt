@@ -1,20 +1,18 @@
 -- Where the points of a profile lie: in nanometres in the plane of the profile, and carried into the world by
 -- the solid's position and the product's frame, at the near and at the far end of the extrusion.
-use Rattle.std.specs.Prelude.{ℕ, ℤ, pos, neg_ℤ, ◌+◌, ◌-◌, ◌/◌, ◌+ℤ◌, ◌*ℤ◌, Bool, true, false, not, ◌&&◌, ◌||◌, int_lt, unsigned_abs, List, [], ◌∷◌, map, take}
+use Rattle.std.specs.Prelude.{ℕ, ℤ, pos, neg_ℤ, ◌+◌, ◌-◌, ◌/◌, Bool, true, int_lt, unsigned_abs, List, [], ◌∷◌, map, take}
 use Rattle.std.specs.Prelude.{Option, Some, None, get_or, if◌then◌else◌}
-use Rattle.std.specs.List.{list_all, list_any, flat_map}
-use Rattle.std.specs.Ordering.{int_eq}
+use Rattle.std.specs.List.{flat_map}
 use Rattle.sb_fraction.specs.declared.unit.Unit as units
 use Rattle.sb_fraction.specs.Spots.{Vector, vector}
 use Rattle.sb_fixed.specs.Lengths.{nanometres_of}
 use Rattle.theory_turns.specs.Turns.{turned_by}
 use Rattle.sb_model.specs.Frames.{vector_of, sum_of}
 use Rattle.sb_model.specs.declared.frame.Frame.{Frame}
-use Rattle.sb_schema.specs.declared.lists.TypedList.{TypedList}
 use Rattle.sb_place.specs.declared.sight.Seen.{Seen}
 use Rattle.sb_place.specs.declared.sight.Seen.TheVariants as seen
 use Rattle.sb_place.specs.declared.position.Position.{Position}
-use Rattle.sb_place.specs.Directions.{Coordinates, all_three, vector_by, snapped}
+use Rattle.sb_place.specs.Directions.{Coordinates, vector_by, snapped}
 use Rattle.sb_place.specs.Positions as position
 use Rattle.sb_place.specs.Chains.{unmoved}
 use Rattle.sb_prism.specs.Shapes.{Curve, Profile, Solid}

@@ -1,12 +1,11 @@
 -- The prism of a shape in a frame, or its first fault.
-use Rattle.std.specs.Prelude.{◌≡◌, ℕ, ℤ, pos, Bool, true, false, not, ◌&&◌, ◌||◌, int_lt, int_le, List, [], ◌∷◌, map, Option, Some, None, Result, Ok, Err, if◌then◌else◌}
+use Rattle.std.specs.Prelude.{◌≡◌, ℕ, ℤ, pos, Bool, true, false, not, ◌&&◌, ◌||◌, int_lt, List, [], ◌∷◌, map, Option, Some, None, Result, Ok, Err, if◌then◌else◌}
 use Rattle.std.specs.List.{list_all, list_any}
 use Rattle.std.specs.Ordering.{int_eq}
 use Rattle.theory_lists.specs.Members.{Stands}
 use Rattle.sb_fraction.specs.declared.unit.Unit as units
 use Rattle.sb_fraction.specs.declared.point.Point.{Point}
 use Rattle.sb_fraction.specs.Spots.{Vector, vector}
-use Rattle.sb_fixed.specs.Lengths.{nanometres_of, greatest_nanometres}
 use Rattle.theory_turns.specs.Turns.{turned_by}
 use Rattle.theory_plans.specs.Rectangles.{corner, rectangle}
 use Rattle.theory_plans.specs.Plans.{is_same_point}
@@ -35,16 +34,20 @@ abbrev pub is_far_where : units.Unit → Option (Seen Position) → Bool
 is_far_where u None = false
 is_far_where u (Some s) = position.is_far u s
 
--- the coordinates of each point of a curve are lengths in range
-abbrev pub are_lengths : units.Unit → Seen Curve → Bool
-are_lengths u c = list_all (all_three (position.is_length u)) (points_of c)
+-- a coordinate of the point is out of range
+abbrev pub is_far_point : units.Unit → Coordinates → Bool
+is_far_point u texts = not (all_three (position.is_length u) texts)
+
+-- a coordinate of a point of the curve
+abbrev pub is_far_curve : units.Unit → Seen Curve → Bool
+is_far_curve u c = list_any (is_far_point u) (points_of c)
 
 -- a length of a profile is out of range
 abbrev pub is_far_profile : units.Unit → Seen Profile → Bool
 is_far_profile u (seen.Shown (rectangle_profile p x y)) =
     is_far_where u p || (not (position.is_length u x) || not (position.is_length u y))
 is_far_profile u (seen.Shown (area outer inner)) =
-    not (are_lengths u outer && list_all (are_lengths u) inner)
+    is_far_curve u outer || list_any (is_far_curve u) inner
 is_far_profile u _ = false
 
 -- a length of the solid is out of range

@@ -1,9 +1,10 @@
 -- Shapes as they are read: of a product's IfcProductDefinitionShape the first Body, its items, and of each
 -- extruded solid the profile with its curves, the position, the direction and the depth.
-use Rattle.std.specs.Prelude.{◌≡◌, ◌⊎◌, ℕ, Bool, true, false, ◌++◌, List, [], ◌∷◌, codes, Option, Some, None, if◌then◌else◌}
+use Rattle.std.specs.Prelude.{◌≡◌, ◌⊎◌, ℕ, Bool, false, List, [], ◌∷◌, codes, Option, Some, None, if◌then◌else◌}
 use Rattle.std.specs.Str.{bytes_eq}
 use Rattle.sb_step.specs.Indexed.{Indexed}
 use Rattle.sb_schema.specs.declared.lists.TypedList.{TypedList}
+use Rattle.sb_schema.specs.declared.entities.shapes.ShapeRepresentation.{ShapeRepresentation}
 use Rattle.sb_schema.specs.Rows as rows
 use Rattle.sb_schema.specs.Views.{Gives, IsMissing, IsOther}
 use Rattle.sb_place.specs.declared.sight.Seen.{Seen}
@@ -35,10 +36,9 @@ pub record Solid : Type 0 where
   pub direction : Seen Coordinates
   pub depth : List ℕ
 
--- IfcShapeRepresentation: its identifier, and the numbers of its items
-pub record Representation : Type 0 where
-  pub identifier : Option (List ℕ)
-  pub items : List ℕ
+-- IfcShapeRepresentation: its identifier `a2`, and the numbers of its items `a4`
+abbrev pub Representation : Type 0
+Representation = ShapeRepresentation
 
 -- IfcProductDefinitionShape: all its representations, and the items of the first Body, where it has one
 pub record Shape : Type 0 where
@@ -113,7 +113,7 @@ abbrev pub IsSolid : Indexed → ℕ → Seen Solid → Type 0
 IsSolid i n s = Sees rows.extruded_area_solid i n (ShowsSolid i n) s
 
 abbrev pub IsRepresentation : Indexed → ℕ → Seen Representation → Type 0
-IsRepresentation i n s = IsSeen rows.shape_representation i n (λ r. (r.identifier, (r.items, tt))) s
+IsRepresentation i n s = IsSeen rows.shape_representation i n (λ r. (r.a2, (r.a4, tt))) s
 
 -- the identifier is `Body`
 abbrev pub is_named_body : Option (List ℕ) → Bool
@@ -121,12 +121,12 @@ is_named_body None = false
 is_named_body (Some name) = bytes_eq name (codes "Body")
 
 abbrev pub is_body : Seen Representation → Bool
-is_body (seen.Shown r) = is_named_body r.identifier
+is_body (seen.Shown r) = is_named_body r.a2
 is_body _ = false
 
 -- the numbers of the items of a representation
 abbrev pub items_at : Seen Representation → List ℕ
-items_at (seen.Shown r) = r.items
+items_at (seen.Shown r) = r.a4
 items_at _ = []
 
 -- the numbers of the items of the first Body: an instance of another entity or not of its row is none

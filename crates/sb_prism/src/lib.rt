@@ -4,8 +4,30 @@
 //! Read `specs/Shapes.antt` first, what is read of a shape, and `specs/Prisms.antt`, what is answered of it.
 #![tactic(auto)]
 
+mod areas;
+mod bodies;
+mod body;
+mod contour;
+mod curves;
 mod error;
+mod faults;
 mod grid;
+mod heading;
+mod indices;
+mod kept;
+mod laws;
+mod measure;
+mod outline;
+mod profiles;
+mod reading;
+mod rectangles;
+mod shapes;
+mod solids;
+mod sound;
+mod spot;
 
 pub use crate::error::PrismError;
 pub use crate::grid::{GridError, snap};
+pub use crate::kept::{Extrusion, Kept};
+pub use crate::laws::one_millimetre;
+pub use crate::shapes::shape_at;

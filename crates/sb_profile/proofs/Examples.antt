@@ -6,3 +6,4 @@ mod Made
 mod Followed
 mod Lengths
 mod Judged
+mod Sound

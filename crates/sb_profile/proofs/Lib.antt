@@ -13,4 +13,7 @@ mod PlacesAreFollowed
 mod BodiesAgree
 mod LeadsFromProducts
 mod TablesAreRead
+mod RelationsGive
+mod HeadIsFirst
+mod AllIsRead
 mod Examples

@@ -340,7 +340,7 @@ module _ (indexed : Indexed) (c : Contents) (says : Says indexed c) where
 
   -- ---- relations
 
-  two_filters : (one two : ℕ → Bool) (ns : List ℕ) → ((n : ℕ) → one n ≡ true → two n ≡ true)
+  pub two_filters : (one two : ℕ → Bool) (ns : List ℕ) → ((n : ℕ) → one n ≡ true → two n ≡ true)
       → filter one (filter two ns) ≡ filter one ns
   two_filters one two [] within = refl
   two_filters one two (n ∷ ns) within =
@@ -411,7 +411,7 @@ module _ (indexed : Indexed) (c : Contents) (says : Says indexed c) where
   same_tests false true there back = back refl
   same_tests false false there back = refl
 
-  filter_same : (one two : ℕ → Bool) (ns : List ℕ) → ((n : ℕ) → one n ≡ two n)
+  pub filter_same : (one two : ℕ → Bool) (ns : List ℕ) → ((n : ℕ) → one n ≡ two n)
       → filter one ns ≡ filter two ns
   filter_same one two [] same = refl
   filter_same one two (n ∷ ns) same =

@@ -8,6 +8,7 @@ mod bodies;
 mod buildings;
 mod chains;
 mod defects;
+mod first;
 mod found;
 mod kinds;
 mod laws;
@@ -24,5 +25,6 @@ mod tables;
 mod units;
 
 pub use crate::defects::{Code, Defect};
+pub use crate::first::first_defect;
 pub use crate::laws::{each_file_says, one_first_defect};
 pub use crate::places::Place;

@@ -4,7 +4,7 @@ ghost use Rattle.std.specs.List.{list_any};
 ghost use Rattle.std.specs.Ordering.{nat_cmp};
 ghost use Rattle.std.specs.BTreeMap.{get};
 ghost use Rattle.std.specs.BTreeSet.{contains};
-ghost use Rattle.sb_profile.specs.Entities.Entity.{rel_associates_material, rel_defines_by_type, rel_voids_element};
+ghost use Rattle.sb_profile.specs.Entities.Entity.{rel_associates_material, rel_defines_by_type, rel_voids_element, rel_fills_element};
 ghost use Rattle.sb_profile.specs.Contents.{Contents, Says, is_unfit};
 ghost use Rattle.sb_profile.specs.Lowest.{lower_if};
 ghost use Rattle.sb_profile.specs.Steps.Links as spec;
@@ -12,7 +12,10 @@ ghost use Rattle.sb_profile.specs.Steps.Links.{noted, noted_all, by_listing, by_
 
 use crate::lowest::lower;
 use crate::sights::{Sight, look};
-use sb_schema::{LentReferences, LentRelAssociatesMaterial, LentRelDefinesByType, RelVoidsElement};
+use sb_schema::{
+    LentReferences, LentRelAssociatesMaterial, LentRelDefinesByType, RelFillsElement,
+    RelVoidsElement,
+};
 use sb_step::StepFile;
 use std::alloc::{AllocError, Global};
 use std::collections::{BTreeMap, BTreeSet};
@@ -161,6 +164,58 @@ fn note_opening(
     match look::<RelVoidsElement>(alloc, file, relation)? {
         Sight::Of(view) => {
             let taken = elements.contains(&view.a5);
+            let link = new_link(relation, view.a5);
+            note_if(links, taken, view.a6, link)
+        }
+        Sight::Unfit => {
+            *unfit = lower(relation, *unfit);
+            Ok(())
+        }
+        _ => Ok(()),
+    }
+}
+
+/// The opening of each door or window, by the lowest of these relations that says that it fills one of
+/// these.
+pub(crate) fn fills(
+    alloc: Global,
+    file: &StepFile<'_>,
+    relations: &[u32],
+    openings: &BTreeSet<u32>,
+    unfit: &mut Option<u32>,
+) -> Result<Links, AllocError>
+    ensures links { IfOk result (λ links. (c : Contents) → Says file.now c → (q : ℕ)
+        → get nat_cmp links q
+        ≡ noted_all (λ r found. by_voiding (contains nat_cmp openings.now) q r
+        (c.given rel_fills_element r) found) None relations.now) }
+    ensures unfit { OnOk result ((c : Contents) → Says file.now c → unfit.new
+        ≡ lowered unfit.old (filter (is_unfit c rel_fills_element) relations.now)) }
+{
+    let mut links = BTreeMap::new(alloc);
+    'relations: for relation in relations {
+        note_filling(alloc, file, *relation, openings, &mut links, unfit)?;
+    }
+    Ok(links)
+}
+
+fn note_filling(
+    alloc: Global,
+    file: &StepFile<'_>,
+    relation: u32,
+    openings: &BTreeSet<u32>,
+    links: &mut Links,
+    unfit: &mut Option<u32>,
+) -> Result<(), AllocError>
+    ensures links { OnOk result ((c : Contents) → Says file.now c → (q : ℕ)
+        → get nat_cmp links.new q
+        ≡ by_voiding (contains nat_cmp openings.now) q relation (c.given rel_fills_element relation)
+        (get nat_cmp links.old q)) }
+    ensures unfit { OnOk result ((c : Contents) → Says file.now c → unfit.new
+        ≡ lower_if (is_unfit c rel_fills_element relation) relation unfit.old) }
+{
+    match look::<RelFillsElement>(alloc, file, relation)? {
+        Sight::Of(view) => {
+            let taken = openings.contains(&view.a5);
             let link = new_link(relation, view.a5);
             note_if(links, taken, view.a6, link)
         }

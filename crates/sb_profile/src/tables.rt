@@ -6,13 +6,14 @@ ghost use Rattle.sb_profile.specs.Steps.Links.{lowered};
 ghost use Rattle.sb_profile.specs.Steps.Read.{AreTables, unfit_roots};
 
 use crate::kinds::Kinds;
-use crate::links::{Links, materials, types, voids};
+use crate::links::{Links, fills, materials, types, voids};
 use crate::products::{Shaped, numbers_of, products, spaces, unfit_among, voided};
-use sb_schema::{Building, OpeningFilling, RelFillsElement};
+use sb_schema::{Building, OpeningFilling};
 use sb_step::StepFile;
 use std::alloc::{AllocError, Global};
 
-/// The products that are taken, and of each object that some relation lists its material or type.
+/// The products that are taken, of each object that some relation lists its material or type, and of
+/// openings and fillings what has them.
 #[derive(Drop)]
 pub(crate) struct Tables {
     pub spaces: Vec<Shaped>,
@@ -20,6 +21,10 @@ pub(crate) struct Tables {
     pub openings: Vec<Shaped>,
     pub materials: Links,
     pub types: Links,
+    /// The element of each opening.
+    pub voids: Links,
+    /// The opening of each door or window.
+    pub fills: Links,
 }
 
 /// The tables, each made in one pass. The lowest instance that is not of its row is kept.
@@ -41,15 +46,18 @@ pub(crate) fn read_tables(
     unfit_among::<OpeningFilling>(alloc, file, kinds.fillings.as_slice(), unfit)?;
     let numbers = numbers_of(alloc, elements.as_slice())?;
     let voids = voids(alloc, file, kinds.voids.as_slice(), &numbers, unfit)?;
-    unfit_among::<RelFillsElement>(alloc, file, kinds.fills.as_slice(), unfit)?;
+    let openings = voided(alloc, shaped.as_slice(), &voids)?;
+    let opening_numbers = numbers_of(alloc, openings.as_slice())?;
+    let fills = fills(alloc, file, kinds.fills.as_slice(), &opening_numbers, unfit)?;
     let materials = materials(alloc, file, kinds.materials.as_slice(), unfit)?;
     let types = types(alloc, file, kinds.types.as_slice(), unfit)?;
-    let openings = voided(alloc, shaped.as_slice(), &voids)?;
     Ok(Tables {
         spaces,
         elements,
         openings,
         materials,
         types,
+        voids,
+        fills,
     })
 }

@@ -7,3 +7,4 @@ mod LinesInOrder
 mod SortedByLines
 mod SortedPlaces
 mod NextSlab
+mod Examples

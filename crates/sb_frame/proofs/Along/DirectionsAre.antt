@@ -130,7 +130,7 @@ same_vector v level = ap (λ z. vector v.x v.y z) (sym level)
 heading_is : (e : Edge) → flat (heading e) ≡ direction_of e
 heading_is e = same_vector (direction_of e) (direction_is_level e)
 
-is_heading : (d : Arrow) (e : Edge) → flat d ≡ direction_of e → d ≡ heading e
+pub is_heading : (d : Arrow) (e : Edge) → flat d ≡ direction_of e → d ≡ heading e
 is_heading d e same =
     same_arrow d (heading e) (ap (λ (v : Vector). v.x) same) (ap (λ (v : Vector). v.y) same)
 

@@ -1,7 +1,7 @@
 -- The crossings of the plan edges of a model, as found, are the crossings of the model, each once; and where
 -- too many were found the model has too many.
 
-use Rattle.std.proofs.Common.{◌≡◌, inl, inr, refl, sym, subst, arith, ◌<◌, ◌≤◌, ℕ, true, List}
+use Rattle.std.proofs.Common.{◌≡◌, inl, inr, refl, sym, ap, ◌∙◌, subst, arith, ◌<◌, ◌≤◌, ℕ, true, List}
 use Rattle.std.proofs.Common.{[], ◌∷◌, map, length}
 use Rattle.std.proofs.Common.{IsTrue}
 use Rattle.std.proofs.lemmas.Bool.{and_from}
@@ -25,6 +25,7 @@ use Rattle.std.proofs.Common.{zero, suc, None}
 use Rattle.std.proofs.lemmas.Option.{none-some}
 use Rattle.sb_frame.specs.Network.{AreCrossings, AreSomeCrossings, HasMoreCrossings, most_crossings}
 use Rattle.sb_frame.specs.Found.{TwoCross, AreSome, AreAll, IsFound}
+use Rattle.sb_frame.specs.Through.{places_through}
 use Rattle.sb_frame.proofs.Orders.AsManyAtMost.{as_many_at_most}
 use Rattle.sb_frame.proofs.Meetings.PointsOnce.{point_is, ascending_are_once, same_point_sym}
 use Rattle.sb_frame.proofs.Meetings.PointsOnce.{same_point_trans}
@@ -155,6 +156,23 @@ module _ (m : Building) (edges : List GivenEdge) (are : plan_edges_of edges ≡ 
     spots_of (points_of list),
     (some_crossings list some, let same = as_many list in omega arith),
   )
+
+-- the places for each crossing are those for its point
+places_of_points : (f : Spot → List ℕ) (list : List Crossing)
+    → map (λ c. f (spot_of c.point)) list ≡ map f (spots_of (points_of list))
+places_of_points f [] = refl
+places_of_points f (c ∷ list) = ap (λ ps. f (spot_of c.point) ∷ ps) (places_of_points f list)
+
+pub places_kept : (edges given : List GivenEdge) (list found : List Crossing) (points : List HPoint)
+    (places : List (List ℕ)) → given ≡ edges → found ≡ list → points ≡ points_of list
+    → places ≡ map (λ c. places_through (plan_edges_of given) (spot_of c.point)) found
+    → places ≡ map (places_through (plan_edges_of edges)) (spots_of points)
+places_kept edges given list found points places same same_list kept are =
+    are
+    ∙ ap (λ es. map (λ c. places_through (plan_edges_of es) (spot_of c.point)) found) same
+    ∙ ap (λ cs. map (λ c. places_through (plan_edges_of edges) (spot_of c.point)) cs) same_list
+    ∙ places_of_points (places_through (plan_edges_of edges)) list
+    ∙ ap (λ ps. map (places_through (plan_edges_of edges)) (spots_of ps)) (sym kept)
 
 -- what was found, by the points that are kept
 pub network_kept : (m : Building) (edges given : List GivenEdge) (list : List Crossing)

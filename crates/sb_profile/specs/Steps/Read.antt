@@ -16,7 +16,7 @@ use Rattle.sb_profile.specs.declared.defects.Code.{Code}
 use Rattle.sb_profile.specs.declared.defects.Code.TheVariants as code
 use Rattle.sb_profile.specs.Entities.Entity.{building, space, product, product_definition_shape, opening_filling, rel_voids_element, rel_fills_element, rel_associates_material, rel_defines_by_type}
 use Rattle.sb_profile.specs.Contents.{Contents, is_unfit}
-use Rattle.sb_profile.specs.Products.{is_space, is_element, is_opening, is_taken, placement_of, shape_of}
+use Rattle.sb_profile.specs.Products.{is_space, is_element, is_opening, is_taken, placement_of, shape_of, element_of, opening_of}
 use Rattle.sb_profile.specs.Materials.{own_material, type_of, material_of}
 use Rattle.sb_profile.specs.Following.{Lead, to, below, IsFollowed}
 use Rattle.sb_profile.specs.declared.defects.Defect.{Defect}
@@ -61,6 +61,8 @@ pub record AreTables (c : Contents) (tables : Tables) : Type 0 where
   pub openings : AreTaken c (is_opening c) tables.openings.items
   pub materials : (q : ℕ) → target_in (get nat_cmp tables.materials q) ≡ own_material c q
   pub types : (q : ℕ) → target_in (get nat_cmp tables.types q) ≡ type_of c q
+  pub voids : (q : ℕ) → target_in (get nat_cmp tables.voids q) ≡ element_of c q
+  pub fills : (q : ℕ) → target_in (get nat_cmp tables.fills q) ≡ opening_of c q
 
 -- what an element is made of by tables of links
 abbrev pub made_of : BTreeMap ℕ Link → BTreeMap ℕ Link → ℕ → Option ℕ

@@ -1,0 +1,20 @@
+use Rattle.std.proofs.Common.{sym, subst, ◌∙◌}
+use Rattle.std.specs.Ordering.{nat_cmp}
+use Rattle.std.specs.BTreeSet.{contains}
+use Rattle.theory_lists.specs.Members.{Stands}
+use Rattle.sb_profile.specs.declared.places.Place.TheVariants as place
+use Rattle.sb_profile.proofs.AllIsRead.{lowest_found}
+use Rattle.sb_profile.proofs.first.read.Goals as goal
+
+pub returns : goal.returns
+returns c = λ said says sorted.
+    let tables = c.in_ok-tables.ensures.tables said says sorted in
+    let building = c.in_ok-building.ensures said says (c.as_slice.ensures.value ∙ sorted.buildings) in
+    lowest_found (contains nat_cmp c.in_ok-bodies.bodies) c.args.file.now said c.args.kinds.now
+    c.first_leads.new.found c.survey.new.found says sorted
+    (c.in_ok-first_leads.ensures.leads said says tables building c.new.ensures.items)
+    (λ n stands. c.in_ok-bodies.ensures said says n
+    (subst (Stands (place.Shape, n)) (sym c.as_slice-2.ensures.value) stands))
+    (c.in_ok-first_leads.ensures.unfit ∙ c.in_ok-tables.ensures.unfit said says)
+    c.in_ok-first_leads.ensures.absent
+    (λ ns first begun. c.in_ok-survey.ensures said ns first says begun)

@@ -1,0 +1,9 @@
+//! Worked rows of shapes: what is at fault with them, whatever product has them.
+//!
+//! They stand above `sb_prism`, so that it is not proved again for them.
+#![tactic(auto)]
+
+#[cfg(test)]
+mod asked;
+#[cfg(test)]
+mod shapes;

@@ -1,0 +1,4 @@
+use Rattle.tests_slab.proofs.orders.are_orders.Given as goal
+
+abbrev pub ghosts-told_by : goal.ghosts-told_by
+ghosts-told_by a = record { name = a.blank.name; parts = a.blank.parts }
