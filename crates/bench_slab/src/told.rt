@@ -16,7 +16,11 @@ pub(crate) struct Told {
     pub(crate) places: u64,
 }
 
-pub(crate) fn count_slabs(alloc: Global, edges: &PlanEdges, d: Direction) -> Result<Told, AllocError> {
+pub(crate) fn count_slabs(
+    alloc: Global,
+    edges: &PlanEdges,
+    d: Direction,
+) -> Result<Told, AllocError> {
     count_by::<Brand>(alloc, Blank::new(1), edges, d)
 }
 

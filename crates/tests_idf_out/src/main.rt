@@ -1,0 +1,59 @@
+//! Prints the IDF texts of worked lists, each behind a line that names it.
+#![tactic(auto)]
+
+mod lists;
+mod models;
+
+use crate::lists::{both_sides, children, ends_of_sides, ends_of_tops};
+use crate::models::{no_space, two_rooms};
+use anyhow::bail;
+use sb_idf_out::idf_text;
+use sb_model::{End, Model};
+use tests_lists::{Crossed, Entry, is_list_of, list_of, row};
+use tests_model::{cube, left_of_crossing};
+
+const NOTHING: [Crossed; 0] = [];
+
+fn main(rt: HostRuntime) -> anyhow::Result<()> {
+    show(rt, "no space", &no_space(rt.alloc())?, &[])?;
+    show_rooms(rt)?;
+    show_corners(rt)
+}
+
+/// The lists of two rooms with a wall between them.
+fn show_rooms(rt: HostRuntime) -> anyhow::Result<()> {
+    let rooms = two_rooms(rt.alloc())?;
+    show(rt, "two spaces", &rooms, &[])?;
+    show(rt, "a layered wall", &rooms, &both_sides())?;
+    show(rt, "children", &rooms, &children())?;
+    show(rt, "ends of sides", &rooms, &ends_of_sides())?;
+    show(rt, "ends of tops", &rooms, &ends_of_tops())
+}
+
+/// A patch of three corners.
+fn show_corners(rt: HostRuntime) -> anyhow::Result<()> {
+    let Some(cube) = cube(rt.alloc())? else {
+        bail!("the cube is a model");
+    };
+    show(
+        rt,
+        "three corners",
+        &cube,
+        &[row(left_of_crossing(), &NOTHING, End::Outside)],
+    )
+}
+
+/// Prints the text of a list behind its name.
+fn show(rt: HostRuntime, name: &str, model: &Model, rows: &[Entry<'_>]) -> anyhow::Result<()> {
+    let bounds = list_of(rt.alloc(), rows)?;
+    if !is_list_of(model, &bounds) {
+        bail!("a list is not one of its model");
+    }
+    let text = String::from_utf8(idf_text(rt.alloc(), model, &bounds)?);
+    let Ok(text) = text else {
+        bail!("a text is not in UTF-8");
+    };
+    println!(rt; "== {name}")?;
+    println!(rt; "{}", text.as_str())?;
+    Ok(())
+}

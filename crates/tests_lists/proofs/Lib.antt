@@ -1,0 +1,4 @@
+-- What the rows rest on.
+mod Wholes
+mod TriedPatches
+mod FoundIfThere

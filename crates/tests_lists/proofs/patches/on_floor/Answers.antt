@@ -1,0 +1,10 @@
+use Rattle.sb_model.specs.declared.face.FaceKind.TheVariants as kind
+use Rattle.tests_lists.proofs.TriedPatches.{level_is}
+use Rattle.tests_lists.proofs.patches.on_floor.Goals as goal
+
+pub invariant_of-result : goal.invariant_of-result
+invariant_of-result c = record {
+  is_patch = level_is kind.Bottom c.whole.result c.whole-2.result c.near.result c.far.result
+      c.whole.ensures c.whole-2.ensures c.near.ensures.value c.far.ensures.value
+      c.near.ensures.of_bottom c.far.ensures.of_bottom;
+}
