@@ -8,6 +8,8 @@ mod LinksAreNoted
 mod ListsOfNumbers
 mod ChainsAreReached
 mod FoundTogether
+mod OneByKeyword
+mod EachIsFound
 mod LeadsGoOn
 mod PlacesAreFollowed
 mod BodiesAgree

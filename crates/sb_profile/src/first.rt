@@ -10,7 +10,7 @@ ghost use Rattle.sb_profile.specs.Steps.Read.{AreLowest, head_codes, read_codes}
 use crate::bodies::bodies;
 use crate::buildings::{in_buildings, is_ifc4, placement};
 use crate::defects::{Code, Defect};
-use crate::found::Found;
+use crate::found::{Found, join};
 use crate::kinds::{Kinds, by_keyword};
 use crate::leading::first_leads;
 use crate::lowest::lowest;
@@ -92,8 +92,9 @@ fn read(alloc: Global, file: &StepFile<'_>, kinds: &Kinds) -> Result<Found, Allo
         unfit,
         absent: None,
     };
-    first_leads(alloc, file, &tables, building, &mut found)?;
+    let placed = first_leads(alloc, file, &tables, building, &mut found)?;
     let bodies = bodies(alloc, file, found.leads.as_slice())?;
+    join(&mut found, &placed)?;
     survey(alloc, file, &bodies, &mut found)?;
     Ok(found)
 }
