@@ -43,11 +43,14 @@ in_three (Ok u) start first second last a b c whole one two three parts =
     ∙ (append_assoc start a (b ++ c) ∙ ap (λ l. start ++ l) (sym parts))))
 in_three (Err e) start first second last a b c whole one two three parts = tt
 
--- five parts of a text
-pub in_five : (first second third fourth last a b c d e : List ℕ)
-    → first ≡ a → second ≡ first ++ b → third ≡ second ++ c → fourth ≡ third ++ d → last ≡ fourth ++ e
-    → last ≡ (a ++ b) ++ ((c ++ d) ++ e)
-in_five first second third fourth last a b c d e one two three four five =
-    five
-    ∙ (ap (λ l. l ++ e) (four ∙ ap (λ l. l ++ d) (three ∙ ap (λ l. l ++ c) (two ∙ ap (λ l. l ++ b) one)))
-    ∙ (ap (λ l. l ++ e) (append_assoc (a ++ b) c d) ∙ append_assoc (a ++ b) (c ++ d) e))
+-- four parts of a text, each appended to what stands
+pub in_four : (first second third last a b c d : List ℕ)
+    → first ≡ a → second ≡ first ++ b → third ≡ second ++ c → last ≡ third ++ d
+    → last ≡ ((a ++ b) ++ c) ++ d
+in_four first second third last a b c d one two three four =
+    four ∙ ap (λ l. l ++ d) (three ∙ ap (λ l. l ++ c) (two ∙ ap (λ l. l ++ b) one))
+
+-- a fifth behind them
+pub in_five : (a b c d e : List ℕ) → (((a ++ b) ++ c) ++ d) ++ e ≡ (a ++ b) ++ ((c ++ d) ++ e)
+in_five a b c d e =
+    ap (λ l. l ++ e) (append_assoc (a ++ b) c d) ∙ append_assoc (a ++ b) (c ++ d) e

@@ -1,6 +1,6 @@
 //! The whole text.
 
-ghost use Rattle.std.specs.Prelude.{◌≡◌, ◌++◌, ◌+◌, ◌<◌, ℕ, Some, IfOk, OnOk, IsTrue, length, slice_get};
+ghost use Rattle.std.specs.Prelude.{◌≡◌, ◌++◌, ◌+◌, ◌<◌, ℕ, [], Some, IfOk, OnOk, IsTrue, length, slice_get};
 ghost use Rattle.sb_model.specs.declared.boundary.Boundary.{Boundary};
 ghost use Rattle.std.specs.List.{flat_map};
 ghost use Rattle.sb_model.specs.Faces.{is_face_of};
@@ -8,6 +8,7 @@ ghost use Rattle.sb_model.specs.ListOfModel.{is_list_of};
 ghost use Rattle.sb_idf_out.specs.Objects.{zone_object, object_under};
 ghost use Rattle.sb_idf_out.specs.IdfText.{head as head_text, idf_text_of};
 ghost use Rattle.sb_idf_out.specs.Steps.Surfaces.{objects_by};
+ghost use Rattle.sb_idf_out.specs.Steps.Uses.{numbers_used, front_text};
 
 use crate::surfaces::append_surface;
 use crate::uses::survey;
@@ -27,13 +28,34 @@ pub fn idf_text(alloc: Global, model: &Model, bounds: &Boundaries) -> Result<Vec
     requires of_model { IsTrue (is_list_of model.now bounds.now) }
     ensures { IfOk result (λ text. text.items ≡ idf_text_of model.now bounds.now) }
 {
+    let front = begun(alloc, model, bounds)?;
+    let mut text = Vec::from_slice(alloc, front.text.bytes())?;
+    append_boundaries(alloc, &mut text, model, bounds, front.numbers.as_slice())?;
+    Ok(text)
+}
+
+/// What stands before the boundaries, and the number of the construction of each.
+#[derive(Drop)]
+struct Front {
+    text: Text,
+    numbers: Vec<u64>,
+}
+
+/// Goes over a list for what stands before its boundaries. The tables of materials and constructions are let
+/// go before the boundaries are written.
+fn begun(alloc: Global, model: &Model, bounds: &Boundaries) -> Result<Front, AllocError>
+    ensures text { IfOk result (λ f. f.text ≡ front_text model.now bounds.now) }
+    ensures numbers { IfOk result (λ f. f.numbers.items ≡ numbers_used model.now [] [] bounds.now) }
+{
     let survey = survey(alloc, model, bounds)?;
     let mut text = Text::of(alloc, head())?;
     append_zones(&mut text, model.spaces())?;
     append(&mut text, survey.uses.materials.objects.bytes())?;
     append(&mut text, survey.uses.objects.bytes())?;
-    append_boundaries(alloc, &mut text, model, bounds, survey.numbers.as_slice())?;
-    Vec::from_slice(alloc, text.bytes())
+    Ok(Front {
+        text,
+        numbers: survey.numbers,
+    })
 }
 
 /// Appends a zone for each space.
@@ -63,14 +85,14 @@ fn append_zone(text: &mut Text, number: u64) -> Result<(), AllocError>
 /// Appends the objects of all boundaries, whose constructions have these numbers.
 fn append_boundaries(
     alloc: Global,
-    text: &mut Text,
+    text: &mut Vec<u8>,
     model: &Model,
     bounds: &Boundaries,
     numbers: &[u64],
 ) -> Result<(), AllocError>
     requires of_model { IsTrue (is_list_of model.now bounds.now) }
     requires each { length numbers.now ≡ length bounds.now }
-    ensures { OnOk result (text.new ≡ text.old ++ objects_by model.now 1 numbers.now bounds.now) }
+    ensures { OnOk result (text.new.items ≡ text.old.items ++ objects_by model.now 1 numbers.now bounds.now) }
 {
     'bounds: for index in 0..bounds.len() {
         append_boundary_at(alloc, text, model, bounds, numbers, index)?;
@@ -81,7 +103,7 @@ fn append_boundaries(
 /// Appends the object of the boundary at a place of the list, counted from 0. Its id is one more.
 fn append_boundary_at(
     alloc: Global,
-    text: &mut Text,
+    text: &mut Vec<u8>,
     model: &Model,
     bounds: &Boundaries,
     numbers: &[u64],
@@ -92,10 +114,10 @@ fn append_boundary_at(
     requires within { index < length bounds.now }
     ensures { OnOk result ((k : ℕ) (b : Boundary) → slice_get numbers.now index ≡ Some k
         → slice_get bounds.now index ≡ Some b
-        → text.new ≡ text.old ++ object_under model.now k (index + 1) b b.parent) }
+        → text.new.items ≡ text.old.items ++ object_under model.now k (index + 1) b b.parent) }
 {
     let boundary = &bounds.as_slice()[index];
-    append_boundary(
+    append_object(
         alloc,
         text,
         model,
@@ -103,6 +125,24 @@ fn append_boundary_at(
         index as u64 + 1,
         boundary,
     )
+}
+
+/// The same, made apart and then appended: so all boundaries stand in memory once.
+fn append_object(
+    alloc: Global,
+    text: &mut Vec<u8>,
+    model: &Model,
+    construction: u64,
+    id: u64,
+    boundary: &Boundary,
+) -> Result<(), AllocError>
+    requires face { IsTrue (is_face_of model.now boundary.now.patch.face) }
+    ensures { OnOk result (text.new.items
+        ≡ text.old.items ++ object_under model.now construction id boundary.now boundary.now.parent) }
+{
+    let mut object = Text::new(alloc);
+    append_boundary(alloc, &mut object, model, construction, id, boundary)?;
+    text.extend_from_slice(object.bytes())
 }
 
 /// Appends the object of a boundary with this id, whose construction has this number.

@@ -1,6 +1,8 @@
 //! The lists of the rows.
 
-use sb_model::{End, Patch};
+use sb_fraction::Fraction;
+use sb_model::{Boundaries, Boundary, End, Item, Items, Patch, Walk};
+use std::alloc::{AllocError, Global};
 use tests_lists::{Crossed, Entry, child, on_ceiling, on_floor, on_side, paired, row};
 
 const NOTHING: [Crossed; 0] = [];
@@ -8,6 +10,27 @@ const NOTHING: [Crossed; 0] = [];
 const INSIDE: [Crossed; 3] = [(30, 1, 12_500), (30, 2, 75_000), (30, 3, 12_500)];
 
 const OUTSIDE: [Crossed; 3] = [(30, 3, 12_500), (30, 2, 75_000), (30, 1, 12_500)];
+
+/// One name of two thicknesses, and no name twice: of the plain element, and of a layer that is not there.
+const NAMES: [Crossed; 4] = [
+    (30, 1, 12_500),
+    (30, 1, 13_000),
+    (31, 0, 12_500),
+    (30, 4, 12_500),
+];
+
+const TEN: [Crossed; 10] = [
+    (30, 1, 12_500),
+    (30, 2, 75_000),
+    (30, 3, 12_500),
+    (30, 1, 12_500),
+    (30, 2, 80_000),
+    (30, 3, 12_500),
+    (30, 1, 12_500),
+    (30, 2, 75_000),
+    (31, 0, 100_000),
+    (30, 1, 12_500),
+];
 
 /// The whole of side 0.
 fn side() -> Patch {
@@ -59,4 +82,47 @@ pub fn ends_of_tops() -> [Entry<'static>; 4] {
         row(on_ceiling(20), &NOTHING, End::Solid(30)),
         paired(row(on_ceiling(20), &NOTHING, End::Space(21)), 1),
     ]
+}
+
+/// Materials of one name and two thicknesses, and of no name.
+pub fn names() -> [Entry<'static>; 1] {
+    [row(side(), &NAMES, End::Outside)]
+}
+
+/// Ten items twice, and the first three of them.
+pub fn ten_items() -> [Entry<'static>; 3] {
+    [
+        row(side(), &TEN, End::Outside),
+        row(side(), &TEN, End::Outside),
+        row(side(), &INSIDE, End::Outside),
+    ]
+}
+
+/// Three items of one name whose thicknesses round to 12,501 µm: 12,500.5, 12,501 and 12,501 and a third.
+pub fn rounded(alloc: Global) -> Result<Boundaries, AllocError> {
+    let mut items = Items::new(alloc);
+    items.push(plaster(Fraction::new(25_001, 2)))?;
+    items.push(plaster(Fraction::new(12_501, 1)))?;
+    items.push(plaster(Fraction::new(37_504, 3)))?;
+    let mut list = Boundaries::new(alloc);
+    list.push(Boundary {
+        patch: side(),
+        walk: Walk {
+            items,
+            depth: 100,
+            end: End::Outside,
+        },
+        pair: None,
+        parent: None,
+        key: None,
+    })?;
+    Ok(list)
+}
+
+fn plaster(thickness: Fraction) -> Item {
+    Item {
+        element: 30,
+        layer: 1,
+        thickness,
+    }
 }

@@ -4,11 +4,11 @@
 mod lists;
 mod models;
 
-use crate::lists::{both_sides, children, ends_of_sides, ends_of_tops};
+use crate::lists::{both_sides, children, ends_of_sides, ends_of_tops, names, rounded, ten_items};
 use crate::models::{no_space, two_rooms};
 use anyhow::bail;
 use sb_idf_out::idf_text;
-use sb_model::{End, Model};
+use sb_model::{Boundaries, End, Model};
 use tests_lists::{Crossed, Entry, is_list_of, list_of, row};
 use tests_model::{cube, left_of_crossing};
 
@@ -17,6 +17,7 @@ const NOTHING: [Crossed; 0] = [];
 fn main(rt: HostRuntime) -> anyhow::Result<()> {
     show(rt, "no space", &no_space(rt.alloc())?, &[])?;
     show_rooms(rt)?;
+    show_materials(rt)?;
     show_corners(rt)
 }
 
@@ -28,6 +29,19 @@ fn show_rooms(rt: HostRuntime) -> anyhow::Result<()> {
     show(rt, "children", &rooms, &children())?;
     show(rt, "ends of sides", &rooms, &ends_of_sides())?;
     show(rt, "ends of tops", &rooms, &ends_of_tops())
+}
+
+/// Materials that differ in one thing or in none.
+fn show_materials(rt: HostRuntime) -> anyhow::Result<()> {
+    let rooms = two_rooms(rt.alloc())?;
+    show(rt, "names and thicknesses", &rooms, &names())?;
+    show(rt, "ten items", &rooms, &ten_items())?;
+    show_list(
+        rt,
+        "thicknesses that round to one",
+        &rooms,
+        &rounded(rt.alloc())?,
+    )
 }
 
 /// A patch of three corners.
@@ -43,13 +57,22 @@ fn show_corners(rt: HostRuntime) -> anyhow::Result<()> {
     )
 }
 
-/// Prints the text of a list behind its name.
+/// Prints the text of the list of these boundaries behind its name.
 fn show(rt: HostRuntime, name: &str, model: &Model, rows: &[Entry<'_>]) -> anyhow::Result<()> {
-    let bounds = list_of(rt.alloc(), rows)?;
-    if !is_list_of(model, &bounds) {
+    show_list(rt, name, model, &list_of(rt.alloc(), rows)?)
+}
+
+/// Prints the text of a list behind its name.
+fn show_list(
+    rt: HostRuntime,
+    name: &str,
+    model: &Model,
+    bounds: &Boundaries,
+) -> anyhow::Result<()> {
+    if !is_list_of(model, bounds) {
         bail!("a list is not one of its model");
     }
-    let text = String::from_utf8(idf_text(rt.alloc(), model, &bounds)?);
+    let text = String::from_utf8(idf_text(rt.alloc(), model, bounds)?);
     let Ok(text) = text else {
         bail!("a text is not in UTF-8");
     };

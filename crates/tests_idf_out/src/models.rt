@@ -8,7 +8,7 @@ ghost use Rattle.sb_model.specs.Building.{is_layering, is_shift};
 use sb_fraction::{Point, Unit};
 use sb_model::{
     Axis, Element, Elements, FillKind, Filling, Fillings, Layer, Layering, Layers, Model, Openings,
-    Space, Spaces, Text,
+    Prism, Space, Spaces, Text,
 };
 use std::alloc::{AllocError, Global};
 use tests_lists::{prism, space, turn};
@@ -85,11 +85,9 @@ fn of_materials(alloc: Global, first: Text, second: Text, third: Text) -> Result
     )
 }
 
-/// Wall #30 of these layers along x.
-fn wall(alloc: Global) -> Result<Element, AllocError>
-    ensures { IfOk result (λ e. IsTrue (is_layering e.layering)) }
-{
-    let prism = prism(
+/// The box of the walls.
+fn between_rooms(alloc: Global) -> Result<Prism, AllocError> {
+    prism(
         alloc,
         &[
             Point { x: 4000, y: 0 },
@@ -99,12 +97,30 @@ fn wall(alloc: Global) -> Result<Element, AllocError>
         ],
         0,
         2500,
-    )?;
+    )
+}
+
+/// Wall #30 of these layers along x.
+fn wall(alloc: Global) -> Result<Element, AllocError>
+    ensures { IfOk result (λ e. IsTrue (is_layering e.layering)) }
+{
+    let prism = between_rooms(alloc)?;
     let layers = three_layers(alloc)?;
     Ok(Element {
         number: 30,
         prism,
         layering: Layering::Layered(layers, Axis { x: 1, y: 0, z: 0 }),
+    })
+}
+
+/// Wall #31, which has no material.
+fn plain_wall(alloc: Global) -> Result<Element, AllocError>
+    ensures { IfOk result (λ e. IsTrue (is_layering e.layering)) }
+{
+    Ok(Element {
+        number: 31,
+        prism: between_rooms(alloc)?,
+        layering: Layering::Plain,
     })
 }
 
@@ -124,14 +140,15 @@ fn window_and_door(alloc: Global) -> Result<Fillings, AllocError> {
     Ok(list)
 }
 
-/// The spaces #20 and #21, [0,4000] and [4100,8100] by [0,3000], with a wall of three layers between them,
-/// an opening #40 of it that nothing fills, a window and a door.
+/// The spaces #20 and #21, [0,4000] and [4100,8100] by [0,3000], with a wall of three layers between them
+/// and a plain one, an opening #40 of the first that nothing fills, a window and a door.
 pub fn two_rooms(alloc: Global) -> Result<Model, AllocError> {
     let mut spaces = Spaces::new(alloc);
     spaces.push(room_at(alloc, 20, 0)?)?;
     spaces.push(room_at(alloc, 21, 4100)?)?;
     let mut elements = Elements::new(alloc);
     elements.push(wall(alloc)?)?;
+    elements.push(plain_wall(alloc)?)?;
     let openings = openings(alloc, &[(40, 30), (41, 30), (42, 30)])?;
     let fillings = window_and_door(alloc)?;
     with(alloc, spaces, elements, openings, fillings)

@@ -61,3 +61,41 @@ minus_half_is low high low_is high_is =
     patch_by (kind.Side 0) low high (reduced (negsuc 0) (pos 2000000)) (reduced (pos 4000) (pos 1))
     (Height (pos 0)) (Height (pos 2500)) (level (pos 0)) (level (pos 2500)) low_is high_is refl refl
     refl refl refl refl
+
+-- a part of a side whose corners have great denominators
+pub steep_is : (low high : Ratio) → low ≡ reduced (pos 1) (pos 1999998000001)
+    → high ≡ reduced (pos 1000000000001) (pos 1999998000001)
+    → is_patch (kind.Side 0) low high (Height (pos 0)) (Height (pos 2500)) ≡ true
+unfolding greatest_divisor divisor_within reduced cross dot clearance region
+steep_is low high low_is high_is =
+    patch_by (kind.Side 0) low high (reduced (pos 1) (pos 1999998000001))
+    (reduced (pos 1000000000001) (pos 1999998000001)) (Height (pos 0)) (Height (pos 2500))
+    (level (pos 0)) (level (pos 2500)) low_is high_is refl refl refl refl refl refl
+
+-- a part below the ground
+pub below_is : (low high : Ratio) → low ≡ reduced (pos 0) (pos 1) → high ≡ reduced (pos 4000) (pos 1)
+    → is_patch (kind.Side 2) low high (Height (negsuc 999)) (Height (pos 0)) ≡ true
+unfolding greatest_divisor divisor_within reduced cross dot clearance region
+below_is low high low_is high_is =
+    patch_by (kind.Side 2) low high (reduced (pos 0) (pos 1)) (reduced (pos 4000) (pos 1))
+    (Height (negsuc 999)) (Height (pos 0)) (level (negsuc 999)) (level (pos 0)) low_is high_is refl refl
+    refl refl refl refl
+
+-- two parts of a side of a small slope
+pub part_is : (low high : Ratio) → low ≡ reduced (pos 0) (pos 1)
+    → high ≡ reduced (pos 8997001) (pos 1)
+    → is_patch (kind.Side 2) low high (Height (pos 0)) (Height (pos 2500)) ≡ true
+unfolding greatest_divisor divisor_within reduced cross dot clearance region
+part_is low high low_is high_is =
+    patch_by (kind.Side 2) low high (reduced (pos 0) (pos 1)) (reduced (pos 8997001) (pos 1))
+    (Height (pos 0)) (Height (pos 2500)) (level (pos 0)) (level (pos 2500)) low_is high_is refl refl
+    refl refl refl refl
+
+pub rest_is : (low high : Ratio) → low ≡ reduced (pos 8997001) (pos 1)
+    → high ≡ reduced (pos 9000001) (pos 1)
+    → is_patch (kind.Side 2) low high (Height (pos 0)) (Height (pos 2500)) ≡ true
+unfolding greatest_divisor divisor_within reduced cross dot clearance region
+rest_is low high low_is high_is =
+    patch_by (kind.Side 2) low high (reduced (pos 8997001) (pos 1)) (reduced (pos 9000001) (pos 1))
+    (Height (pos 0)) (Height (pos 2500)) (level (pos 0)) (level (pos 2500)) low_is high_is refl refl
+    refl refl refl refl

@@ -86,8 +86,8 @@ pub fn two_spaces(alloc: Global, unit: Unit, one: Space, other: Space) -> Result
     of_spaces(alloc, unit, spaces)
 }
 
-/// The model of these spaces, the elements #25 and #30, two openings of #30 and a window in the second
-/// of them.
+/// The model of these spaces, the elements #25, #30 and #31, two openings of #30 and a window in the
+/// second of them.
 fn of_spaces(alloc: Global, unit: Unit, spaces: Spaces) -> Result<Model, AllocError>
     requires { IsTrue (list_all (λ s. is_shift s.frame.shift) spaces) }
 {
@@ -97,7 +97,7 @@ fn of_spaces(alloc: Global, unit: Unit, spaces: Spaces) -> Result<Model, AllocEr
         0,
         1000,
         spaces,
-        elements(alloc, &[25, 30])?,
+        elements(alloc, &[25, 30, 31])?,
         openings(alloc, &[(40, 30), (41, 30)])?,
         fillings(alloc, &[(50, 41)])?,
     );

@@ -113,3 +113,60 @@ pub fn from_minus_half() -> Patch {
         upper: Side::Height(2500),
     }
 }
+
+/// A part of side 0 whose direction has the square 1999998000001, between abscissae of as great a
+/// denominator: the denominators of its corners are near 4·10^24.
+pub fn steep(space: u32) -> Patch {
+    Patch {
+        face: Face {
+            space,
+            kind: FaceKind::Side(0),
+        },
+        low: Fraction::new(1, 1_999_998_000_001),
+        high: Fraction::new(1_000_000_000_001, 1_999_998_000_001),
+        lower: Side::Height(0),
+        upper: Side::Height(2500),
+    }
+}
+
+/// The part of side 2 of space #20 below the ground, down to -1000.
+pub fn below_ground() -> Patch {
+    Patch {
+        face: Face {
+            space: 20,
+            kind: FaceKind::Side(2),
+        },
+        low: Fraction::new(0, 1),
+        high: Fraction::new(4000, 1),
+        lower: Side::Height(-1000),
+        upper: Side::Height(0),
+    }
+}
+
+/// The greater part of side 2 of space #20, from (0, 0) towards (3000, 1).
+pub fn shallow_part() -> Patch {
+    Patch {
+        face: Face {
+            space: 20,
+            kind: FaceKind::Side(2),
+        },
+        low: Fraction::new(0, 1),
+        high: Fraction::new(8_997_001, 1),
+        lower: Side::Height(0),
+        upper: Side::Height(2500),
+    }
+}
+
+/// The rest of it, as far as (3000, 1).
+pub fn shallow_rest() -> Patch {
+    Patch {
+        face: Face {
+            space: 20,
+            kind: FaceKind::Side(2),
+        },
+        low: Fraction::new(8_997_001, 1),
+        high: Fraction::new(9_000_001, 1),
+        lower: Side::Height(0),
+        upper: Side::Height(2500),
+    }
+}

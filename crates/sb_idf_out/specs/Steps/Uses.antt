@@ -1,6 +1,6 @@
 -- The materials and constructions of the boundaries so far, with their objects.
 
-use Rattle.std.specs.Prelude.{◌≡◌, ℕ, ℤ, Bool, true, ◌&&◌, List, [], ◌∷◌, nat_eq, map, if◌then◌else◌}
+use Rattle.std.specs.Prelude.{◌≡◌, ◌++◌, ℕ, ℤ, Bool, true, ◌&&◌, List, [], ◌∷◌, nat_eq, map, if◌then◌else◌}
 use Rattle.std.specs.BTreeMap.{BTreeMap}
 use Rattle.std.specs.Ordering.{nat_cmp, int_cmp, int_eq, ordering_then}
 use Rattle.std.specs.declared.cmp.Ordering.{Ordering}
@@ -16,6 +16,7 @@ use Rattle.sb_idf_out.specs.Materials.{Material, is_same_material, is_same_name,
 use Rattle.sb_idf_out.specs.Constructions.{construction_of, construction_number, has_construction}
 use Rattle.sb_idf_out.specs.Constructions.{is_same_construction}
 use Rattle.sb_idf_out.specs.Objects.{object_of, construction_object}
+use Rattle.sb_idf_out.specs.IdfText.{head, zones}
 use Rattle.sb_idf_out.specs.Steps.Tables.{IsNumbered, NumbersAs}
 use Rattle.sb_idf_out.specs.Steps.Names.{AreNames}
 
@@ -81,3 +82,9 @@ numbers_used m ms cs (b ∷ bs) =
     let next = with_materials m ms b in
     let made = with_construction m next cs b in
     construction_number m next made b ∷ numbers_used m next made bs
+
+-- what stands before the boundaries of a list
+abbrev pub front_text : Building → List Boundary → List ℕ
+front_text m bs =
+    ((head ++ zones m) ++ in_order object_of 1 (materials_after m [] bs))
+    ++ in_order construction_object 1 (constructions_after m [] [] bs)

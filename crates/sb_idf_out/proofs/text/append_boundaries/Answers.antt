@@ -21,9 +21,9 @@ bounds-preserved c =
     let b = some_at bs i within in
     c.in_ok-append_boundary_at.ensures k.0 b.0 k.1 b.1
     ∙ (ap (λ t. t ++ object_under m k.0 (i + 1) b.0 b.0.parent) c.bounds.invariant
-    ∙ (append_assoc c.args.text.now (objects_by m 1 (take i ks) (take i bs))
+    ∙ (append_assoc c.args.text.now.items (objects_by m 1 (take i ks) (take i bs))
     (object_under m k.0 (i + 1) b.0 b.0.parent)
-    ∙ ap (λ t. c.args.text.now ++ t) (sym (objects_more m ks bs i k.0 b.0 each within k.1 b.1))))
+    ∙ ap (λ t. c.args.text.now.items ++ t) (sym (objects_more m ks bs i k.0 b.0 each within k.1 b.1))))
 
 pub returns : goal.returns
 returns c =
@@ -36,4 +36,4 @@ returns c =
     let past : length bs ≤ i = omega arith in
     let over : length ks ≤ i = omega arith in
     c.bounds.invariant
-    ∙ (λ j. c.args.text.now ++ objects_by c.args.model.now 1 (take_all i ks over j) (take_all i bs past j))
+    ∙ (λ j. c.args.text.now.items ++ objects_by c.args.model.now 1 (take_all i ks over j) (take_all i bs past j))

@@ -5,4 +5,4 @@ use Rattle.sb_idf_out.proofs.text.append_boundaries.Given as goal
 
 abbrev pub invariant-bounds : goal.invariant-bounds
 invariant-bounds l =
-    l.text ≡ l.initial.text ++ objects_by l.model 1 (take l.index l.numbers) (take l.index l.bounds)
+    l.text.items ≡ l.initial.text.items ++ objects_by l.model 1 (take l.index l.numbers) (take l.index l.bounds)

@@ -5,8 +5,8 @@ use Rattle.sb_idf_out.specs.Objects.{object_under}
 use Rattle.sb_idf_out.proofs.ObjectsInTurn.{face_of_each, ok_weaker}
 use Rattle.sb_idf_out.proofs.text.append_boundary_at.Goals as goal
 
-pub append_boundary-requires : goal.append_boundary-requires
-append_boundary-requires c =
+pub append_object-requires : goal.append_object-requires
+append_object-requires c =
     let bs = c.args.bounds.now in
     let i = c.args.index in
     let b = c.index-as_slice-index.result in
@@ -23,10 +23,10 @@ returns c =
     let i = c.args.index in
     let b = c.index-as_slice-index.result in
     let here = subst (λ l. b ≡ get_or l i b) c.as_slice.ensures c.index-as_slice-index.is in
-    ok_weaker c.append_boundary.result (λ written k a is_k is_a.
+    ok_weaker c.append_object.result (λ written k a is_k is_a.
     let number = get_or_from_slice_get ks i k 0 is_k in
     let boundary = here ∙ get_or_from_slice_get bs i a b is_a in
     written
-    ∙ (λ j. c.args.text.now
+    ∙ (λ j. c.args.text.now.items
     ++ object_under c.args.model.now (number j) (i + 1) (boundary j) (boundary j).parent))
-    c.append_boundary.ensures
+    c.append_object.ensures
