@@ -1,0 +1,9 @@
+mod SeenWhereFollowed
+mod ChainsAreFollowed
+mod ShapesAreFollowed
+mod ProductsAreRead
+mod SeenByContents
+mod ShapesByContents
+mod OneModel
+mod FramesAreKnown
+mod Examples

@@ -1,0 +1,6 @@
+-- In reading order.
+pub mod Placings
+pub mod Frames
+pub mod Layerings
+pub mod Models
+pub mod Laws
