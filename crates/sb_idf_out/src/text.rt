@@ -29,9 +29,17 @@ pub fn idf_text(alloc: Global, model: &Model, bounds: &Boundaries) -> Result<Vec
     ensures { IfOk result (λ text. text.items ≡ idf_text_of model.now bounds.now) }
 {
     let front = begun(alloc, model, bounds)?;
-    let mut text = Vec::from_slice(alloc, front.text.bytes())?;
-    append_boundaries(alloc, &mut text, model, bounds, front.numbers.as_slice())?;
+    let numbers = front.numbers;
+    let mut text = bytes_of(alloc, front.text)?;
+    append_boundaries(alloc, &mut text, model, bounds, numbers.as_slice())?;
     Ok(text)
+}
+
+/// The bytes of a text, which is let go.
+fn bytes_of(alloc: Global, text: Text) -> Result<Vec<u8>, AllocError>
+    ensures { IfOk result (λ bytes. bytes.items ≡ text) }
+{
+    Vec::from_slice(alloc, text.bytes())
 }
 
 /// What stands before the boundaries, and the number of the construction of each.

@@ -109,7 +109,7 @@ fn numbers_of_items<'a>(
     ensures numbers { IfOk result (λ ns. (ms : List Material) → AreMaterials model.now ms materials.old
         → ns.items ≡ used_numbers is_same_material ms (map (of_item model.now) items.now)) }
 {
-    let mut numbers = Vec::new(alloc);
+    let mut numbers = Vec::with_capacity(alloc, items.len())?;
     'items: for item in items.as_slice() {
         numbers.push(number_of_item(alloc, materials, model, item)?)?;
     }

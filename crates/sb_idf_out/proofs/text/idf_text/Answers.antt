@@ -25,7 +25,7 @@ returns c =
     ap (λ l. objects_by m 1 l bs)
     (c.as_slice.ensures.value ∙ (c.in_ok-front.ensures.numbers ∙ numbers_are m [] [] bs))
     ∙ objects_are m ms cs 1 bs in
-    let begun = c.in_ok-text.ensures.items ∙ (c.bytes.ensures ∙ c.in_ok-front.ensures.text) in
+    let begun = c.in_ok-text.ensures ∙ c.in_ok-front.ensures.text in
     c.in_ok-append_boundaries.ensures
     ∙ (ap (λ l. l ++ objects_by m 1 c.as_slice.result.now bs) begun
     ∙ (ap (λ l. front_text m bs ++ l) objects
