@@ -10,7 +10,6 @@ use Rattle.sb_profile.specs.Contents.{Contents, is_absent}
 use Rattle.sb_profile.specs.Lowest.{lower_if}
 use Rattle.sb_profile.specs.Following.{leads}
 use Rattle.sb_profile.specs.Steps.Found.{leads_with, is_unfit_at, FindsAs, Finds, FindsEach}
-use Rattle.sb_profile.specs.Steps.Chains.{FindsPlacements}
 use Rattle.sb_profile.proofs.LinksAreNoted.{lowered_more}
 use Rattle.sb_profile.proofs.ListsOfNumbers.{flat_map_more}
 

@@ -1,6 +1,6 @@
 -- What is found of an instance as the one entity that its keyword names is what is found at a place where
 -- others are wanted too.
-use Rattle.std.proofs.Common.{◌≡◌, ℕ, Bool, true, false, ◌||◌, List, [], ◌∷◌, ◌++◌, Option, Some, None, refl, sym, ap, ◌∙◌, subst, append-nil, Result, Ok, Err}
+use Rattle.std.proofs.Common.{◌≡◌, ℕ, Bool, true, false, ◌||◌, List, [], ◌++◌, Option, Some, None, refl, sym, ap, ◌∙◌, subst, append-nil, Result, Ok, Err}
 use Rattle.std.specs.Prelude.{OnOk, codes}
 use Rattle.std.specs.Option.{option_map_or}
 use Rattle.std.specs.Str.{bytes_eq}
@@ -13,9 +13,9 @@ use Rattle.sb_profile.specs.declared.places.Place.{Place}
 use Rattle.sb_profile.specs.declared.places.Place.TheVariants as place
 use Rattle.sb_profile.specs.Entities.{Entity, row_of}
 use Rattle.sb_profile.specs.Entities.Entity.{shape_representation}
-use Rattle.sb_profile.specs.Contents.{Contents, Says, is_unfit, is_absent}
+use Rattle.sb_profile.specs.Contents.{Contents, Says, is_unfit}
 use Rattle.sb_profile.specs.Lowest.{lower_if}
-use Rattle.sb_profile.specs.Following.{Lead, from, is_body}
+use Rattle.sb_profile.specs.Following.{Lead, from}
 use Rattle.sb_profile.specs.Steps.Found.{FindsAs, FindsOnly, Finds, AreBodies, leads_with, is_unfit_at}
 use Rattle.sb_profile.proofs.ViewsAreSights.{giver_is_fit}
 

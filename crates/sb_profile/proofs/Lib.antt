@@ -17,5 +17,6 @@ mod LeadsFromProducts
 mod TablesAreRead
 mod RelationsGive
 mod HeadIsFirst
+mod VerdictsTellDefects
 mod AllIsRead
 mod Examples

@@ -1,5 +1,5 @@
 -- A profile, a curve and a material instance is of the one entity that its keyword names.
-use Rattle.std.proofs.Common.{◌≡◌, ℕ, Bool, true, false, ◌||◌, List, [], ◌∷◌, ◌++◌, Option, refl, sym, ◌∙◌}
+use Rattle.std.proofs.Common.{◌≡◌, ℕ, Bool, true, false, ◌||◌, List, [], ◌∷◌, refl, sym, ◌∙◌}
 use Rattle.std.specs.Prelude.{codes}
 use Rattle.sb_step.specs.Indexed.{Indexed}
 use Rattle.sb_schema.specs.Table.{is_one_of}

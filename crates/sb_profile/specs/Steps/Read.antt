@@ -10,6 +10,7 @@ use Rattle.sb_profile.specs.declared.kinds.Kinds.{Kinds}
 use Rattle.sb_profile.specs.declared.links.Link.{Link}
 use Rattle.sb_profile.specs.declared.products.Shaped.{Shaped}
 use Rattle.sb_profile.specs.declared.tables.Tables.{Tables}
+use Rattle.sb_profile.specs.declared.first.Whole.{Whole}
 use Rattle.sb_profile.specs.declared.places.Place.{Place}
 use Rattle.sb_profile.specs.declared.places.Place.TheVariants as place
 use Rattle.sb_profile.specs.declared.defects.Code.{Code}
@@ -18,7 +19,7 @@ use Rattle.sb_profile.specs.Entities.Entity.{building, space, product, product_d
 use Rattle.sb_profile.specs.Contents.{Contents, is_unfit, is_absent}
 use Rattle.sb_profile.specs.Products.{is_space, is_element, is_opening, is_taken, placement_of, shape_of, element_of, opening_of}
 use Rattle.sb_profile.specs.Materials.{own_material, type_of, material_of}
-use Rattle.sb_profile.specs.Following.{Lead, to, to_each, below, IsFollowed}
+use Rattle.sb_profile.specs.Following.{Lead, to, to_each, below, building_placement, IsFollowed}
 use Rattle.sb_profile.specs.declared.found.Found.{Found}
 use Rattle.sb_profile.specs.Steps.Links.{lowered}
 use Rattle.sb_profile.specs.Steps.Found.{leads_with, is_unfit_at}
@@ -125,6 +126,12 @@ read_codes = code.Fields ∷ code.Missing ∷ []
 pub record AreLowest (c : Contents) (unfit absent : Option ℕ) : Type 0 where
   pub unfit_is : IsLowestIf (IsUnfitRead c) unfit
   pub absent_is : IsLowestIf (IsAbsentFollowed c) absent
+
+-- all that is read of a file
+pub record IsWhole (c : Contents) (read : Whole) : Type 0 where
+  pub lowest : AreLowest c read.found.unfit read.found.absent
+  pub building : read.building ≡ building_placement c
+  pub tables : AreTables c read.tables
 
 -- the defect of these: whether the schema is IFC4, whether there is a unit, the number of a defect in
 -- the buildings, and the lowest of a class that is refused
