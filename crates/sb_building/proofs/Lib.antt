@@ -5,5 +5,7 @@ mod ProductsAreRead
 mod SeenByContents
 mod ShapesByContents
 mod OneModel
+mod FirstOfAll
+mod OneCondition
 mod FramesAreKnown
 mod Examples

@@ -2,5 +2,6 @@
 pub mod Placings
 pub mod Frames
 pub mod Layerings
+pub mod Conditions
 pub mod Models
 pub mod Laws

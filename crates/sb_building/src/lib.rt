@@ -9,4 +9,4 @@ mod frames;
 mod laws;
 
 pub use crate::frames::{Placements, frame_in};
-pub use crate::laws::{one_model, products_are_read};
+pub use crate::laws::{one_first_of_all, one_model, products_are_read};
