@@ -29,5 +29,12 @@ fn name(code: Code) -> &'static str {
         Code::Class => "Class",
         Code::Fields => "Fields",
         Code::Missing => "Missing",
+        Code::Chain => "Chain",
+        Code::Turned => "Turned",
+        Code::Shape => "Shape",
+        Code::Range => "Range",
+        Code::OffGrid => "OffGrid",
+        Code::Loops => "Loops",
+        Code::Layers => "Layers",
     }
 }

@@ -1,5 +1,6 @@
 -- Where edges cross, and all crossings of edges.
 pub mod EdgesCross
+pub mod BetweenEnds
 pub mod ApartAlongX
 pub mod PairsOfEdges
 pub mod PointsOnce
@@ -7,3 +8,5 @@ pub mod PutInOrder
 pub mod StepsOfFinding
 pub mod NetworkFound
 pub mod PlacesThrough
+pub mod WholeNumberBelow
+pub mod InsideIsBeside

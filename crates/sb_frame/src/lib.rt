@@ -6,6 +6,7 @@
 
 mod abscissa;
 mod abscissae;
+mod cell;
 mod crossing;
 mod edge;
 mod finding;

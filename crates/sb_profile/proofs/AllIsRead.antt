@@ -1,6 +1,6 @@
 -- All instances that are read are looked at: the roots by their keywords, and what follows place after
 -- place from the leads with which the following begins.
-use Rattle.std.proofs.Common.{◌≡◌, ◌⊎◌, inl, inr, ℕ, ◌<◌, nat_eq, Bool, true, false, ◌&&◌, ◌||◌, List, [], ◌∷◌, ◌++◌, Option, Some, None, is_some, is_none, refl, sym, ap, ◌∙◌, subst, arith}
+use Rattle.std.proofs.Common.{◌≡◌, ◌⊎◌, inl, inr, ℕ, ◌<◌, nat_eq, Bool, true, false, ◌&&◌, List, [], ◌∷◌, ◌++◌, Option, Some, None, is_some, is_none, refl, sym, ap, ◌∙◌, subst, arith}
 use Rattle.std.specs.Prelude.{filter}
 use Rattle.std.specs.List.{list_any}
 use Rattle.std.specs.Map.{lookup}
@@ -24,11 +24,12 @@ use Rattle.sb_profile.specs.Following.IsReadAs.{root, followed}
 use Rattle.sb_profile.specs.Defects.{IsUnfitRead, IsAbsentFollowed}
 use Rattle.sb_profile.specs.Steps.Kinds.{AreSorted, is_of_elements}
 use Rattle.sb_profile.specs.Steps.Links.{lowered}
-use Rattle.sb_profile.specs.Steps.Found.{leads_with, any_unfit, is_unfit_at}
+use Rattle.sb_profile.specs.Steps.Found.{leads_with, any_unfit, is_unfit_at, AreBodies}
 use Rattle.sb_profile.specs.Steps.Survey.{rank_of, places, IsLowestIf, IsMarked, IsOneOrMarked, IsSurveyed}
-use Rattle.sb_profile.specs.Steps.Read.{unfit_roots, AreFirstLeads, AreLowest}
+use Rattle.sb_profile.specs.Steps.Read.{unfit_roots, AreFirstLeads, ArePlaced, AreLowest}
 use Rattle.sb_profile.proofs.ListsOfNumbers.{any_stands, stands_either}
-use Rattle.sb_profile.proofs.PlacesAreFollowed.{stands_filter, filter_stands, lowest_same, lowest_with_all}
+use Rattle.sb_profile.proofs.PlacesAreFollowed.{stands_filter, filter_stands, lowest_same, lowest_with_all, surveyed_more, stands_wanted, wanted_stands}
+use Rattle.sb_profile.proofs.EachIsFound.{alike_for_placements}
 use Rattle.sb_profile.proofs.LeadsGoOn.{rank_low}
 use Rattle.sb_profile.proofs.TablesAreRead.{elements_of_products}
 use Rattle.sb_profile.proofs.ViewsAreSights.{any_by_lookup, unkeyed}
@@ -337,9 +338,10 @@ begins_so : (bodies : ℕ → Bool) (c : Contents) (ns : List ℕ) (found : Foun
     → AreFirstLeads c found.leads.items
     → ((n : ℕ) → Stands (place.Shape, n) found.leads.items
     → leads_with bodies c place.Shape n ≡ leads c place.Shape n)
-    → found.unfit ≡ lowered None ns → found.absent ≡ None
+    → AreBodies c bodies → found.unfit ≡ lowered None ns → found.absent ≡ None
     → IsSurveyed bodies c ns found.leads.items 0 found
-begins_so bodies c ns found are agree unfit absent = record {
+begins_so bodies c ns found are agree are_bodies unfit absent = record {
+  bodies_are = are_bodies;
   keeps = λ lead there. there;
   sound = are.sound;
   agree = agree_first bodies c found.leads.items agree;
@@ -349,6 +351,23 @@ begins_so bodies c ns found are agree unfit absent = record {
   absent = subst (IsLowestIf (IsOneOrMarked [] (λ _ n. is_absent c n) 0 found.leads.items))
       (sym absent) (roots_alone [] (λ _ n. is_absent c n) found.leads.items);
 }
+
+-- the placements were found beside the leads
+placed_so : (bodies : ℕ → Bool) (c : Contents) (ns : List ℕ) (first : List Lead)
+    (old beside new : Found) → ArePlaced c old beside
+    → new.leads.items ≡ old.leads.items ++ beside.leads.items → new.unfit ≡ beside.unfit
+    → new.absent ≡ beside.absent → IsSurveyed bodies c ns first 0 old
+    → IsSurveyed bodies c ns first 1 new
+placed_so bodies c ns first old beside new placed leads unfit absent begun =
+    surveyed_more bodies c ns first place.Placement old new placed.placements
+    (λ n. (
+      λ stands. stands_wanted place.Placement n old.leads.items ((placed.are n).0 stands),
+      λ stands. (placed.are n).1 (wanted_stands place.Placement n old.leads.items stands),
+    ))
+    (leads
+    ∙ ap (λ ls. old.leads.items ++ ls)
+    (placed.leads_are ∙ alike_for_placements (λ _. false) bodies c placed.placements))
+    (unfit ∙ placed.unfit_is) (absent ∙ placed.absent_is) begun
 
 -- ---- and ends
 
@@ -436,15 +455,19 @@ module _ (bodies : ℕ → Bool) (indexed : Indexed) (c : Contents) (says : Says
 
 -- from the leads to the lowest numbers
 pub lowest_found : (bodies : ℕ → Bool) (indexed : Indexed) (c : Contents) (kinds : Kinds)
-    (old found : Found) → Says indexed c → AreSorted c c.numbers kinds
+    (old beside joined found : Found) → Says indexed c → AreSorted c c.numbers kinds
     → AreFirstLeads c old.leads.items
     → ((n : ℕ) → Stands (place.Shape, n) old.leads.items
     → leads_with bodies c place.Shape n ≡ leads c place.Shape n)
-    → old.unfit ≡ lowered None (unfit_roots c kinds) → old.absent ≡ None
-    → ((ns : List ℕ) (first : List Lead) → IsSurveyed bodies c ns first 0 old
+    → AreBodies c bodies → old.unfit ≡ lowered None (unfit_roots c kinds) → old.absent ≡ None
+    → ArePlaced c old beside → joined.leads.items ≡ old.leads.items ++ beside.leads.items
+    → joined.unfit ≡ beside.unfit → joined.absent ≡ beside.absent
+    → ((ns : List ℕ) (first : List Lead) → IsSurveyed bodies c ns first 1 joined
     → IsSurveyed bodies c ns first places found)
     → AreLowest c found.unfit found.absent
-lowest_found bodies indexed c kinds old found says sorted are agree unfit absent survey =
+lowest_found bodies indexed c kinds old beside joined found says sorted are agree are_bodies unfit absent placed leads_join unfit_join absent_join survey =
     ends_so bodies indexed c says kinds sorted old.leads.items are found
     (survey (unfit_roots c kinds) old.leads.items
-    (begins_so bodies c (unfit_roots c kinds) old are agree unfit absent))
+    (placed_so bodies c (unfit_roots c kinds) old.leads.items old beside joined placed leads_join
+    unfit_join absent_join
+    (begins_so bodies c (unfit_roots c kinds) old are agree are_bodies unfit absent)))

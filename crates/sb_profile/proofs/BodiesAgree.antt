@@ -1,7 +1,8 @@
 -- The bodies that were found of the representations of some shapes lead on from these as the file says.
-use Rattle.std.proofs.Common.{◌≡◌, ◌↔◌, ℕ, nat_eq, Bool, ◌&&◌, List, [], ◌++◌, Option, Some, None, refl, sym, ap, ◌∙◌, subst}
+use Rattle.std.proofs.Common.{◌≡◌, ◌↔◌, ℕ, nat_eq, Bool, true, false, ◌&&◌, List, [], ◌++◌, Option, Some, None, refl, sym, ap, ◌∙◌, subst}
 use Rattle.std.specs.Option.{option_map_or}
 use Rattle.std.specs.List.{list_any, flat_map}
+use Rattle.std.proofs.lemmas.Bool.{false≢true}
 use Rattle.theory_lists.specs.Members.{Stands}
 use Rattle.sb_schema.specs.Table.{Values}
 use Rattle.sb_profile.specs.declared.places.Place.TheVariants as place
@@ -13,6 +14,10 @@ use Rattle.sb_profile.specs.Steps.Found.{leads_with, shape_leads}
 use Rattle.sb_profile.specs.Steps.Read.{representations_of}
 use Rattle.sb_profile.proofs.ListsOfNumbers.{stands_any, find_same}
 use Rattle.sb_profile.proofs.PlacesAreFollowed.{flat_map_stands}
+
+pub both_right : (a b : Bool) → (a && b) ≡ true → b ≡ true
+both_right true b both = both
+both_right false b both = absurd (false≢true both)
 
 pub bodies_agree : (c : Contents) (bodies : ℕ → Bool) (shapes representations : List ℕ) (n : ℕ)
     → Stands n shapes

@@ -88,6 +88,16 @@ grown_length old new grows =
     ap length grows.is ∙ length-append old grows.more in
     omega arith
 
+pub grown_here : (old new : List ℕ) (i : ℕ) → Grows old new → i < length old
+    → get_or new i 0 ≡ get_or old i 0
+grown_here old new i grows within =
+    ap (λ ns. get_or ns i 0) grows.is ∙ get_or_append_left old grows.more 0 i within
+
+-- those that were there are the first
+pub grown_whole : (old new : List ℕ) → Grows old new → take (length old) new ≡ old
+grown_whole old new grows =
+    grown_take (length old) old new grows (omega arith) ∙ take_all (length old) old (omega arith)
+
 -- ---- a level
 
 module _ (c : Contents) (level : ℕ) (old : List ℕ) (asked : ℕ)
@@ -124,10 +134,8 @@ module _ (c : Contents) (level : ℕ) (old : List ℕ) (asked : ℕ)
 
       asked_is_old : Stands (get_or items at 0) old
       asked_is_old =
-          let same : get_or items at 0 ≡ get_or old at 0 =
-          ap (λ ns. get_or ns at 0) grows.is
-          ∙ get_or_append_left old grows.more 0 at within in
-          subst (λ k. Stands k old) (sym same) (stands_here old at within)
+          subst (λ k. Stands k old) (sym (grown_here old items at grows within))
+          (stands_here old at within)
 
       taken : take (at + 1) new ≡ take at items ++ get_or items at 0 ∷ []
       taken =
@@ -162,7 +170,7 @@ module _ (c : Contents) (level : ℕ) (old : List ℕ) (asked : ℕ)
   }
     where
       whole : take (length old) items ≡ old
-      whole = grown_take (length old) old items grows (omega arith) ∙ take_all (length old) old (omega arith)
+      whole = grown_whole old items grows
 
       from_old : (n k : ℕ) → k ≤ level → IsInChain c k n → Stands n items
       from_old n k few chained =

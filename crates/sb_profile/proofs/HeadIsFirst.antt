@@ -97,6 +97,14 @@ head_is c true unit found refused is is_unit is_found is_refused =
       units_is c unit found refused is_unit is_found is_refused,
     )
 
+-- where the head has none the file has a unit
+pub head_has_unit : (c : Contents) (found : Option Defect) → IsFirst (Occurs c) head_codes found
+    → found ≡ None → unit_in c ≡ None → ⊥
+head_has_unit c found (inl (n, (low, is))) nothing none = absurd (let some = sym nothing ∙ is in cc)
+head_has_unit c found (inr (other, inl (n, (low, is)))) nothing none =
+    absurd (let some = sym nothing ∙ is in cc)
+head_has_unit c found (inr (other, inr (no_units, later))) nothing none = no_units 0 (refl, none)
+
 -- what is read
 read_is : (c : Contents) (unfit absent : Option ℕ) → AreLowest c unfit absent
     → IsFirst (Occurs c) read_codes (read_of unfit absent)

@@ -1,15 +1,16 @@
 -- The leads with which the following begins are those from products that are taken.
-use Rattle.std.proofs.Common.{◌≡◌, ◌↔◌, ℕ, zero, suc, ◌≤◌, ◌⊎◌, inl, inr, true, ◌||◌, List, [], ◌∷◌, ◌++◌, Option, Some, None, refl, sym, ap, ◌∙◌, subst, arith}
+use Rattle.std.proofs.Common.{◌≡◌, ◌↔◌, ℕ, zero, suc, ◌≤◌, ◌⊎◌, inl, inr, true, ◌||◌, List, [], ◌∷◌, ◌++◌, Option, Some, None, refl, sym, ap, ◌∙◌, subst, append_assoc, arith}
 use Rattle.std.specs.Prelude.{filter_map, option_and_then}
 use Rattle.std.specs.Option.{option_or}
 use Rattle.std.specs.List.{cons_option}
 use Rattle.std.specs.Ordering.{nat_cmp}
-use Rattle.std.specs.BTreeMap.{get}
+use Rattle.std.specs.BTreeMap.{get, BTreeMap}
 use Rattle.std.proofs.lemmas.Bool.{or_cases}
 use Rattle.std.proofs.lemmas.Option.{same_Some}
 use Rattle.std.proofs.lemmas.List.Elements.{filter_map-append}
 use Rattle.theory_lists.specs.Members.{Stands}
 use Rattle.theory_lists.proofs.Blocks.{stands_before, stands_behind}
+use Rattle.sb_profile.specs.declared.links.Link.{Link}
 use Rattle.sb_profile.specs.declared.products.Shaped.{Shaped}
 use Rattle.sb_profile.specs.declared.tables.Tables.{Tables}
 use Rattle.sb_profile.specs.declared.places.Place.{Place}
@@ -335,3 +336,92 @@ module _ (c : Contents) (tables : Tables) (are : AreTables c tables) where
         λ stands. begins top building n (subst (Stands n) (sym split) ((same n).0 stands)),
         λ within. (same n).1 (subst (Stands n) split (begun top building n within)),
       )
+
+-- ---- one list of leads behind another
+
+pub five_in_turn : (old a s e o m one two three four new : List Lead) → one ≡ old ++ a
+    → two ≡ one ++ s → three ≡ two ++ e → four ≡ three ++ o → new ≡ four ++ m
+    → new ≡ old ++ (a ++ s ++ e ++ o ++ m)
+five_in_turn old a s e o m one two three four new is_one is_two is_three is_four is_new =
+    behind four (a ++ s ++ e ++ o) m new
+    (behind three (a ++ s ++ e) o four
+    (behind two (a ++ s) e three (behind one a s two is_one is_two) is_three) is_four) is_new
+  where
+    behind : (before xs ys after : List Lead) → before ≡ old ++ xs → after ≡ before ++ ys
+        → after ≡ old ++ (xs ++ ys)
+    behind before xs ys after is is_after =
+        is_after ∙ (ap (λ ls. ls ++ ys) is ∙ append_assoc old xs ys)
+
+-- ---- the placements among the first leads
+
+no_shape_there : (n : ℕ) (products : List Shaped)
+    → Stands (place.Placement, n) (shapes_of products) → ⊥
+no_shape_there n products stands =
+    let one = stands_map (λ p. (place.Shape, p.shape)) (place.Placement, n) products stands in
+    let other : place.Placement ≡ place.Shape = ap (λ l. l.0) one.1.1 in
+    absurd (let same = other in cc)
+
+no_material_there : (n : ℕ) (o : Option ℕ) → Stands (place.Placement, n) (to place.Material o) → ⊥
+no_material_there n None stands = stands
+no_material_there n (Some m) (inl same) =
+    let other : place.Placement ≡ place.Material = ap (λ l. l.0) same in
+    absurd (let is = other in cc)
+no_material_there n (Some m) (inr none) = none
+
+no_materials_there : (n : ℕ) (materials types : BTreeMap ℕ Link) (products : List Shaped)
+    → Stands (place.Placement, n) (materials_of materials types products) → ⊥
+no_materials_there n materials types products stands =
+    let one = stands_flat_map (λ p. to place.Material (made_of materials types p.number))
+    (place.Placement, n) products stands in
+    no_material_there n (made_of materials types one.0.number) one.1.1
+
+module _ (placements : List ℕ) (s e o : List Shaped) (materials types : BTreeMap ℕ Link)
+    (made : List Shaped) (n : ℕ) where
+  abbrev placed : List Lead
+  placed = to_each place.Placement placements
+
+  abbrev last : List Lead
+  last = materials_of materials types made
+
+  in_placed : Stands (place.Placement, n) placed → Stands n placements
+  in_placed stands =
+      let one = stands_map (λ k. (place.Placement, k)) (place.Placement, n) placements stands in
+      subst (λ k. Stands k placements) (sym (ap (λ l. l.1) one.1.1)) one.1.0
+
+  by_two : Stands (place.Placement, n) placed ⊎ Stands (place.Placement, n) (shapes_of s)
+      → Stands n placements
+  by_two (inl there) = in_placed there
+  by_two (inr there) = absurd (no_shape_there n s there)
+
+  by_three : Stands (place.Placement, n) (placed ++ shapes_of s)
+      ⊎ Stands (place.Placement, n) (shapes_of e) → Stands n placements
+  by_three (inl there) = by_two (stands_either (place.Placement, n) placed (shapes_of s) there)
+  by_three (inr there) = absurd (no_shape_there n e there)
+
+  by_four : Stands (place.Placement, n) (placed ++ shapes_of s ++ shapes_of e)
+      ⊎ Stands (place.Placement, n) (shapes_of o) → Stands n placements
+  by_four (inl there) =
+      by_three (stands_either (place.Placement, n) (placed ++ shapes_of s) (shapes_of e) there)
+  by_four (inr there) = absurd (no_shape_there n o there)
+
+  by_five : Stands (place.Placement, n) (placed ++ shapes_of s ++ shapes_of e ++ shapes_of o)
+      ⊎ Stands (place.Placement, n) last → Stands n placements
+  by_five (inl there) =
+      by_four (stands_either (place.Placement, n) (placed ++ shapes_of s ++ shapes_of e)
+      (shapes_of o) there)
+  by_five (inr there) = absurd (no_materials_there n materials types made there)
+
+  pub placements_among : Stands n placements
+      ↔ Stands (place.Placement, n)
+      (to_each place.Placement placements ++ shapes_of s ++ shapes_of e ++ shapes_of o
+      ++ materials_of materials types made)
+  placements_among = (
+    λ stands. stands_before (place.Placement, n)
+        (placed ++ shapes_of s ++ shapes_of e ++ shapes_of o) last
+        (stands_before (place.Placement, n) (placed ++ shapes_of s ++ shapes_of e) (shapes_of o)
+        (stands_before (place.Placement, n) (placed ++ shapes_of s) (shapes_of e)
+        (stands_before (place.Placement, n) placed (shapes_of s)
+        (map_stands (λ k. (place.Placement, k)) n placements stands)))),
+    λ stands. by_five (stands_either (place.Placement, n)
+        (placed ++ shapes_of s ++ shapes_of e ++ shapes_of o) last stands),
+  )

@@ -8,6 +8,8 @@ mod LinksAreNoted
 mod ListsOfNumbers
 mod ChainsAreReached
 mod FoundTogether
+mod OneByKeyword
+mod EachIsFound
 mod LeadsGoOn
 mod PlacesAreFollowed
 mod BodiesAgree
@@ -15,5 +17,6 @@ mod LeadsFromProducts
 mod TablesAreRead
 mod RelationsGive
 mod HeadIsFirst
+mod VerdictsTellDefects
 mod AllIsRead
 mod Examples

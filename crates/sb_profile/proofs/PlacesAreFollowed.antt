@@ -266,6 +266,7 @@ pub surveyed_more : (bodies : ℕ → Bool) (c : Contents) (roots : List ℕ) (f
     → IsSurveyed bodies c roots first (rank_of at) old
     → IsSurveyed bodies c roots first (rank_of at + 1) new
 surveyed_more bodies c roots first at old new ns wanted grown unfit absent surveyed = record {
+  bodies_are = surveyed.bodies_are;
   keeps = λ lead there. stays bodies c at olds news ns wanted grown lead (surveyed.keeps lead there);
   sound = λ low n stands. sound_by low n (old_or_later bodies c at olds news ns wanted grown (low, n) stands);
   agree = λ low n stands. agree_by low n (old_or_later bodies c at olds news ns wanted grown (low, n) stands);

@@ -1,9 +1,12 @@
 -- What a view answers is what the file says of the instance.
-use Rattle.std.proofs.Common.{◌≡◌, ◌≢◌, ℕ, nat_eq, Bool, true, false, not, ◌&&◌, List, [], ◌∷◌, map, Option, Some, None, Result, Ok, Err, is_some, is_none, refl, ap, ◌∙◌, subst}
+use Rattle.std.proofs.Common.{◌≡◌, ◌≢◌, ◌⊎◌, inl, inr, sym, ℕ, nat_eq, Bool, true, false, not, ◌&&◌, List, [], ◌∷◌, map, Option, Some, None, Result, Ok, Err, is_some, is_none, refl, ap, ◌∙◌, subst}
 use Rattle.std.specs.Prelude.{option_and_then, IfOk}
 use Rattle.std.specs.declared.alloc.AllocError.{AllocError}
 use Rattle.std.specs.List.{list_any}
 use Rattle.std.specs.Map.{lookup}
+use Rattle.std.specs.Str.{bytes_eq}
+use Rattle.std.proofs.lemmas.Bool.{false≢true, or_cases}
+use Rattle.std.proofs.lemmas.Slice.Eq.{bytes_eq-Decides}
 use Rattle.std.proofs.lemmas.Option.{same_Some}
 use Rattle.sb_step.specs.declared.step_file.records.Record.{Record}
 use Rattle.sb_step.specs.Indexed.{Indexed}
@@ -16,7 +19,7 @@ use Rattle.sb_schema.specs.Views.Taking.{with_memory, without_memory}
 use Rattle.sb_profile.specs.declared.sights.Sight.{Sight}
 use Rattle.sb_profile.specs.declared.sights.Sight.TheVariants as sight
 use Rattle.sb_profile.specs.Entities.{Entity, row_of}
-use Rattle.sb_profile.specs.Contents.{Contents, Says, is_absent, has_keyword}
+use Rattle.sb_profile.specs.Contents.{Contents, Says, is_absent, is_unfit, has_keyword}
 use Rattle.sb_profile.specs.Steps.Sights.{sight_of, Shows}
 
 -- a number is among those of the instances exactly where one is found by it
@@ -157,3 +160,37 @@ pub shown_all : (e : Entity) {V : Type 0} (fields : V → Values (row_of e).read
 shown_all e fields indexed n taking r (Ok s) views same =
     shown e fields indexed n taking r s views same
 shown_all e fields indexed n taking r (Err failed) views same = same
+
+-- ---- what the keyword of an instance tells
+
+-- an instance with another keyword gives nothing, and is not unfit
+pub other_gives_nothing : (e : Entity) (indexed : Indexed) (c : Contents) (n : ℕ) → Says indexed c
+    → has_keyword c e n ≡ false → (c.given e n ≡ None) × (is_unfit c e n ≡ false)
+other_gives_nothing e indexed c n says other = (
+  none_if (c.given e n)
+      (λ vs given. let gives = (says.given_is e n vs).0 given in
+      absurd (false≢true
+      (sym other ∙ (ap (is_one_of (row_of e).keywords) (says.keyword_is n) ∙ gives.keyword)))),
+  ap (λ b. b && is_none (c.given e n)) other,
+)
+
+-- one that gives anything is there, and of its row
+pub giver_is_fit : (e : Entity) (indexed : Indexed) (c : Contents) (n : ℕ)
+    (vs : Values (row_of e).read) → Says indexed c → c.given e n ≡ Some vs
+    → (is_unfit c e n ≡ false) × (is_absent c n ≡ false)
+giver_is_fit e indexed c n vs says given =
+    let gives = (says.given_is e n vs).0 given in (
+      ap (λ o. has_keyword c e n && is_none o) given ∙ and_false (has_keyword c e n),
+      there e (λ v. v) indexed c n says gives.are.record_of gives.are.found,
+    )
+
+-- an instance with one keyword has no other
+pub one_keyword : (a b : List ℕ) (w : Option (List ℕ)) → is_one_of (b ∷ []) (Some a) ≡ false
+    → is_one_of (a ∷ []) w ≡ true → is_one_of (b ∷ []) w ≡ false
+one_keyword a b None differ is = absurd (false≢true is)
+one_keyword a b (Some w) differ is = one (or_cases (bytes_eq a w) false is)
+  where
+    one : (bytes_eq a w ≡ true) ⊎ (false ≡ true) → is_one_of (b ∷ []) (Some w) ≡ false
+    one (inl same) =
+        subst (λ k. is_one_of (b ∷ []) (Some k) ≡ false) ((bytes_eq-Decides a w).0 same) differ
+    one (inr never) = absurd (false≢true never)

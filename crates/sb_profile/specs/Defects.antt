@@ -46,7 +46,8 @@ pub record IsAbsentFollowed (c : Contents) (n : ℕ) : Type 0 where
   pub followed : IsFollowed c at n
   pub absent : is_absent c n ≡ true
 
--- the file has this defect at this number
+-- The file has this defect at this number. The codes behind Missing are of products: they are judged where
+-- frames and prisms are known.
 abbrev pub Occurs : Contents → Code → ℕ → Type 0
 Occurs c code.Schema n = (n ≡ 0) × (is_ifc4 c.schema ≡ false)
 Occurs c code.Units n = (n ≡ 0) × (unit_in c ≡ None)
@@ -54,6 +55,7 @@ Occurs c code.Building n = in_buildings (buildings c) ≡ Some n
 Occurs c code.Class n = Stands n c.numbers × (is_one_of refused_classes (c.keyword n) ≡ true)
 Occurs c code.Fields n = IsUnfitRead c n
 Occurs c code.Missing n = IsAbsentFollowed c n
+Occurs c _ n = ⊥
 
 -- the codes in order
 abbrev pub file_codes : List Code

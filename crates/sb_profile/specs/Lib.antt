@@ -8,5 +8,6 @@ pub mod Following
 pub mod Units
 pub mod Defects
 pub mod First
+pub mod Verdicts
 -- what the private functions promise
 pub mod Steps

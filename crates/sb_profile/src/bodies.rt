@@ -9,7 +9,7 @@ ghost use Rattle.theory_lists.specs.Members.{Stands};
 ghost use Rattle.sb_profile.specs.declared.places.Place.TheVariants as place;
 ghost use Rattle.sb_profile.specs.Contents.{Contents, Says};
 ghost use Rattle.sb_profile.specs.Following as following;
-ghost use Rattle.sb_profile.specs.Steps.Found.{leads_with};
+ghost use Rattle.sb_profile.specs.Steps.Found.{leads_with, AreBodies};
 ghost use Rattle.sb_profile.specs.Steps.Read.{representations_of};
 
 use crate::places::Place;
@@ -28,9 +28,11 @@ pub(crate) fn bodies(
     file: &StepFile<'_>,
     leads: &[(Place, u32)],
 ) -> Result<BTreeSet<u32>, AllocError>
-    ensures { IfOk result (λ bodies. (c : Contents) → Says file.now c → (n : ℕ)
+    ensures leads { IfOk result (λ bodies. (c : Contents) → Says file.now c → (n : ℕ)
         → Stands (place.Shape, n) leads.now
         → leads_with (contains nat_cmp bodies) c place.Shape n ≡ following.leads c place.Shape n) }
+    ensures bodies { IfOk result (λ bodies. (c : Contents) → Says file.now c
+        → AreBodies c (contains nat_cmp bodies)) }
 {
     let shapes = wanted(alloc, leads, Place::Shape)?;
     let representations = representations(alloc, file, shapes.as_slice())?;

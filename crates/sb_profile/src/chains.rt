@@ -1,10 +1,15 @@
 // The placements of the chains of products.
-ghost use Rattle.std.specs.Prelude.{◌≡◌, ◌↔◌, ◌≤◌, ◌+◌, ◌<◌, ℕ, Some, [], length, IfOk, OnOk};
+ghost use Rattle.std.specs.Prelude.{◌≡◌, ◌↔◌, ◌≤◌, ◌+◌, ◌<◌, ℕ, Some, [], ◌∷◌, length, take, option_and_then, IfOk, OnOk};
 ghost use Rattle.theory_lists.specs.Members.{Stands};
 ghost use Rattle.sb_profile.specs.Contents.{Contents, Says};
 ghost use Rattle.sb_profile.specs.Following as following;
-ghost use Rattle.sb_profile.specs.Steps.Chains.{IsSeen, Reaches, AreReached, IsWithin, last_level};
+ghost use Rattle.sb_profile.specs.declared.places.Place.TheVariants as place;
+ghost use Rattle.sb_profile.specs.Entities.Entity.{local_placement};
+ghost use Rattle.sb_profile.specs.Steps.Chains.{IsSeen, Grows, Reaches, AreReached, IsWithin, last_level, FindsPlacements, placement_fields};
+ghost use Rattle.sb_profile.specs.Steps.Found.{FindsAs};
+ghost use Rattle.sb_profile.specs.Steps.Sights.{seen_of};
 
+use crate::found::{Found, note, push_seen};
 use crate::products::{Shaped, put};
 use crate::sights::{Sight, look};
 use sb_schema::LocalPlacement;
@@ -69,26 +74,30 @@ pub(crate) fn add(chain: &mut Chain, number: u32) -> Result<(), AllocError>
 }
 
 /// The placements of all chains: those that products have, and the parents of these, level after
-/// level. Each placement is looked at once.
+/// level. Each placement is looked at once, and what follows from it is found.
 pub(crate) fn chains(
     alloc: Global,
     file: &StepFile<'_>,
     first: Chain,
     building: Option<u32>,
+    found: &mut Found,
 ) -> Result<Vec<u32>, AllocError>
     requires { IsSeen first }
-    ensures { IfOk result (λ placements. (c : Contents) → Says file.now c
+    ensures placements { IfOk result (λ placements. (c : Contents) → Says file.now c
         → building ≡ following.building_placement c
         → ((n : ℕ) → Stands n first.placements.items ↔ IsWithin c 0 n)
         → (n : ℕ) → Stands n placements.items ↔ IsWithin c last_level n) }
+    ensures found { IfOk result (λ placements. (c : Contents) → Says file.now c
+        → FindsPlacements c placements.items found.old found.new) }
 {
     let mut chain = first;
     let mut asked = 0;
     'levels: for _level in 0..PARENTS {
         let end = chain.placements.as_slice().len();
-        climb(alloc, file, &mut chain, asked, building)?;
+        climb(alloc, file, &mut chain, asked, building, found)?;
         asked = end;
     }
+    see_from(alloc, file, chain.placements.as_slice(), asked, found)?;
     Ok(chain.placements)
 }
 
@@ -99,6 +108,7 @@ fn climb(
     chain: &mut Chain,
     asked: usize,
     building: Option<u32>,
+    found: &mut Found,
 ) -> Result<(), AllocError>
     requires seen { IsSeen chain.old }
     requires within { asked ≤ length chain.old.placements.items }
@@ -107,24 +117,64 @@ fn climb(
         → building ≡ following.building_placement c → (level : ℕ)
         → AreReached c level chain.old.placements.items asked
         → AreReached c (level + 1) chain.new.placements.items (length chain.old.placements.items)) }
-    ensures grown { OnOk result
-        (length chain.old.placements.items ≤ length chain.new.placements.items) }
+    ensures grown { OnOk result (Grows chain.old.placements.items chain.new.placements.items) }
+    ensures found { OnOk result ((c : Contents) → Says file.now c → (base : Found)
+        → FindsPlacements c (take asked chain.old.placements.items) base found.old
+        → FindsPlacements c chain.old.placements.items base found.new) }
 {
     let end = chain.placements.as_slice().len();
     'placements: for at in asked..end {
         let placement = chain.placements.as_slice()[at];
-        let parent = parent_of(alloc, file, placement)?;
+        let parent = see_placement(alloc, file, placement, found)?;
         reach(chain, parent, building)?;
     }
     Ok(())
 }
 
-fn parent_of(alloc: Global, file: &StepFile<'_>, number: u32) -> Result<Option<u32>, AllocError>
-    ensures { IfOk result (λ parent. (c : Contents) → Says file.now c
-        → parent ≡ following.parent_of c number) }
+/// Looks at the placements from this one on.
+fn see_from(
+    alloc: Global,
+    file: &StepFile<'_>,
+    placements: &[u32],
+    asked: usize,
+    found: &mut Found,
+) -> Result<(), AllocError>
+    requires { asked ≤ length placements.now }
+    ensures { OnOk result ((c : Contents) → Says file.now c → (base : Found)
+        → FindsPlacements c (take asked placements.now) base found.old
+        → FindsPlacements c placements.now base found.new) }
 {
-    match look::<LocalPlacement>(alloc, file, number)? {
-        Sight::Of(view) => Ok(view.a1),
-        _ => Ok(None),
+    'placements: for at in asked..placements.len() {
+        see_placement(alloc, file, placements[at], found)?;
+    }
+    Ok(())
+}
+
+/// Looks at a placement: what follows from it is found, and answered is that to which it is relative.
+fn see_placement(
+    alloc: Global,
+    file: &StepFile<'_>,
+    number: u32,
+    found: &mut Found,
+) -> Result<Option<u32>, AllocError>
+    ensures parent { IfOk result (λ parent. (c : Contents) → Says file.now c
+        → parent ≡ following.parent_of c number) }
+    ensures found { OnOk result ((c : Contents) → Says file.now c
+        → FindsAs local_placement (λ v. (place.Position3d, v.1.0) ∷ []) c number
+        found.old found.new) }
+{
+    let mut sight = look::<LocalPlacement>(alloc, file, number)?;
+    let parent = parent_in(&sight);
+    note(found, number, &sight);
+    push_seen(found, &mut sight)?;
+    Ok(parent)
+}
+
+fn parent_in(sight: &Sight<LocalPlacement>) -> Option<u32>
+    ensures { result ≡ option_and_then (λ v. v.0) (seen_of placement_fields sight.now) }
+{
+    match sight {
+        Sight::Of(view) => view.a1,
+        _ => None,
     }
 }

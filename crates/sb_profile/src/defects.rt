@@ -16,6 +16,22 @@ pub enum Code {
     Fields,
     /// No instance has the number, to which a read one leads.
     Missing,
+    /// A taken product, whose chain of placements does not end at the building's, is longer than 64, or
+    /// has an instance of another entity.
+    Chain,
+    /// A taken product that is turned otherwise than by quarters, in its placement or its shape.
+    Turned,
+    /// A taken product whose shape is no extruded solid of one of the three profiles.
+    Shape,
+    /// A taken product with a length or a world coordinate out of range.
+    Range,
+    /// A taken product with a world coordinate near no whole millimetre.
+    OffGrid,
+    /// A taken product whose loops give no prism.
+    Loops,
+    /// A taken element whose layers are at fault: more than 64, a thickness beyond 0 to 10,000,000 µm, or a
+    /// set, a layer, a direction or a sense that is none.
+    Layers,
 }
 
 /// A defect of a file.

@@ -1,39 +1,100 @@
 // The first defect of a file.
-ghost use Rattle.std.specs.Prelude.{◌≡◌, IfOk};
+ghost use Rattle.std.specs.Prelude.{◌≡◌, None, IfOk};
 ghost use Rattle.sb_profile.specs.Contents.{Contents, Says};
 ghost use Rattle.sb_profile.specs.Defects.{Occurs, file_codes};
 ghost use Rattle.sb_profile.specs.First.{IsFirst, IsFirstDefect, defect_at};
 ghost use Rattle.sb_profile.specs.Steps.Kinds.{AreSorted};
 ghost use Rattle.sb_profile.specs.Steps.Read as spec;
-ghost use Rattle.sb_profile.specs.Steps.Read.{AreLowest, head_codes, read_codes};
+ghost use Rattle.sb_profile.specs.Steps.Read.{AreLowest, AreTables, IsWhole, head_codes, read_codes};
+ghost use Rattle.sb_profile.specs.Following.{building_placement};
+ghost use Rattle.sb_profile.specs.Verdicts as verdicts;
+ghost use Rattle.sb_profile.specs.Verdicts.{IsVerdict};
 
 use crate::bodies::bodies;
 use crate::buildings::{in_buildings, is_ifc4, placement};
 use crate::defects::{Code, Defect};
-use crate::found::Found;
+use crate::found::{Found, join};
 use crate::kinds::{Kinds, by_keyword};
 use crate::leading::first_leads;
 use crate::lowest::lowest;
 use crate::survey::survey;
-use crate::tables::read_tables;
+use crate::tables::{Tables, read_tables};
 use crate::units::unit;
+use sb_fraction::Unit;
 use sb_step::StepFile;
 use std::alloc::{AllocError, Global};
 
-/// The first defect of a file by the codes of [`Code`]: of the first that occurs, at the lowest number
-/// at which it does. `None`: exactly where none of them occurs.
+/// What is read of a file that has no defect of its own: its unit, the placement of its building, and the
+/// tables of its products.
+#[derive(Drop)]
+pub struct Taken {
+    pub unit: Unit,
+    pub building: Option<u32>,
+    pub tables: Tables,
+}
+
+/// What is found of a file.
+#[derive(Drop)]
+pub enum Verdict {
+    /// It has this first defect.
+    Defect(Defect),
+    /// It has none of the codes of a file.
+    Sound(Taken),
+}
+
+/// The first defect of a file by the codes of [`Code`] up to `Missing`: of the first that occurs, at the
+/// lowest number at which it does. `None`: exactly where none of them occurs.
 ///
 /// `Err`: there was no memory.
 pub fn first_defect(alloc: Global, file: &StepFile<'_>) -> Result<Option<Defect>, AllocError>
     ensures { IfOk result (IsFirstDefect file.now file_codes) }
 {
+    let verdict = judge(alloc, file)?;
+    Ok(defect_in(verdict))
+}
+
+fn defect_in(verdict: Verdict) -> Option<Defect>
+    ensures { result ≡ verdicts.defect_in verdict }
+{
+    match verdict {
+        Verdict::Defect(defect) => Some(defect),
+        Verdict::Sound(_) => None,
+    }
+}
+
+/// The first defect of a file by the same codes, or, exactly where it has none of them, its unit, the
+/// placement of its building and the tables of its products, which were made on the way.
+///
+/// `Err`: there was no memory.
+pub fn judge(alloc: Global, file: &StepFile<'_>) -> Result<Verdict, AllocError>
+    ensures { IfOk result (λ verdict. (c : Contents) → Says file.now c → IsVerdict c verdict) }
+{
     let kinds = by_keyword(alloc, file)?;
     match head_defect(file, &kinds) {
-        Some(defect) => Ok(Some(defect)),
+        Some(defect) => Ok(Verdict::Defect(defect)),
         None => {
-            let found = read(alloc, file, &kinds)?;
-            Ok(read_defect(found.unfit, found.absent))
+            let read = read(alloc, file, &kinds)?;
+            Ok(judged(file, &kinds, read))
         }
+    }
+}
+
+/// What was read, where the codes that are judged before do not occur.
+fn judged(file: &StepFile<'_>, kinds: &Kinds, read: Whole) -> Verdict
+    ensures { (c : Contents) → Says file.now c → AreSorted c c.numbers kinds.now
+        → IsFirst (Occurs c) head_codes None → IsWhole c read → IsVerdict c result }
+{
+    match read_defect(read.found.unfit, read.found.absent) {
+        Some(found) => Verdict::Defect(found),
+        None => match unit(file, kinds.assignments.as_slice()) {
+            Some(unit) => Verdict::Sound(Taken {
+                unit,
+                building: read.building,
+                tables: read.tables,
+            }),
+            // No file comes here: `Units` was judged before.
+            None => Verdict::Defect(defect(0, Code::Units)),
+        },
     }
 }
 
@@ -79,10 +140,23 @@ fn defect(number: u32, code: Code) -> Defect
     Defect { number, code }
 }
 
-/// All instances that are read: the lowest that is not of its row, and the lowest that is absent.
-fn read(alloc: Global, file: &StepFile<'_>, kinds: &Kinds) -> Result<Found, AllocError>
-    ensures { IfOk result (λ found. (c : Contents) → Says file.now c
-        → AreSorted c c.numbers kinds.now → AreLowest c found.unfit found.absent) }
+/// All that is read of a file.
+#[derive(Drop)]
+pub(crate) struct Whole {
+    pub found: Found,
+    pub building: Option<u32>,
+    pub tables: Tables,
+}
+
+/// All instances that are read: the lowest that is not of its row, and the lowest that is absent, and the
+/// tables of products.
+fn read(alloc: Global, file: &StepFile<'_>, kinds: &Kinds) -> Result<Whole, AllocError>
+    ensures lowest { IfOk result (λ read. (c : Contents) → Says file.now c
+        → AreSorted c c.numbers kinds.now → AreLowest c read.found.unfit read.found.absent) }
+    ensures tables { IfOk result (λ read. (c : Contents) → Says file.now c
+        → AreSorted c c.numbers kinds.now → AreTables c read.tables) }
+    ensures building { IfOk result (λ read. (c : Contents) → Says file.now c
+        → AreSorted c c.numbers kinds.now → read.building ≡ building_placement c) }
 {
     let building = placement(alloc, file, kinds.buildings.as_slice())?;
     let mut unfit = None;
@@ -92,8 +166,13 @@ fn read(alloc: Global, file: &StepFile<'_>, kinds: &Kinds) -> Result<Found, Allo
         unfit,
         absent: None,
     };
-    first_leads(alloc, file, &tables, building, &mut found)?;
+    let placed = first_leads(alloc, file, &tables, building, &mut found)?;
     let bodies = bodies(alloc, file, found.leads.as_slice())?;
+    join(&mut found, &placed)?;
     survey(alloc, file, &bodies, &mut found)?;
-    Ok(found)
+    Ok(Whole {
+        found,
+        building,
+        tables,
+    })
 }

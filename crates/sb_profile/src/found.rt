@@ -1,5 +1,5 @@
 // What is found as leads are followed.
-ghost use Rattle.std.specs.Prelude.{[], ◌∷◌, OnOk};
+ghost use Rattle.std.specs.Prelude.{◌≡◌, [], ◌∷◌, ◌++◌, OnOk};
 ghost use Rattle.sb_profile.specs.Contents.{Contents, Says};
 ghost use Rattle.sb_profile.specs.Following.{from, to, to_each};
 ghost use Rattle.sb_profile.specs.Steps.Sights.{seen_of, shows_unfit, shows_absent};
@@ -51,7 +51,10 @@ pub(crate) fn see_only<'a, V: Seen<'a>>(
     Ok(())
 }
 
-fn push_seen<'a, V: Seen<'a>>(found: &mut Found, sight: &mut Sight<V>) -> Result<(), AllocError>
+pub(crate) fn push_seen<'a, V: Seen<'a>>(
+    found: &mut Found,
+    sight: &mut Sight<V>,
+) -> Result<(), AllocError>
     ensures { OnOk result (Leads (from (seen_of V.fields sight.old) V.follow) found.old found.new) }
 {
     match sight {
@@ -69,6 +72,19 @@ pub(crate) fn note<V>(found: &mut Found, number: u32, sight: &Sight<V>)
         Sight::Absent => found.absent = lower(number, found.absent),
         _ => {}
     }
+}
+
+/// Appends the leads that were found beside, and takes what was kept there.
+pub(crate) fn join(found: &mut Found, beside: &Found) -> Result<(), AllocError>
+    ensures leads { OnOk result (found.new.leads.items
+        ≡ found.old.leads.items ++ beside.now.leads.items) }
+    ensures unfit { OnOk result (found.new.unfit ≡ beside.now.unfit) }
+    ensures absent { OnOk result (found.new.absent ≡ beside.now.absent) }
+{
+    found.leads.extend_from_slice(beside.leads.as_slice())?;
+    found.unfit = beside.unfit;
+    found.absent = beside.absent;
+    Ok(())
 }
 
 /// Appends a lead.

@@ -1,10 +1,11 @@
 // The instances that are looked at wherever they stand, by their keywords.
-ghost use Rattle.std.specs.Prelude.{◌≡◌, [], ◌∷◌, ◌++◌, List, if◌then◌else◌, map, IfOk, OnOk, codes};
+ghost use Rattle.std.specs.Prelude.{◌≡◌, ℕ, [], ◌∷◌, ◌++◌, List, if◌then◌else◌, map, IfOk, OnOk, codes};
 ghost use Rattle.std.specs.List.{list_any};
 ghost use Rattle.std.specs.Option.{option_copied};
 ghost use Rattle.std.specs.Str.{bytes_eq};
 ghost use Rattle.sb_schema.specs.Table as spec;
 ghost use Rattle.sb_profile.specs.Contents.{Contents, Says};
+ghost use Rattle.sb_profile.specs.Steps.Kinds as sorting;
 ghost use Rattle.sb_profile.specs.Steps.Kinds.{AreSorted, KeepsProducts, KeepsOthers, kept, element_classes};
 ghost use Rattle.sb_profile.specs.Defects.{refused_classes};
 
@@ -35,10 +36,56 @@ pub(crate) fn by_keyword(alloc: Global, file: &StepFile<'_>) -> Result<Kinds, Al
     let mut kinds = no_kinds(alloc);
     'numbers: for number in file.numbers() {
         let keyword = file.keyword(*number);
-        keep_product(&mut kinds, *number, keyword)?;
-        keep_other(&mut kinds, *number, keyword)?;
+        keep_one(&mut kinds, *number, keyword)?;
     }
     Ok(kinds)
+}
+
+/// Keeps the number under its keyword, if this is one of those.
+fn keep_one(kinds: &mut Kinds, number: u32, keyword: Option<&[u8]>) -> Result<(), AllocError>
+    ensures { OnOk result ((c : Contents) (ns : List ℕ)
+        → c.keyword number ≡ option_copied keyword.entry → AreSorted c ns kinds.old
+        → AreSorted c (ns ++ number ∷ []) kinds.new) }
+{
+    if !may_count(keyword) {
+        return Ok(());
+    }
+    keep_product(kinds, number, keyword)?;
+    keep_other(kinds, number, keyword)?;
+    Ok(())
+}
+
+/// Whether a keyword begins as one of those that are kept: most do not, and are looked at no further.
+fn may_count(keyword: Option<&[u8]>) -> bool
+    ensures { result ≡ sorting.may_count (option_copied keyword.entry) }
+{
+    match keyword {
+        Some(keyword) => begins_so(keyword),
+        None => false,
+    }
+}
+
+fn begins_so(keyword: &[u8]) -> bool
+    ensures { result ≡ sorting.begins_so keyword.now }
+{
+    match (keyword.get(3), keyword.get(4)) {
+        (Some(first), Some(second)) => is_beginning(*first, *second),
+        _ => false,
+    }
+}
+
+/// Whether the two letters behind IFC are those of a keyword that is kept.
+fn is_beginning(first: u8, second: u8) -> bool
+    ensures { result ≡ sorting.is_beginning first second }
+{
+    (first == b'B') & ((second == b'E') | (second == b'U'))
+        | (first == b'C') & ((second == b'O') | (second == b'U'))
+        | (first == b'D') & (second == b'O')
+        | (first == b'O') & (second == b'P')
+        | (first == b'R') & ((second == b'E') | (second == b'O'))
+        | (first == b'S') & ((second == b'L') | (second == b'P'))
+        | (first == b'U') & (second == b'N')
+        | (first == b'W') & ((second == b'A') | (second == b'I'))
 }
 
 fn no_kinds(alloc: Global) -> Kinds

@@ -8,7 +8,7 @@ ghost use Rattle.sb_profile.specs.Following as following;
 ghost use Rattle.sb_profile.specs.Steps.Chains.{IsSeen};
 ghost use Rattle.sb_profile.specs.Steps.Found.{Leads};
 ghost use Rattle.sb_profile.specs.Steps.Read as spec;
-ghost use Rattle.sb_profile.specs.Steps.Read.{AreTables, AreFirstLeads, starts_of, shapes_of, materials_of};
+ghost use Rattle.sb_profile.specs.Steps.Read.{AreTables, AreFirstLeads, ArePlaced, starts_of, first_of, shapes_of, materials_of};
 
 use crate::chains::{Chain, add, below, chains, no_chain};
 use crate::found::{Found, lead, lead_each, lead_to};
@@ -19,24 +19,41 @@ use crate::tables::Tables;
 use sb_step::StepFile;
 use std::alloc::{AllocError, Global};
 
-/// Appends the leads from products that are taken, where no lead was found before.
+/// Appends the leads from products that are taken, where no lead was found before. Beside them is
+/// answered what was found of the placements to which they lead.
 pub(crate) fn first_leads(
     alloc: Global,
     file: &StepFile<'_>,
     tables: &Tables,
     building: Option<u32>,
     found: &mut Found,
-) -> Result<(), AllocError>
+) -> Result<Found, AllocError>
     ensures leads { OnOk result ((c : Contents) → Says file.now c → AreTables c tables.now
         → building ≡ following.building_placement c → found.old.leads.items ≡ []
         → AreFirstLeads c found.new.leads.items) }
+    ensures placed { IfOk result (λ beside. (c : Contents) → Says file.now c
+        → found.old.leads.items ≡ []
+        → ArePlaced c found.new beside) }
     ensures unfit { OnOk result (found.new.unfit ≡ found.old.unfit) }
     ensures absent { OnOk result (found.new.absent ≡ found.old.absent) }
 {
     let starts = starts(alloc, tables, building)?;
     let first = reached(alloc, starts.as_slice())?;
-    let placements = chains(alloc, file, first, building)?;
-    lead_each(found, Place::Placement, placements.as_slice())?;
+    let mut beside = Found {
+        leads: Vec::new(alloc),
+        unfit: found.unfit,
+        absent: found.absent,
+    };
+    let placements = chains(alloc, file, first, building, &mut beside)?;
+    lead_first(found, placements.as_slice(), tables)?;
+    Ok(beside)
+}
+
+/// Appends the leads to these placements, to the shapes of products and to what elements are made of.
+fn lead_first(found: &mut Found, placements: &[u32], tables: &Tables) -> Result<(), AllocError>
+    ensures { OnOk result (Leads (first_of placements.now tables.now) found.old found.new) }
+{
+    lead_each(found, Place::Placement, placements)?;
     lead_shapes(found, tables.spaces.as_slice())?;
     lead_shapes(found, tables.elements.as_slice())?;
     lead_shapes(found, tables.openings.as_slice())?;

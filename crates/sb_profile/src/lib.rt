@@ -25,6 +25,8 @@ mod tables;
 mod units;
 
 pub use crate::defects::{Code, Defect};
-pub use crate::first::first_defect;
+pub use crate::first::{Taken, Verdict, first_defect, judge};
 pub use crate::laws::{each_file_says, one_first_defect};
+pub use crate::links::Link;
 pub use crate::places::Place;
+pub use crate::products::Shaped;

@@ -22,13 +22,14 @@ use std::collections::{BTreeMap, BTreeSet};
 
 /// A relation, and what it says of a number.
 #[derive(Clone, Copy)]
-pub(crate) struct Link {
+pub struct Link {
     pub relation: u32,
+    /// What it says.
     pub target: u32,
 }
 
 /// Of each number that some relation names what the lowest of these says.
-pub(crate) type Links = BTreeMap<u32, Link>;
+pub type Links = BTreeMap<u32, Link>;
 
 /// What each object is made of, by the lowest of these relations that lists it.
 pub(crate) fn materials(

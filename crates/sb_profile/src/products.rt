@@ -20,9 +20,11 @@ use std::collections::BTreeSet;
 
 /// A product with a shape.
 #[derive(Clone, Copy)]
-pub(crate) struct Shaped {
+pub struct Shaped {
     pub number: u32,
+    /// Where it is placed (attribute 6).
     pub placement: Option<u32>,
+    /// Its shape (attribute 7).
     pub shape: u32,
 }
 

@@ -6,9 +6,10 @@ ghost use Rattle.sb_profile.specs.declared.places.Place.TheVariants as place;
 ghost use Rattle.sb_profile.specs.Contents.{Contents, Says};
 ghost use Rattle.sb_profile.specs.Following.{from};
 ghost use Rattle.sb_profile.specs.Steps.Sights.{seen_of};
-ghost use Rattle.sb_profile.specs.Steps.Found.{Leads, Finds, shape_fields, shape_leads};
+ghost use Rattle.sb_profile.specs.Steps.Found.{Leads, Finds, AreBodies, shape_fields, shape_leads};
 
 use crate::found::{Found, lead_each, lead_to, note, see, see_only};
+use crate::kinds::is_one_of;
 use crate::places::Place;
 use crate::sights::{Sight, look};
 use sb_schema::{
@@ -53,6 +54,7 @@ pub(crate) fn see_at(
     }
 }
 
+/// A profile is looked at as the one of the three that its keyword names.
 fn see_profile(
     alloc: Global,
     file: &StepFile<'_>,
@@ -63,10 +65,14 @@ fn see_profile(
     ensures { OnOk result ((c : Contents) → Says file.now c
         → Finds (contains nat_cmp bodies.now) c place.Profile number found.old found.new) }
 {
-    see::<RectangleProfileDef>(alloc, file, number, found)?;
-    see::<ArbitraryClosedProfileDef>(alloc, file, number, found)?;
-    see::<ArbitraryProfileDefWithVoids>(alloc, file, number, found)?;
-    Ok(())
+    let keyword = file.keyword(number);
+    if is_one_of(keyword, &[b"IFCARBITRARYCLOSEDPROFILEDEF"]) {
+        see::<ArbitraryClosedProfileDef>(alloc, file, number, found)
+    } else if is_one_of(keyword, &[b"IFCARBITRARYPROFILEDEFWITHVOIDS"]) {
+        see::<ArbitraryProfileDefWithVoids>(alloc, file, number, found)
+    } else {
+        see::<RectangleProfileDef>(alloc, file, number, found)
+    }
 }
 
 fn see_curve(
@@ -79,9 +85,12 @@ fn see_curve(
     ensures { OnOk result ((c : Contents) → Says file.now c
         → Finds (contains nat_cmp bodies.now) c place.Curve number found.old found.new) }
 {
-    see::<LentPolyline>(alloc, file, number, found)?;
-    see::<IndexedPolyCurve>(alloc, file, number, found)?;
-    Ok(())
+    let keyword = file.keyword(number);
+    if is_one_of(keyword, &[b"IFCINDEXEDPOLYCURVE"]) {
+        see::<IndexedPolyCurve>(alloc, file, number, found)
+    } else {
+        see::<LentPolyline>(alloc, file, number, found)
+    }
 }
 
 fn see_material(
@@ -94,10 +103,32 @@ fn see_material(
     ensures { OnOk result ((c : Contents) → Says file.now c
         → Finds (contains nat_cmp bodies.now) c place.Material number found.old found.new) }
 {
-    see_only::<Material>(alloc, file, number, found)?;
-    see::<MaterialLayerSet>(alloc, file, number, found)?;
-    see::<MaterialLayerSetUsage>(alloc, file, number, found)?;
-    Ok(())
+    let keyword = file.keyword(number);
+    if is_one_of(keyword, &[b"IFCMATERIALLAYERSETUSAGE"]) {
+        see::<MaterialLayerSetUsage>(alloc, file, number, found)
+    } else if is_one_of(keyword, &[b"IFCMATERIALLAYERSET"]) {
+        see::<MaterialLayerSet>(alloc, file, number, found)
+    } else {
+        see::<Material>(alloc, file, number, found)
+    }
+}
+
+/// Looks at the representation of this number, unless it is a body: then it is of its row.
+pub(crate) fn see_representation(
+    alloc: Global,
+    file: &StepFile<'_>,
+    bodies: &BTreeSet<u32>,
+    number: u32,
+    found: &mut Found,
+) -> Result<(), AllocError>
+    ensures { OnOk result ((c : Contents) → Says file.now c
+        → AreBodies c (contains nat_cmp bodies.now)
+        → Finds (contains nat_cmp bodies.now) c place.Representation number found.old found.new) }
+{
+    if bodies.contains(&number) {
+        return Ok(());
+    }
+    see_only::<ShapeRepresentation>(alloc, file, number, found)
 }
 
 fn see_shape(

@@ -9,12 +9,12 @@ ghost use Rattle.sb_profile.specs.Steps.Survey.{rank_of, is_to, wanted_there, Is
 
 use crate::found::Found;
 use crate::places::Place;
-use crate::seeing::see_at;
+use crate::seeing::{see_at, see_representation};
 use sb_step::StepFile;
 use std::alloc::{AllocError, Global};
 use std::collections::BTreeSet;
 
-/// Follows all leads, where these representations are bodies.
+/// Follows all leads but those to placements, which were followed, where these representations are bodies.
 pub(crate) fn survey(
     alloc: Global,
     file: &StepFile<'_>,
@@ -22,7 +22,7 @@ pub(crate) fn survey(
     found: &mut Found,
 ) -> Result<(), AllocError>
     ensures { OnOk result ((c : Contents) (roots : List ℕ) (first : List Lead) → Says file.now c
-        → IsSurveyed (contains nat_cmp bodies.now) c roots first 0 found.old
+        → IsSurveyed (contains nat_cmp bodies.now) c roots first 1 found.old
         → IsSurveyed (contains nat_cmp bodies.now) c roots first places found.new) }
 {
     survey_shapes(alloc, file, bodies, found)?;
@@ -30,7 +30,7 @@ pub(crate) fn survey(
     Ok(())
 }
 
-/// Follows the leads to placements, shapes and what these are made of.
+/// Follows the leads to shapes and what these are made of.
 fn survey_shapes(
     alloc: Global,
     file: &StepFile<'_>,
@@ -38,13 +38,12 @@ fn survey_shapes(
     found: &mut Found,
 ) -> Result<(), AllocError>
     ensures { OnOk result ((c : Contents) (roots : List ℕ) (first : List Lead) → Says file.now c
-        → IsSurveyed (contains nat_cmp bodies.now) c roots first 0 found.old
+        → IsSurveyed (contains nat_cmp bodies.now) c roots first 1 found.old
         → IsSurveyed (contains nat_cmp bodies.now) c roots first 8 found.new) }
 {
-    follow(alloc, file, bodies, Place::Placement, found)?;
     follow(alloc, file, bodies, Place::Shape, found)?;
     follow(alloc, file, bodies, Place::Body, found)?;
-    follow(alloc, file, bodies, Place::Representation, found)?;
+    follow_representations(alloc, file, bodies, found)?;
     follow(alloc, file, bodies, Place::Solid, found)?;
     follow(alloc, file, bodies, Place::Profile, found)?;
     follow(alloc, file, bodies, Place::Curve, found)?;
@@ -89,6 +88,24 @@ fn follow(
     let numbers = wanted(alloc, found.leads.as_slice(), at)?;
     'numbers: for number in numbers.as_slice() {
         see_at(alloc, file, bodies, at, *number, found)?;
+    }
+    Ok(())
+}
+
+/// Follows the leads to representations: those that are bodies need no look.
+fn follow_representations(
+    alloc: Global,
+    file: &StepFile<'_>,
+    bodies: &BTreeSet<u32>,
+    found: &mut Found,
+) -> Result<(), AllocError>
+    ensures { OnOk result ((c : Contents) (roots : List ℕ) (first : List Lead) → Says file.now c
+        → IsSurveyed (contains nat_cmp bodies.now) c roots first 3 found.old
+        → IsSurveyed (contains nat_cmp bodies.now) c roots first 4 found.new) }
+{
+    let numbers = wanted(alloc, found.leads.as_slice(), Place::Representation)?;
+    'numbers: for number in numbers.as_slice() {
+        see_representation(alloc, file, bodies, *number, found)?;
     }
     Ok(())
 }

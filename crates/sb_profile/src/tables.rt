@@ -15,11 +15,14 @@ use std::alloc::{AllocError, Global};
 /// The products that are taken, of each object that some relation lists its material or type, and of
 /// openings and fillings what has them.
 #[derive(Drop)]
-pub(crate) struct Tables {
+pub struct Tables {
+    /// Those that have shapes, in file order; so are elements and openings.
     pub spaces: Vec<Shaped>,
     pub elements: Vec<Shaped>,
     pub openings: Vec<Shaped>,
+    /// The material instance of each object that a relation gives one, and of each type.
     pub materials: Links,
+    /// The type of each object.
     pub types: Links,
     /// The element of each opening.
     pub voids: Links,

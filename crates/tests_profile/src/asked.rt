@@ -70,6 +70,7 @@ fn shown(alloc: Global, defect: Option<Defect>) -> Result<Vec<u8>, AllocError> {
         Code::Class => format!(in alloc; "Class {number}")?,
         Code::Fields => format!(in alloc; "Fields {number}")?,
         Code::Missing => format!(in alloc; "Missing {number}")?,
+        _ => format!(in alloc; "of a product {number}")?,
     };
     bytes(alloc, text.as_bytes())
 }

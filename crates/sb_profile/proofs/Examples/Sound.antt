@@ -5,7 +5,6 @@ use Rattle.std.proofs.lemmas.Bool.{false≢true, eqb-true}
 use Rattle.std.proofs.lemmas.Option.{none-some, same_Some}
 use Rattle.theory_lists.specs.Members.{Stands}
 use Rattle.sb_fraction.specs.declared.unit.Unit.TheVariants as units
-use Rattle.sb_step.specs.declared.parameters.param.Param.{Param}
 use Rattle.sb_step.specs.declared.parameters.param.Param.TheVariants as param
 use Rattle.sb_step.specs.declared.parameters.param.Param.TheViews.{outs-List}
 use Rattle.sb_step.specs.Forms.{reference_in}
@@ -22,10 +21,9 @@ use Rattle.sb_profile.specs.Following.IsFollowed.{chain, shape, material, onward
 use Rattle.sb_profile.specs.Following.IsReadAs.{root, followed}
 use Rattle.sb_profile.specs.Units.{is_length_unit, only_one, unit_of, unit_in}
 use Rattle.sb_profile.specs.Defects.{refused_classes, Occurs, file_codes}
-use Rattle.sb_profile.specs.Defects.{IsUnfitRead, IsAbsentFollowed}
+use Rattle.sb_profile.specs.Defects.{IsAbsentFollowed}
 use Rattle.sb_profile.specs.First.{IsFirst}
 use Rattle.sb_profile.specs.Steps.Found.{any_unfit}
-use Rattle.sb_profile.specs.declared.defects.Code.TheVariants as code
 use Rattle.sb_profile.proofs.AllIsRead.{any_unfit_from, both_true}
 use Rattle.sb_profile.proofs.Examples.Files.{Tables, file_of, no_tables}
 

@@ -1,11 +1,15 @@
 -- The placements of chains, level by level: those that were reached, and those whose parents were asked for.
-use Rattle.std.specs.Prelude.{◌≡◌, ℕ, ◌+◌, ◌-◌, ◌≤◌, nat_eq, ◌⊎◌, List, ◌++◌, take, Option, Some}
+use Rattle.std.specs.Prelude.{◌≡◌, ℕ, ◌+◌, ◌-◌, ◌≤◌, nat_eq, ◌⊎◌, false, List, ◌++◌, take, Option, Some}
 use Rattle.std.specs.List.{list_any}
 use Rattle.std.specs.Ordering.{nat_cmp}
 use Rattle.std.specs.BTreeSet.{contains}
 use Rattle.theory_lists.specs.Members.{Stands}
+use Rattle.sb_schema.specs.declared.entities.placements.LocalPlacement.{LocalPlacement}
 use Rattle.sb_profile.specs.declared.chains.Chain.{Chain}
+use Rattle.sb_profile.specs.declared.found.Found.{Found}
+use Rattle.sb_profile.specs.declared.places.Place.TheVariants as place
 use Rattle.sb_profile.specs.Contents.{Contents}
+use Rattle.sb_profile.specs.Steps.Found.{FindsEach}
 use Rattle.sb_profile.specs.Following.{below_building, parent_of, IsInChain, longest_chain}
 
 -- the set has just the numbers of the list
@@ -50,3 +54,10 @@ pub record AreReached (c : Contents) (level : ℕ) (items : List ℕ) (asked : �
 pub record Climbs (c : Contents) (level : ℕ) (items : List ℕ) (asked : ℕ) : Type 0 where
   pub sound : (n : ℕ) → Stands n items → IsWithin c (level + 1) n
   pub closed : AreClosed c (take asked items) items
+
+-- all that a file says of these placements is found, one after another
+abbrev pub FindsPlacements : Contents → List ℕ → Found → Found → Type 0
+FindsPlacements c ns old new = FindsEach (λ _. false) c place.Placement ns old new
+
+abbrev pub placement_fields : LocalPlacement → Option ℕ × (ℕ × Unit {0})
+placement_fields v = (v.a1, (v.a2, tt))

@@ -1,6 +1,7 @@
 -- What is found as leads are followed: further leads, the lowest instance that is not of its row and the
 -- lowest that is absent.
-use Rattle.std.specs.Prelude.{◌≡◌, ℕ, Bool, false, ◌||◌, List, [], ◌∷◌, ◌++◌, find}
+use Rattle.std.specs.Prelude.{◌≡◌, ℕ, Bool, true, false, ◌||◌, List, [], ◌∷◌, ◌++◌, find, filter}
+use Rattle.std.specs.List.{flat_map}
 use Rattle.sb_schema.specs.declared.entities.shapes.ProductDefinitionShape.{ProductDefinitionShape}
 use Rattle.sb_schema.specs.Table.{Values}
 use Rattle.sb_profile.specs.declared.found.Found.{Found}
@@ -10,7 +11,8 @@ use Rattle.sb_profile.specs.Entities.{Entity, row_of, wanted_at}
 use Rattle.sb_profile.specs.Entities.Entity.{product_definition_shape}
 use Rattle.sb_profile.specs.Contents.{Contents, is_unfit, is_absent}
 use Rattle.sb_profile.specs.Lowest.{lower_if}
-use Rattle.sb_profile.specs.Following.{Lead, from, to, to_each, leads}
+use Rattle.sb_profile.specs.Following.{Lead, from, to, to_each, leads, is_body}
+use Rattle.sb_profile.specs.Steps.Links.{lowered}
 
 -- behind the leads stand these, and nothing else is found
 pub record Leads (more : List Lead) (old new : Found) : Type 0 where
@@ -65,3 +67,14 @@ pub record Finds (bodies : ℕ → Bool) (c : Contents) (at : Place) (n : ℕ) (
   pub leads_are : new.leads.items ≡ old.leads.items ++ leads_with bodies c at n
   pub unfit_is : new.unfit ≡ lower_if (is_unfit_at c at n) n old.unfit
   pub absent_is : new.absent ≡ lower_if (is_absent c n) n old.absent
+
+-- all that a file says of some instances at one place is found, one after another
+pub record FindsEach (bodies : ℕ → Bool) (c : Contents) (at : Place) (ns : List ℕ) (old new : Found)
+    : Type 0 where
+  pub leads_are : new.leads.items ≡ old.leads.items ++ flat_map (leads_with bodies c at) ns
+  pub unfit_is : new.unfit ≡ lowered old.unfit (filter (is_unfit_at c at) ns)
+  pub absent_is : new.absent ≡ lowered old.absent (filter (is_absent c) ns)
+
+-- these representations are bodies
+abbrev pub AreBodies : Contents → (ℕ → Bool) → Type 0
+AreBodies c bodies = (n : ℕ) → bodies n ≡ true → is_body c n ≡ true

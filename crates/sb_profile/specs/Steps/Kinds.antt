@@ -1,5 +1,6 @@
 -- The numbers of a file by keyword: the instances that are looked at wherever they stand.
-use Rattle.std.specs.Prelude.{◌≡◌, ℕ, Bool, List, [], ◌∷◌, ◌++◌, filter, Option, codes, if◌then◌else◌}
+use Rattle.std.specs.Prelude.{◌≡◌, ℕ, ◌==◌, Bool, false, ◌&&◌, ◌||◌, List, [], ◌∷◌, ◌++◌, filter, slice_get, Option, Some, codes, if◌then◌else◌}
+use Rattle.std.specs.Option.{option_map_or}
 use Rattle.sb_schema.specs.Table.{is_one_of}
 use Rattle.sb_schema.specs.Rows as rows
 use Rattle.sb_profile.specs.declared.kinds.Kinds.{Kinds}
@@ -22,6 +23,37 @@ is_of_elements c n = is_one_of element_classes (c.keyword n)
 -- of a class that is refused
 abbrev pub is_of_refused : Contents → ℕ → Bool
 is_of_refused c n = is_one_of refused_classes (c.keyword n)
+
+-- ---- how the keywords of all these begin
+
+-- a letter
+abbrev pub the : List ℕ → ℕ
+the [] = 0
+the (letter ∷ _) = letter
+
+-- the two letters behind IFC
+abbrev pub is_beginning : ℕ → ℕ → Bool
+is_beginning a b =
+    (a == the (codes "B") && (b == the (codes "E") || b == the (codes "U")))
+    || (a == the (codes "C") && (b == the (codes "O") || b == the (codes "U")))
+    || (a == the (codes "D") && b == the (codes "O"))
+    || (a == the (codes "O") && b == the (codes "P"))
+    || (a == the (codes "R") && (b == the (codes "E") || b == the (codes "O")))
+    || (a == the (codes "S") && (b == the (codes "L") || b == the (codes "P")))
+    || (a == the (codes "U") && b == the (codes "N"))
+    || (a == the (codes "W") && (b == the (codes "A") || b == the (codes "I")))
+
+abbrev pub are_beginning : Option ℕ → Option ℕ → Bool
+are_beginning (Some a) (Some b) = is_beginning a b
+are_beginning _ _ = false
+
+abbrev pub begins_so : List ℕ → Bool
+begins_so keyword = are_beginning (slice_get keyword 3) (slice_get keyword 4)
+
+abbrev pub may_count : Option (List ℕ) → Bool
+may_count keyword = option_map_or begins_so keyword false
+
+-- ---- what is kept
 
 -- the number, if it passed
 abbrev pub kept : ℕ → Bool → List ℕ

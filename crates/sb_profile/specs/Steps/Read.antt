@@ -1,5 +1,5 @@
 -- The tables of products, and the leads with which the following begins.
-use Rattle.std.specs.Prelude.{◌≡◌, ℕ, Bool, true, false, List, [], ◌∷◌, ◌++◌, filter, filter_map, Option, Some, None, option_map}
+use Rattle.std.specs.Prelude.{◌≡◌, ◌↔◌, ℕ, Bool, true, false, List, [], ◌∷◌, ◌++◌, filter, filter_map, Option, Some, None, option_map}
 use Rattle.std.specs.Prelude.{map, option_and_then}
 use Rattle.std.specs.List.{flat_map}
 use Rattle.std.specs.Option.{option_or, option_map_or}
@@ -10,15 +10,19 @@ use Rattle.sb_profile.specs.declared.kinds.Kinds.{Kinds}
 use Rattle.sb_profile.specs.declared.links.Link.{Link}
 use Rattle.sb_profile.specs.declared.products.Shaped.{Shaped}
 use Rattle.sb_profile.specs.declared.tables.Tables.{Tables}
+use Rattle.sb_profile.specs.declared.first.Whole.{Whole}
 use Rattle.sb_profile.specs.declared.places.Place.{Place}
 use Rattle.sb_profile.specs.declared.places.Place.TheVariants as place
 use Rattle.sb_profile.specs.declared.defects.Code.{Code}
 use Rattle.sb_profile.specs.declared.defects.Code.TheVariants as code
 use Rattle.sb_profile.specs.Entities.Entity.{building, space, product, product_definition_shape, opening_filling, rel_voids_element, rel_fills_element, rel_associates_material, rel_defines_by_type}
-use Rattle.sb_profile.specs.Contents.{Contents, is_unfit}
+use Rattle.sb_profile.specs.Contents.{Contents, is_unfit, is_absent}
 use Rattle.sb_profile.specs.Products.{is_space, is_element, is_opening, is_taken, placement_of, shape_of, element_of, opening_of}
 use Rattle.sb_profile.specs.Materials.{own_material, type_of, material_of}
-use Rattle.sb_profile.specs.Following.{Lead, to, below, IsFollowed}
+use Rattle.sb_profile.specs.Following.{Lead, to, to_each, below, building_placement, IsFollowed}
+use Rattle.sb_profile.specs.declared.found.Found.{Found}
+use Rattle.sb_profile.specs.Steps.Links.{lowered}
+use Rattle.sb_profile.specs.Steps.Found.{leads_with, is_unfit_at}
 use Rattle.sb_profile.specs.declared.defects.Defect.{Defect}
 use Rattle.sb_profile.specs.Defects.{IsUnfitRead, IsAbsentFollowed}
 use Rattle.sb_profile.specs.First.{defect_at}
@@ -87,6 +91,13 @@ materials_of materials types products =
 abbrev pub representations_of : Contents → ℕ → List ℕ
 representations_of c n = option_map_or (λ v. v.0) (c.given product_definition_shape n) []
 
+-- leads to placements, to the shapes of all products and to what elements are made of
+abbrev pub first_of : List ℕ → Tables → List Lead
+first_of placements tables =
+    to_each place.Placement placements ++ shapes_of tables.spaces.items
+    ++ shapes_of tables.elements.items ++ shapes_of tables.openings.items
+    ++ materials_of tables.materials tables.types tables.elements.items
+
 -- the leads with which the following begins
 pub record AreFirstLeads (c : Contents) (leads : List Lead) : Type 0 where
   pub sound : (at : Place) (n : ℕ) → Stands (at, n) leads → IsFollowed c at n
@@ -95,6 +106,14 @@ pub record AreFirstLeads (c : Contents) (leads : List Lead) : Type 0 where
       → Stands (place.Shape, n) leads
   pub materials : (p n : ℕ) → is_element c p ≡ true → material_of c p ≡ Some n
       → Stands (place.Material, n) leads
+
+-- beside the leads is found what the file says of the placements to which they are
+pub record ArePlaced (c : Contents) (found beside : Found) : Type 0 where
+  pub placements : List ℕ
+  pub are : (n : ℕ) → Stands n placements ↔ Stands (place.Placement, n) found.leads.items
+  pub leads_are : beside.leads.items ≡ flat_map (leads_with (λ _. false) c place.Placement) placements
+  pub unfit_is : beside.unfit ≡ lowered found.unfit (filter (is_unfit_at c place.Placement) placements)
+  pub absent_is : beside.absent ≡ lowered found.absent (filter (is_absent c) placements)
 
 -- codes that are judged before any instance is looked at, and those behind
 abbrev pub head_codes : List Code
@@ -107,6 +126,12 @@ read_codes = code.Fields ∷ code.Missing ∷ []
 pub record AreLowest (c : Contents) (unfit absent : Option ℕ) : Type 0 where
   pub unfit_is : IsLowestIf (IsUnfitRead c) unfit
   pub absent_is : IsLowestIf (IsAbsentFollowed c) absent
+
+-- all that is read of a file
+pub record IsWhole (c : Contents) (read : Whole) : Type 0 where
+  pub lowest : AreLowest c read.found.unfit read.found.absent
+  pub building : read.building ≡ building_placement c
+  pub tables : AreTables c read.tables
 
 -- the defect of these: whether the schema is IFC4, whether there is a unit, the number of a defect in
 -- the buildings, and the lowest of a class that is refused

@@ -7,7 +7,7 @@ use Rattle.sb_profile.specs.declared.places.Place.TheVariants as place
 use Rattle.sb_profile.specs.Contents.{Contents, is_absent}
 use Rattle.sb_profile.specs.Lowest.{IsLowest}
 use Rattle.sb_profile.specs.Following.{Lead, leads, IsFollowed}
-use Rattle.sb_profile.specs.Steps.Found.{leads_with, is_unfit_at}
+use Rattle.sb_profile.specs.Steps.Found.{leads_with, is_unfit_at, AreBodies}
 
 -- how many places stand before it
 abbrev pub rank_of : Place → ℕ
@@ -60,6 +60,7 @@ IsOneOrMarked roots test rank leads n = Stands n roots ⊎ IsMarked test rank le
 -- is not of its row of them or of the roots is kept, and the lowest that is absent.
 pub record IsSurveyed (bodies : ℕ → Bool) (c : Contents) (roots : List ℕ) (first : List Lead)
     (rank : ℕ) (found : Found) : Type 0 where
+  pub bodies_are : AreBodies c bodies
   pub keeps : (lead : Lead) → Stands lead first → Stands lead found.leads.items
   pub sound : (at : Place) (n : ℕ) → Stands (at, n) found.leads.items → IsFollowed c at n
   pub agree : (at : Place) (n : ℕ) → Stands (at, n) found.leads.items

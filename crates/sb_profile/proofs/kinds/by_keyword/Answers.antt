@@ -1,6 +1,7 @@
-use Rattle.std.proofs.Common.{sym, ◌∙◌, subst, get_or}
-use Rattle.sb_profile.specs.Steps.Kinds.{KeepsProducts, KeepsOthers}
-use Rattle.sb_profile.proofs.KindsAreSorted.{sorted_more, sorted_all}
+use Rattle.std.proofs.Common.{sym, ◌∙◌, subst, get_or, take}
+use Rattle.std.proofs.lemmas.List.{take_more}
+use Rattle.sb_profile.specs.Steps.Kinds.{AreSorted}
+use Rattle.sb_profile.proofs.KindsAreSorted.{sorted_all}
 use Rattle.sb_profile.proofs.kinds.by_keyword.Goals as goal
 
 pub numbers-init : goal.numbers-init
@@ -8,15 +9,12 @@ numbers-init c = λ said says. c.no_kinds-kinds.ensures said
 
 pub numbers-preserved : goal.numbers-preserved
 numbers-preserved c = λ said says.
-    let n = get_or c.numbers-number-items.result.now c.numbers.number-index 0 in
-    let keyword = c.keyword-keyword.ensures ∙ sym (says.keyword_is n) in
-    sorted_more said c.numbers-number-items.result.now c.numbers.number-index c.numbers.kinds
-    c.keep_product.new.kinds c.keep_other.new.kinds c.numbers-test.true
-    (c.numbers.invariant said says)
-    (subst (KeepsProducts c.numbers.kinds c.keep_product.new.kinds n) keyword
-    (c.in_ok-keep_product.ensures))
-    (subst (KeepsOthers c.keep_product.new.kinds c.keep_other.new.kinds n) keyword
-    (c.in_ok-keep_other.ensures))
+    let xs = c.numbers-number-items.result.now in
+    let i = c.numbers.number-index in
+    subst (λ ns. AreSorted said ns c.keep_one.new.kinds) (sym (take_more xs i 0 c.numbers-test.true))
+    (c.in_ok-keep_one.ensures said (take i xs)
+    (says.keyword_is (get_or xs i 0) ∙ sym c.keyword-keyword.ensures)
+    (c.numbers.invariant said says))
 
 pub returns : goal.returns
 returns c = λ said says.

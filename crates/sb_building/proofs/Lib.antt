@@ -1,0 +1,11 @@
+mod SeenWhereFollowed
+mod ChainsAreFollowed
+mod ShapesAreFollowed
+mod ProductsAreRead
+mod SeenByContents
+mod ShapesByContents
+mod OneModel
+mod FirstOfAll
+mod OneCondition
+mod FramesAreKnown
+mod Examples

@@ -1,0 +1,12 @@
+//! The model of a file: what of it is built. The frames of its products, each placement read once, and the
+//! law that what is at fault where a product is read is a defect of the file.
+//!
+//! Read `specs/Placings.antt` first, where a product stands and which prism it fills, then
+//! `specs/Models.antt`, the model of a file.
+#![tactic(auto)]
+
+mod frames;
+mod laws;
+
+pub use crate::frames::{Placements, frame_in};
+pub use crate::laws::{one_first_of_all, one_model, products_are_read};

@@ -1,0 +1,5 @@
+-- What is shown of the crate.
+mod SharedGaps
+mod StepsOfSharing
+mod LeastPairs
+mod Examples
