@@ -1,7 +1,7 @@
 // The table in which an instance is found by its number.
-ghost use Rattle.std.specs.Prelude.{◌≡◌, IfOk};
+ghost use Rattle.std.specs.Prelude.{◌≡◌, IfOk, IfSome};
 ghost use Rattle.sb_step.specs.Records.Table.{place_of, form_of};
-ghost use Rattle.sb_step.specs.Records.Rows.{row_of, numbered_from, Rises, IsTable, IsDoubledIn, IsLast, Finds};
+ghost use Rattle.sb_step.specs.Records.Rows.{row_of, numbered_from, Rises, IsTable, IsDoubledIn, IsLast, IsRowOf, Finds};
 
 use crate::step_file::records::{Form, Record};
 use std::alloc::{AllocError, Global};
@@ -106,8 +106,33 @@ pub(crate) fn last_number(rows: &[Row]) -> u32
     }
 }
 
-/// Which instance of the file has the number.
+/// Which instance of the file has the number. Where no number is left out it stands as far behind the
+/// first as it is above it; else it is searched for.
 pub(crate) fn find(rows: &[Row], number: u32) -> Option<u32>
+    requires { Rises rows.now }
+    ensures { Finds rows.now number result }
+{
+    match guessed(rows, number) {
+        Some(at) => Some(at),
+        None => searched(rows, number),
+    }
+}
+
+/// Which instance has the number, if its row is where no number left out would have it.
+fn guessed(rows: &[Row], number: u32) -> Option<u32>
+    ensures { IfSome result (IsRowOf rows.now number) }
+{
+    let first = rows.first()?.number;
+    let row = rows.get(number.checked_sub(first)? as usize)?;
+    if row.number == number {
+        Some(row.at)
+    } else {
+        None
+    }
+}
+
+/// The same by halving, which has no bad case.
+fn searched(rows: &[Row], number: u32) -> Option<u32>
     requires { Rises rows.now }
     ensures { Finds rows.now number result }
 {

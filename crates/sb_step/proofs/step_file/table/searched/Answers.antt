@@ -1,6 +1,6 @@
 use Rattle.sb_step.proofs.Names.{rules, answers_always}
 use Rattle.sb_step.proofs.Records.RowsAreSearched.{equal_is, none_equal}
-use Rattle.sb_step.proofs.step_file.table.find.Goals as goal
+use Rattle.sb_step.proofs.step_file.table.searched.Goals as goal
 
 pub returns-in-Ok : goal.returns-in-Ok
 returns-in-Ok c =
