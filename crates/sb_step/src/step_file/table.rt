@@ -1,5 +1,5 @@
 // The table in which an instance is found by its number.
-ghost use Rattle.std.specs.Prelude.{◌≡◌, IfOk, IfSome};
+ghost use Rattle.std.specs.Prelude.{◌≡◌, ◌≤◌, length, IfOk, IfSome};
 ghost use Rattle.sb_step.specs.Records.Table.{place_of, form_of};
 ghost use Rattle.sb_step.specs.Records.Rows.{row_of, numbered_from, Rises, IsTable, IsDoubledIn, IsLast, IsRowOf, Finds};
 
@@ -106,28 +106,53 @@ pub(crate) fn last_number(rows: &[Row]) -> u32
     }
 }
 
-/// Which instance of the file has the number. Where no number is left out it stands as far behind the
-/// first as it is above it; else it is searched for.
+/// Which instance of the file has the number. It is looked for where few numbers left out would have
+/// it, and if it is not there in the whole table.
 pub(crate) fn find(rows: &[Row], number: u32) -> Option<u32>
     requires { Rises rows.now }
     ensures { Finds rows.now number result }
 {
-    match guessed(rows, number) {
+    match nearby(rows, number) {
         Some(at) => Some(at),
         None => searched(rows, number),
     }
 }
 
-/// Which instance has the number, if its row is where no number left out would have it.
-fn guessed(rows: &[Row], number: u32) -> Option<u32>
+/// Rows that stand together: from the first, up to before the end.
+#[derive(Clone, Copy)]
+struct Window {
+    from: usize,
+    end: usize,
+}
+
+/// Where a number stands if none stands twice: it is as far above the first number as its row is
+/// behind the first row, less at most as many as the numbers that are left out.
+fn window_of(rows: &[Row], number: u32) -> Window
+    ensures within { result.end ≤ length rows.now }
+    ensures apart { result.from ≤ result.end }
+{
+    let (Some(first), Some(last)) = (rows.first(), rows.last()) else {
+        return Window { from: 0, end: 0 };
+    };
+    let above = number.saturating_sub(first.number) as usize;
+    let highest = last.number.saturating_sub(first.number) as usize;
+    let left_out = (highest + 1).saturating_sub(rows.len());
+    let end = (above + 1).min(rows.len());
+    Window {
+        from: above.saturating_sub(left_out).min(end),
+        end,
+    }
+}
+
+/// Which instance has the number, if its row is in its window.
+fn nearby(rows: &[Row], number: u32) -> Option<u32>
     ensures { IfSome result (IsRowOf rows.now number) }
 {
-    let first = rows.first()?.number;
-    let row = rows.get(number.checked_sub(first)? as usize)?;
-    if row.number == number {
-        Some(row.at)
-    } else {
-        None
+    let window = window_of(rows, number);
+    let near = &rows[window.from..window.end];
+    match near.binary_search_by_key(&number, |row| row.number) {
+        Ok(at) => Some(near[at].at),
+        Err(_) => None,
     }
 }
 
