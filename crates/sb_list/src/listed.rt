@@ -82,6 +82,14 @@ impl<T: Copy> Listed<T> {
         Ok(Listed { items })
     }
 
+    /// Appends these items, in order. Want of memory leaves the list as it was.
+    pub fn extend_from_slice(&mut self, items: &[T]) -> Result<(), AllocError>
+        ensures ok { OnOk result (self.new ≡ self.old ++ items.now) }
+        ensures err { OnErr result (self.new ≡ self.old) }
+    {
+        self.items.extend_from_slice(items)
+    }
+
     /// An equal list, on the allocator of this one.
     pub fn copy(&self) -> Result<Self, AllocError>
         ensures { IfOk result (λ list. list ≡ self.now) }
