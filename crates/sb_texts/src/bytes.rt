@@ -4,15 +4,12 @@ ghost use Rattle.sb_texts.specs.Begun.{BeginsWith};
 use sb_list::Text;
 use std::alloc::AllocError;
 
-/// Appends these bytes. Want of memory may leave a first part of them at the end of the text.
+/// Appends these bytes. Want of memory leaves the text as it was.
 pub fn append(text: &mut Text, bytes: &[u8]) -> Result<(), AllocError>
     ensures ok { OnOk result (text.new ≡ text.old ++ bytes.now) }
-    ensures err { OnErr result (BeginsWith text.new text.old) }
+    ensures err { OnErr result (text.new ≡ text.old) }
 {
-    for byte in bytes {
-        text.push(*byte)?;
-    }
-    Ok(())
+    text.extend_from_slice(bytes)
 }
 
 /// Appends this byte so many times. Want of memory may leave fewer of them.

@@ -20,7 +20,9 @@ fn lists_of_structs_and_of_lists_grow(rt: HostRuntime) -> Result<(), Fail> {
     );
 
     let mut all = Listed::new(rt.alloc());
-    let name = Text::of(rt.alloc(), b"wall")?;
+    let mut name = Text::of(rt.alloc(), b"wa")?;
+    name.extend_from_slice(b"ll")?;
+    assert_eq!(rt; name.bytes(), b"wall".as_slice(), "many items at once");
     all.push(Named { name, parts })?;
     assert_eq!(rt; all.len(), 1, "a list of structs");
 
