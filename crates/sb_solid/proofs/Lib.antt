@@ -5,3 +5,4 @@ mod PrismsInRange
 mod Rectangles
 mod Seen
 mod Moves
+mod Examples
