@@ -1,14 +1,14 @@
 -- A solid whose points are in range has a prism in range.
-use Rattle.std.proofs.Common.{◌≡◌, ℕ, ℤ, pos, ◌≤◌, ◌<◌, ◌+◌, ◌/◌, ◌*◌, Bool, true, false, not, ◌&&◌, ◌||◌, List, [], ◌∷◌, map, Option, Some, None, refl, sym, ap, ap₂, ◌∙◌, arith, subst}
+use Rattle.std.proofs.Common.{◌≡◌, ℕ, ℤ, pos, ◌≤◌, ◌+◌, ◌/◌, Bool, true, false, ◌&&◌, ◌||◌, List, [], ◌∷◌, map, Option, Some, None, refl, sym, ap, ◌∙◌, arith, subst}
 use Rattle.std.specs.Prelude.{neg_ℤ, unsigned_abs, int_lt, nat_le, if◌then◌else◌}
 use Rattle.std.specs.List.{list_all}
 use Rattle.std.specs.Ordering.{int_eq}
 use Rattle.std.proofs.lemmas.Int.{ints}
-use Rattle.std.proofs.lemmas.Bool.{and_parts, and_from, or_parts, le-leb, leb-true, false≢true}
+use Rattle.std.proofs.lemmas.Bool.{and_parts, and_from, or_parts, le-leb}
 use Rattle.sb_fraction.specs.declared.point.Point.{Point}
-use Rattle.sb_fraction.specs.Spots.{Vector, vector}
+use Rattle.sb_fraction.specs.Spots.{Vector}
 use Rattle.sb_fraction.specs.Plane.{is_plan_point, is_coordinate, greatest_coordinate}
-use Rattle.theory_plans.specs.Rectangles.{corner, rectangle}
+use Rattle.theory_plans.specs.Rectangles.{rectangle}
 use Rattle.theory_plans.proofs.LoopsInRange.{points_in_range}
 use Rattle.theory_loops.specs.Normal.{normal_loop}
 use Rattle.theory_loops.specs.Answers.{keeps_few, are_flat, are_knotted, plan_of}
@@ -17,9 +17,9 @@ use Rattle.sb_model.specs.Solids.{Upright, upright}
 use Rattle.sb_solid.specs.Grid.{is_in_world, nearest_millimetre}
 use Rattle.sb_solid.specs.Solids.{lower_of, upper_of, in_the_plan, beside_x, beside_y, rectangle_in, only_rectangle, standing, box_along_x, box_along_y, prism_between}
 use Rattle.sb_solid.specs.Moving.{is_in_range}
-use Rattle.sb_solid.proofs.SpansTellAll.{world_of}
-use Rattle.sb_solid.proofs.EveryPoint.{every, every-from, every-map}
-use Rattle.sb_solid.proofs.RectanglesArePlans.{IsBox, is_box, normal_is_seen, few_give_none}
+use Rattle.sb_solid.proofs.Coordinates.SpansTellAll.{world_of}
+use Rattle.sb_solid.proofs.Coordinates.EveryPoint.{every, every-from, every-map}
+use Rattle.sb_solid.proofs.Rectangles.RectanglesArePlans.{IsBox, is_box, normal_is_seen, few_give_none}
 
 -- ---- numbers
 

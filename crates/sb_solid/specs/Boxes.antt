@@ -1,11 +1,11 @@
 -- Steps from loops in whole millimetres to a prism.
-use Rattle.std.specs.Prelude.{◌≡◌, ℤ, pos, Bool, true, false, ◌||◌, int_lt, List, [], ◌∷◌, Option, Some, None, IsTrue, if◌then◌else◌}
+use Rattle.std.specs.Prelude.{◌≡◌, ℤ, Bool, true, false, ◌||◌, int_lt, List, [], ◌∷◌, Option, Some, None, IsTrue, if◌then◌else◌}
 use Rattle.sb_fraction.specs.declared.point.Point.{Point}
 use Rattle.sb_fraction.specs.Plane.{is_plan_point, is_coordinate}
 use Rattle.theory_loops.specs.Answers.{are_flat, are_knotted, plan_of}
 use Rattle.sb_model.specs.Solids.{Upright, upright}
-use Rattle.sb_solid.specs.declared.axes.View.{View}
-use Rattle.sb_solid.specs.declared.axes.View.TheVariants as view
+use Rattle.sb_solid.specs.declared.points.axes.View.{View}
+use Rattle.sb_solid.specs.declared.points.axes.View.TheVariants as view
 use Rattle.sb_solid.specs.declared.boxes.Corners.{Corners}
 use Rattle.sb_solid.specs.Solids as solids
 

@@ -10,12 +10,12 @@ use Rattle.theory_plans.specs.Rectangles.{corner}
 use Rattle.theory_plans.specs.Plans.{corners_in}
 use Rattle.sb_model.specs.Frames.{sum_of}
 use Rattle.sb_model.specs.Solids.{Upright}
-use Rattle.sb_solid.specs.declared.axes.Coordinate.{Coordinate}
-use Rattle.sb_solid.specs.declared.axes.Coordinate.TheVariants as coordinate
-use Rattle.sb_solid.specs.declared.axes.View.{View}
-use Rattle.sb_solid.specs.declared.axes.View.TheVariants as view
-use Rattle.sb_solid.specs.declared.sizes.Wide.{Wide}
-use Rattle.sb_solid.specs.declared.sizes.Lying.{Lying}
+use Rattle.sb_solid.specs.declared.points.axes.Coordinate.{Coordinate}
+use Rattle.sb_solid.specs.declared.points.axes.Coordinate.TheVariants as coordinate
+use Rattle.sb_solid.specs.declared.points.axes.View.{View}
+use Rattle.sb_solid.specs.declared.points.axes.View.TheVariants as view
+use Rattle.sb_solid.specs.declared.points.sizes.Wide.{Wide}
+use Rattle.sb_solid.specs.declared.points.sizes.Lying.{Lying}
 use Rattle.sb_solid.specs.declared.placing.Placing.{Placing}
 use Rattle.sb_solid.specs.declared.judged.Judged.{Judged}
 use Rattle.sb_solid.specs.declared.error.SolidError.{SolidError}

@@ -1,7 +1,7 @@
 -- Numbers that are moved together: what of them tells whether all are in range, and near whole millimetres.
 use Rattle.std.specs.Prelude.{◌≡◌, ℤ, pos, ◌-ℤ◌, ◌*ℤ◌, ◌≤ℤ◌, Bool, int_le, List, [], map, Option, Some, None}
 use Rattle.theory_lists.specs.Members.{Stands}
-use Rattle.sb_solid.specs.declared.sizes.Extent.{Extent}
+use Rattle.sb_solid.specs.declared.points.sizes.Extent.{Extent}
 use Rattle.sb_solid.specs.declared.spans.Span.{Span}
 use Rattle.sb_solid.specs.Grid.{millimetre, nearest_millimetre}
 

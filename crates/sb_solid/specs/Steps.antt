@@ -3,12 +3,11 @@ use Rattle.std.specs.Prelude.{◌≡◌, ℤ, Bool, true, false, ◌&&◌, List,
 use Rattle.std.specs.List.{flat_map}
 use Rattle.sb_fraction.specs.Spots.{Vector, vector}
 use Rattle.sb_model.specs.Frames.{vector_of, are_framed}
-use Rattle.sb_solid.specs.declared.spot.Spot.{Spot}
-use Rattle.sb_solid.specs.declared.sizes.Lying.{Lying}
-use Rattle.sb_solid.specs.declared.sizes.Wide.{Wide}
+use Rattle.sb_solid.specs.declared.points.sizes.Lying.{Lying}
+use Rattle.sb_solid.specs.declared.points.sizes.Wide.{Wide}
 use Rattle.sb_solid.specs.Sizes.{is_wide}
-use Rattle.sb_solid.specs.declared.axes.Coordinate.{Coordinate}
-use Rattle.sb_solid.specs.declared.axes.Coordinate.TheVariants as coordinate
+use Rattle.sb_solid.specs.declared.points.axes.Coordinate.{Coordinate}
+use Rattle.sb_solid.specs.declared.points.axes.Coordinate.TheVariants as coordinate
 
 -- the point that the code keeps
 abbrev pub vector_at : Lying → Vector

@@ -6,7 +6,7 @@ use Rattle.theory_turns.specs.Turns.{Quarter, turned_by}
 use Rattle.sb_model.specs.Frames.{vector_of, numbers_of, sum_of, are_framed}
 use Rattle.sb_model.specs.declared.frame.Frame.{Frame}
 use Rattle.sb_solid.specs.declared.spot.Spot.{Spot}
-use Rattle.sb_solid.specs.declared.sizes.Lying.{Lying}
+use Rattle.sb_solid.specs.declared.points.sizes.Lying.{Lying}
 use Rattle.sb_solid.specs.Solids.{Extruded}
 use Rattle.sb_solid.specs.Steps.{vector_at}
 

@@ -2,9 +2,9 @@
 ghost use Rattle.std.specs.Prelude.{◌≡◌, ◌≤◌, ◌+ℤ◌, ◌^◌, IfOk, unsigned_abs};
 ghost use Rattle.sb_solid.specs.Judged as spec;
 
-use crate::axes::View;
 use crate::counting::base;
-use crate::sizes::{Lying, Lyings, Wide};
+use crate::points::axes::View;
+use crate::points::sizes::{Lying, Lyings, Wide};
 use sb_fraction::Point;
 use sb_list::Listed;
 use sb_loops::{PointLists, Points};

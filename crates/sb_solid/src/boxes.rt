@@ -9,7 +9,7 @@ ghost use Rattle.sb_model.specs.Solids.{upright, is_height};
 ghost use Rattle.sb_solid.specs.Solids as solids;
 ghost use Rattle.sb_solid.specs.Boxes as spec;
 
-use crate::axes::View;
+use crate::points::axes::View;
 use sb_fraction::Point;
 use sb_list::Listed;
 use sb_loops::{LoopError, PointLists};

@@ -3,9 +3,9 @@ ghost use Rattle.std.specs.Prelude.{◌≡◌, ◌≤◌, ◌++◌, ◌^◌, ℤ
 ghost use Rattle.sb_solid.specs.Spans as spans;
 ghost use Rattle.sb_solid.specs.Steps as spec;
 
-use crate::axes::Coordinate;
-use crate::lying::coordinate;
-use crate::sizes::{Extent, Lying, Lyings};
+use crate::points::axes::Coordinate;
+use crate::points::lying::coordinate;
+use crate::points::sizes::{Extent, Lying, Lyings};
 
 /// The extent of numbers with one more.
 pub(crate) fn grown(extent: Option<Extent>, number: i128) -> Extent

@@ -47,3 +47,10 @@ fn signed(negative: bool, size: u32) -> i32
         size as i32
     }
 }
+
+/// Law of the grid: there is never a second whole millimetre near a world coordinate, and none but the
+/// nearest.
+#[inline(always)]
+pub fn one_millimetre()
+    ensures { spec.NearIsNearest }
+{}

@@ -5,9 +5,9 @@ ghost use Rattle.sb_solid.specs.Solids.{Extruded, JudgesAt, is_beyond, is_off_gr
 ghost use Rattle.sb_solid.specs.Judged as spec;
 
 use crate::error::SolidError;
-use crate::lying::wide;
 use crate::placing::Placing;
-use crate::sizes::Lying;
+use crate::points::lying::wide;
+use crate::points::sizes::Lying;
 use sb_model::Prism;
 use std::alloc::Global;
 

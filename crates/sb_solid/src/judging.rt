@@ -6,12 +6,12 @@ ghost use Rattle.sb_solid.specs.Steps.{vector_at, wide_at};
 ghost use Rattle.sb_solid.specs.Judged as spec;
 ghost use Rattle.sb_solid.specs.Turned as turned;
 
-use crate::axes::{Coordinate, View};
 use crate::base::{ends, seen_loops};
 use crate::boxes::prism_seen;
 use crate::judged::Judged;
 use crate::placing::{Placing, anchors_of};
-use crate::sizes::{Lying, Lyings, Wide};
+use crate::points::axes::{Coordinate, View};
+use crate::points::sizes::{Lying, Lyings, Wide};
 use crate::spans::span_of;
 use crate::spot::Spots;
 use crate::turning::{turned_loops, turned_vector};

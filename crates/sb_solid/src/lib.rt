@@ -4,7 +4,6 @@
 //! is kept of it for all shifts. Begin with [`judge`].
 #![tactic(auto)]
 
-mod axes;
 mod base;
 mod boxes;
 mod counting;
@@ -13,18 +12,15 @@ mod extents;
 mod grid;
 mod judged;
 mod judging;
-mod laws;
-mod lying;
 mod moving;
 mod placing;
-mod sizes;
+mod points;
 mod spans;
 mod spot;
 mod turning;
 
 pub use crate::error::SolidError;
-pub use crate::grid::{GridError, snap};
+pub use crate::grid::{GridError, one_millimetre, snap};
 pub use crate::judged::Judged;
 pub use crate::judging::judge;
-pub use crate::laws::one_millimetre;
 pub use crate::spot::{Spot, Spots};

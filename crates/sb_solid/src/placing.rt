@@ -12,9 +12,9 @@ ghost use Rattle.sb_solid.specs.Moving as moving;
 
 use crate::counting::{anchor, step};
 use crate::error::SolidError;
-use crate::lying::wide;
 use crate::moving::{Steps, moved};
-use crate::sizes::{Lying, Wide};
+use crate::points::lying::wide;
+use crate::points::sizes::{Lying, Wide};
 use crate::spans::{Span, are_in_world, are_near};
 use sb_model::Prism;
 use std::alloc::Global;

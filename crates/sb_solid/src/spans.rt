@@ -5,10 +5,10 @@ ghost use Rattle.sb_solid.specs.Grid as grid;
 ghost use Rattle.sb_solid.specs.Spans as spans;
 ghost use Rattle.sb_solid.specs.Steps as spec;
 
-use crate::axes::Coordinate;
 use crate::extents::{grown, reach_of};
-use crate::lying::coordinate;
-use crate::sizes::{Extent, Lying, Lyings};
+use crate::points::axes::Coordinate;
+use crate::points::lying::coordinate;
+use crate::points::sizes::{Extent, Lying, Lyings};
 
 /// Of coordinates in nanometres (nm) that are moved together the least and the greatest, and the least and
 /// the greatest of what lies between each and the nearest whole millimetre from the least.

@@ -5,8 +5,8 @@ ghost use Rattle.sb_model.specs.Frames.{placed_by, vector_of, numbers_of, are_fr
 ghost use Rattle.sb_solid.specs.Turned as turned;
 ghost use Rattle.sb_solid.specs.Steps as spec;
 
-use crate::lying::small_point;
-use crate::sizes::{Lying, Lyings};
+use crate::points::lying::small_point;
+use crate::points::sizes::{Lying, Lyings};
 use crate::spot::{Spot, Spots};
 use sb_list::Listed;
 use sb_model::{Frame, Turn};

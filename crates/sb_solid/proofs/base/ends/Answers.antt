@@ -1,9 +1,9 @@
-use Rattle.std.proofs.Common.{rules, ◌∙◌, ap, sym, subst, ◌+ℤ◌, FitsSigned}
+use Rattle.std.proofs.Common.{rules, ◌∙◌, sym, subst, FitsSigned}
 use Rattle.std.specs.Int.{w128}
 use Rattle.std.proofs.lemmas.Int.{to_z-of_z}
-use Rattle.sb_solid.specs.declared.axes.View.TheVariants as view
+use Rattle.sb_solid.specs.declared.points.axes.View.TheVariants as view
 use Rattle.sb_solid.specs.Judged.{IsBase, AreEnds}
-use Rattle.sb_solid.proofs.EndsSeen.{ends_of}
+use Rattle.sb_solid.proofs.Seen.EndsSeen.{ends_of}
 use Rattle.sb_solid.proofs.base.ends.Goals as goal
 
 pub returns-in-Above : goal.returns-in-Above

@@ -1,8 +1,8 @@
-use Rattle.std.proofs.Common.{rules, ◌∙◌, ap, ap₂, sym, subst, ◌&&◌, ◌+ℤ◌, pos, FitsSigned}
+use Rattle.std.proofs.Common.{rules, sym, subst, FitsSigned}
 use Rattle.std.specs.Int.{w128}
 use Rattle.std.proofs.lemmas.Int.{to_z-of_z}
 use Rattle.sb_solid.specs.Judged.{IsSeenPoint}
-use Rattle.sb_solid.proofs.SeenPoints.{IsPair, seen_pair}
+use Rattle.sb_solid.proofs.Seen.SeenPoints.{IsPair, seen_pair}
 use Rattle.sb_solid.proofs.base.seen.Goals as goal
 
 pub returns-in-Above : goal.returns-in-Above

@@ -1,11 +1,11 @@
-use Rattle.std.proofs.Common.{rules, ◌≡◌, ℤ, true, false, List, [], ◌∷◌, Option, Some, sym, ap, subst, ◌∙◌, FitsSigned, of_z}
+use Rattle.std.proofs.Common.{rules, [], ◌∷◌, Some, sym, ap, subst, ◌∙◌, FitsSigned, of_z}
 use Rattle.std.specs.Int.{w32}
 use Rattle.std.proofs.lemmas.Int.{to_z-of_z}
 use Rattle.std.proofs.lemmas.Result.{IfOk-weaker}
 use Rattle.theory_plans.specs.Rectangles.{rectangle}
 use Rattle.sb_model.specs.Solids.{upright}
 use Rattle.sb_solid.specs.Boxes.{IsInterval, box_of}
-use Rattle.sb_solid.proofs.BoxesOverRectangles.{ordered_is, side_x, side_y, box_x, box_y}
+use Rattle.sb_solid.proofs.Rectangles.BoxesOverRectangles.{ordered_is, side_x, side_y, box_x, box_y}
 use Rattle.sb_solid.proofs.boxes.box_of.Goals as goal
 
 pub box_over-requires-clause-along_x : goal.box_over-requires-clause-along_x

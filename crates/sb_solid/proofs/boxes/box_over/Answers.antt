@@ -1,11 +1,11 @@
-use Rattle.std.proofs.Common.{rules, ◌≡◌, ℤ, List, [], ◌∷◌, Option, Some, None, sym, ap, ◌∙◌, FitsSigned}
+use Rattle.std.proofs.Common.{rules, ◌≡◌, ℤ, List, [], ◌∷◌, Option, Some, None, ap, ◌∙◌, FitsSigned}
 use Rattle.std.specs.Int.{w32}
 use Rattle.std.proofs.lemmas.Int.{to_z-of_z}
 use Rattle.sb_fraction.specs.declared.point.Point.{Point}
 use Rattle.theory_plans.specs.Rectangles.{rectangle}
 use Rattle.sb_model.specs.Solids.{Upright, upright}
 use Rattle.sb_solid.specs.Boxes.{plan_where, between, IsInterval}
-use Rattle.sb_solid.proofs.OnlyRectangles.{sides_stay, between_is}
+use Rattle.sb_solid.proofs.Rectangles.OnlyRectangles.{sides_stay, between_is}
 use Rattle.sb_solid.proofs.boxes.box_over.Goals as goal
 
 -- the plan of a rectangle is the rectangle

@@ -1,6 +1,6 @@
-use Rattle.std.proofs.Common.{rules, ◌≡◌, ◌∙◌, ap, sym, subst, length, arith}
+use Rattle.std.proofs.Common.{rules, ◌≡◌, ◌∙◌, ap, sym, length}
 use Rattle.sb_solid.specs.Boxes.{first_rectangle}
-use Rattle.sb_solid.proofs.OnlyRectangles.{only_is, only_none}
+use Rattle.sb_solid.proofs.Rectangles.OnlyRectangles.{only_is, only_none}
 use Rattle.sb_solid.proofs.boxes.only_rectangle.Goals as goal
 
 pub returns-in-Some : goal.returns-in-Some

@@ -1,4 +1,4 @@
-use Rattle.std.proofs.Common.{rules, ◌∙◌, ap, ap₂, sym, subst, ◌&&◌, ◌+ℤ◌, pos, FitsSigned}
+use Rattle.std.proofs.Common.{rules, ◌∙◌, ap, ◌+ℤ◌, pos, FitsSigned}
 use Rattle.std.specs.Int.{w128}
 use Rattle.std.proofs.lemmas.Int.{to_z-of_z}
 use Rattle.sb_solid.specs.Grid.{nearest_millimetre}

@@ -1,6 +1,4 @@
-use Rattle.std.proofs.Common.{rules, ◌∙◌, ap, sym, subst, ◌++◌, map, take, FitsSigned}
-use Rattle.std.specs.Int.{w128}
-use Rattle.std.proofs.lemmas.Int.{to_z-of_z}
+use Rattle.std.proofs.Common.{◌∙◌, ap, subst, ◌++◌, take}
 use Rattle.std.proofs.lemmas.List.{take_all}
 use Rattle.sb_solid.specs.Spans.{IsExtentOf}
 use Rattle.sb_solid.specs.Steps.{coordinates, numbers_along}

@@ -1,8 +1,8 @@
-use Rattle.std.proofs.Common.{rules, ◌∙◌, ap, ap₂, sym, subst, ◌&&◌, ◌+ℤ◌, pos, FitsSigned}
+use Rattle.std.proofs.Common.{rules, FitsSigned}
 use Rattle.std.specs.Int.{w128}
 use Rattle.std.proofs.lemmas.Int.{to_z-of_z}
 use Rattle.theory_numbers.proofs.Signs.{less_from, not_less_from}
-use Rattle.sb_solid.proofs.SpansGrow.{reaches_lower, reaches_higher, reaches_still}
+use Rattle.sb_solid.proofs.Coordinates.SpansGrow.{reaches_lower, reaches_higher, reaches_still}
 use Rattle.sb_solid.proofs.extents.widened.Goals as goal
 
 pub returns-then-number-extent : goal.returns-then-number-extent

@@ -1,10 +1,9 @@
-use Rattle.std.proofs.Common.{rules, ◌≡◌, Option, Some, None, sym, ap, subst, ◌∙◌, FitsSigned}
+use Rattle.std.proofs.Common.{rules, sym, subst, ◌∙◌, FitsSigned}
 use Rattle.std.specs.Int.{w32}
 use Rattle.std.proofs.lemmas.Int.{to_z-of_z}
 use Rattle.std.proofs.lemmas.Result.{IfOk-weaker}
-use Rattle.sb_solid.specs.Boxes as boxes
 use Rattle.sb_solid.specs.Judged.{AreSeen, AreEnds}
-use Rattle.sb_solid.proofs.BasesSeen.{base_seen, seen_where_close, no_ends}
+use Rattle.sb_solid.proofs.Seen.BasesSeen.{base_seen, seen_where_close, no_ends}
 use Rattle.sb_solid.proofs.judging.based.Goals as goal
 
 pub returns-in_default : goal.returns-in_default

@@ -1,4 +1,4 @@
-use Rattle.std.proofs.Common.{rules, ◌≡◌, ℤ, pos, List, [], ◌∷◌, map, Some, sym, ap, subst, ◌∙◌, FitsSigned}
+use Rattle.std.proofs.Common.{rules, ◌≡◌, pos, List, map, ap, subst, ◌∙◌, FitsSigned}
 use Rattle.std.specs.Int.{w128}
 use Rattle.std.proofs.lemmas.Int.{to_z-of_z}
 use Rattle.sb_fraction.specs.Spots.{Vector, vector}

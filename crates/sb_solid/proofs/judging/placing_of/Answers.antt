@@ -1,9 +1,9 @@
-use Rattle.std.proofs.Common.{rules, ◌≡◌, true, map, Option, Some, None, sym, ap, subst, ◌∙◌}
-use Rattle.sb_solid.specs.declared.axes.Coordinate.TheVariants as coordinate
+use Rattle.std.proofs.Common.{◌≡◌, true, map, sym, subst, ◌∙◌}
+use Rattle.sb_solid.specs.declared.points.axes.Coordinate.TheVariants as coordinate
 use Rattle.sb_solid.specs.Spans.{IsSpanOf}
-use Rattle.sb_solid.specs.Steps.{vector_at, wide_at}
+use Rattle.sb_solid.specs.Steps.{vector_at}
 use Rattle.sb_solid.specs.Judged.{lying_solid, are_close, base_prism}
-use Rattle.sb_solid.proofs.BasesSeen.{numbers-lying, empty_from}
+use Rattle.sb_solid.proofs.Seen.BasesSeen.{numbers-lying, empty_from}
 use Rattle.sb_solid.proofs.judging.placing_of.Goals as goal
 
 pub returns-in_default : goal.returns-in_default

@@ -1,6 +1,6 @@
-use Rattle.std.proofs.Common.{◌∙◌, ap, sym, subst, length, arith, ◌≡◌, ◌+◌}
+use Rattle.std.proofs.Common.{length, arith, ◌≡◌, ◌+◌}
 use Rattle.std.specs.Prelude.{min}
-use Rattle.sb_solid.proofs.EndsSeen.{count_more}
+use Rattle.sb_solid.proofs.Seen.EndsSeen.{count_more}
 use Rattle.sb_solid.proofs.judging.points_in.Goals as goal
 
 pub loops-preserved : goal.loops-preserved

@@ -2,7 +2,7 @@ use Rattle.std.proofs.Common.{rules, ◌∙◌, ap, sym, subst, Some, None, ◌+
 use Rattle.std.specs.Int.{w32, w128}
 use Rattle.std.proofs.lemmas.Int.{to_z-of_z}
 use Rattle.sb_solid.specs.Moving.{steps_at, in_plan, AreMoved, IsMovedNumber}
-use Rattle.sb_solid.proofs.MovedPrisms.{plan_beyond, still_below, plan_in, plan_is_moved, plan_is_some, prism_made}
+use Rattle.sb_solid.proofs.Moves.MovedPrisms.{plan_beyond, still_below, plan_in, plan_is_moved, plan_is_some, prism_made}
 use Rattle.sb_solid.proofs.moving.moved.Goals as goal
 
 -- a point is out of range

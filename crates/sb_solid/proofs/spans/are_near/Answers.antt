@@ -1,7 +1,7 @@
-use Rattle.std.proofs.Common.{rules, ◌∙◌, ap, ap₂, sym, subst, ◌&&◌, ◌+ℤ◌, pos, FitsSigned}
+use Rattle.std.proofs.Common.{rules, ◌∙◌, ap₂, ◌&&◌, FitsSigned}
 use Rattle.std.specs.Int.{w128}
 use Rattle.std.proofs.lemmas.Int.{to_z-of_z}
-use Rattle.sb_solid.proofs.SpansTellAll.{grid_told}
+use Rattle.sb_solid.proofs.Coordinates.SpansTellAll.{grid_told}
 use Rattle.sb_solid.proofs.spans.are_near.Goals as goal
 
 pub returns : goal.returns

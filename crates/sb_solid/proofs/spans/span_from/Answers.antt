@@ -3,7 +3,7 @@ use Rattle.std.specs.Int.{w128}
 use Rattle.std.proofs.lemmas.Int.{to_z-of_z}
 use Rattle.sb_solid.specs.Spans.{IsExtentOf, rest_from}
 use Rattle.sb_solid.specs.Steps.{numbers_along}
-use Rattle.sb_solid.proofs.SpansGrow.{none_of_map}
+use Rattle.sb_solid.proofs.Coordinates.SpansGrow.{none_of_map}
 use Rattle.sb_solid.proofs.spans.span_from.Goals as goal
 
 pub returns-in-None : goal.returns-in-None

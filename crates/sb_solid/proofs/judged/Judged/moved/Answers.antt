@@ -1,7 +1,7 @@
 use Rattle.std.proofs.Common.{subst}
 use Rattle.sb_model.specs.Frames.{vector_of}
 use Rattle.sb_solid.specs.Judged.{IsPlacingWhere}
-use Rattle.sb_solid.proofs.JudgedAnswers.{empty_has_none}
+use Rattle.sb_solid.proofs.Moves.JudgedAnswers.{empty_has_none}
 use Rattle.sb_solid.proofs.judged.Judged.moved.Goals as goal
 
 pub returns-in-Some : goal.returns-in-Some

@@ -4,7 +4,7 @@ use Rattle.sb_solid.specs.Steps.{IsWideAt}
 use Rattle.sb_solid.specs.Judged.{IsPlacingWhere, steps_of, anchor_at}
 use Rattle.sb_solid.specs.Moving.{moved_upright}
 use Rattle.sb_solid.specs.Solids.{is_beyond, is_off_grid}
-use Rattle.sb_solid.proofs.JudgedAnswers.{empty_in_world, empty_on_grid, empty_has_none, beyond_by, kept_none, kept_some, kept_count}
+use Rattle.sb_solid.proofs.Moves.JudgedAnswers.{empty_in_world, empty_on_grid, empty_has_none, beyond_by, kept_none, kept_some, kept_count}
 use Rattle.sb_solid.proofs.judged.Judged.placed.Goals as goal
 
 -- no points: none of the first two, and no prism

@@ -1,7 +1,7 @@
 use Rattle.std.proofs.Common.{subst}
 use Rattle.sb_model.specs.Frames.{vector_of}
 use Rattle.sb_solid.specs.Judged.{PlacedAt}
-use Rattle.sb_solid.proofs.MovedPrisms.{placed_is}
+use Rattle.sb_solid.proofs.Moves.MovedPrisms.{placed_is}
 use Rattle.sb_solid.proofs.judged.Judged.prism.Goals as goal
 
 pub returns-in-Ok : goal.returns-in-Ok

@@ -1,9 +1,9 @@
-use Rattle.std.proofs.Common.{rules, ◌∙◌, ap, ap₂, sym, subst, ◌&&◌, ◌+ℤ◌, pos, FitsSigned}
+use Rattle.std.proofs.Common.{rules, ◌∙◌, ap, sym, FitsSigned}
 use Rattle.std.specs.Int.{w128}
 use Rattle.std.proofs.lemmas.Int.{to_z-of_z}
 use Rattle.sb_solid.specs.Grid.{is_near}
 use Rattle.sb_solid.specs.Steps.{vector_at, wide_at}
-use Rattle.sb_solid.proofs.JudgedAnswers.{told}
+use Rattle.sb_solid.proofs.Moves.JudgedAnswers.{told}
 use Rattle.std.proofs.Common.{not}
 use Rattle.sb_solid.proofs.placing.Placing.are_near.Goals as goal
 

@@ -1,10 +1,10 @@
 use Rattle.std.proofs.Common.{◌∙◌, ap, sym, subst}
 use Rattle.std.proofs.lemmas.Bool.{false≢true}
 use Rattle.sb_model.specs.Frames.{vector_of}
-use Rattle.sb_solid.specs.Steps.{IsWideAt, vector_at, wide_at}
+use Rattle.sb_solid.specs.Steps.{IsWideAt, wide_at}
 use Rattle.sb_solid.specs.Judged.{steps_of, anchor_at}
-use Rattle.sb_solid.proofs.JudgedAnswers.{in_world_is_wide, kept_none}
-use Rattle.sb_solid.proofs.MovedPrisms.{moved_answers}
+use Rattle.sb_solid.proofs.Moves.JudgedAnswers.{in_world_is_wide, kept_none}
+use Rattle.sb_solid.proofs.Moves.MovedPrisms.{moved_answers}
 use Rattle.sb_solid.proofs.placing.Placing.moved.Goals as goal
 
 -- in range, the shift is not too great

@@ -1,7 +1,6 @@
-use Rattle.std.proofs.Common.{rules, ◌∙◌, ap, ap₂, sym, subst, ◌++◌, ◌+ℤ◌, map, take, FitsSigned}
+use Rattle.std.proofs.Common.{rules, ◌∙◌, ap, FitsSigned}
 use Rattle.std.specs.Int.{w128}
 use Rattle.std.proofs.lemmas.Int.{to_z-of_z}
-use Rattle.std.proofs.lemmas.List.{take_all}
 use Rattle.theory_turns.proofs.UprightTriples.{same_vector}
 use Rattle.sb_solid.specs.Judged.{step_of}
 use Rattle.sb_solid.proofs.placing.Placing.steps.Goals as goal

@@ -1,5 +1,5 @@
 -- A solid that lies on the grid where it is moved has the prism that was judged, moved by whole millimetres.
-use Rattle.std.proofs.Common.{◌≡◌, ℕ, ℤ, pos, ◌≤◌, ◌≤ℤ◌, ◌+ℤ◌, ◌-ℤ◌, Bool, true, false, not, ◌&&◌, ◌||◌, List, [], ◌∷◌, map, length, nat_lt, Option, Some, None, refl, sym, ap, ap₂, ◌∙◌, arith, subst}
+use Rattle.std.proofs.Common.{◌≡◌, ℤ, pos, ◌≤◌, ◌≤ℤ◌, ◌+ℤ◌, ◌-ℤ◌, Bool, true, false, not, ◌&&◌, ◌||◌, List, [], ◌∷◌, map, length, nat_lt, Some, None, refl, sym, ap, ap₂, ◌∙◌, arith}
 use Rattle.std.specs.Prelude.{int_lt, int_le, unsigned_abs, if◌then◌else◌}
 use Rattle.std.specs.List.{list_all}
 use Rattle.std.specs.Option.{option_map}
@@ -9,23 +9,23 @@ use Rattle.std.proofs.lemmas.Bool.{and_parts, and_from, or_right}
 use Rattle.theory_lists.specs.Members.{Stands}
 use Rattle.theory_numbers.proofs.Signs.{less_from, not_less_from, test_not_less, test_at_most, at_most_from}
 use Rattle.sb_fraction.specs.declared.point.Point.{Point}
-use Rattle.sb_fraction.specs.Spots.{Vector, vector}
+use Rattle.sb_fraction.specs.Spots.{Vector}
 use Rattle.theory_loops.specs.Answers.{are_flat, are_knotted}
 use Rattle.theory_turns.proofs.UprightTriples.{same_vector}
 use Rattle.sb_model.specs.Frames.{sum_of}
 use Rattle.sb_model.specs.Solids.{Upright}
-use Rattle.sb_solid.specs.declared.axes.Coordinate.{Coordinate}
-use Rattle.sb_solid.specs.declared.axes.Coordinate.TheVariants as coordinate
+use Rattle.sb_solid.specs.declared.points.axes.Coordinate.{Coordinate}
+use Rattle.sb_solid.specs.declared.points.axes.Coordinate.TheVariants as coordinate
 use Rattle.sb_solid.specs.declared.placing.Placing.{Placing}
 use Rattle.sb_solid.specs.Grid.{is_near, is_in_world, nearest_millimetre}
-use Rattle.sb_solid.specs.Solids.{Extruded, lower_of, each_coordinate, world_points, is_beyond, is_off_grid, in_millimetres, in_the_plan, beside_x, beside_y, standing, box_along_x, box_along_y, only_rectangle, near_loops, far_loops, first_in, prism_between, prism_at}
-use Rattle.sb_solid.specs.Spans.{Reaches, IsSpanOf}
+use Rattle.sb_solid.specs.Solids.{Extruded, is_beyond, is_off_grid, in_millimetres, in_the_plan, beside_x, beside_y, standing, box_along_x, box_along_y, only_rectangle, first_in, prism_between, prism_at}
+use Rattle.sb_solid.specs.Spans.{Reaches}
 use Rattle.sb_solid.specs.Steps.{coordinate_of}
 use Rattle.sb_solid.specs.Judged.{anchor_of, is_close, base_of, step_of, steps_of, base_at, is_close_point, are_close_ends, are_close, base_prism, numbers_in, AreSpansOf, anchor_at}
 use Rattle.sb_solid.specs.Moving.{moved_upright}
-use Rattle.sb_solid.proofs.SpansTellAll.{all_of, all_from, world_of, millimetres_apart}
-use Rattle.sb_solid.proofs.EveryPoint.{every, every-and, every-from, maps-where, at_both, world-along, along_passes, numbers-every}
-use Rattle.sb_solid.proofs.PrismsMove.{shifted, shifted_loops, prism-moved}
+use Rattle.sb_solid.proofs.Coordinates.SpansTellAll.{all_of, all_from, world_of, millimetres_apart}
+use Rattle.sb_solid.proofs.Coordinates.EveryPoint.{every, every-and, every-from, maps-where, at_both, world-along, along_passes, numbers-every}
+use Rattle.sb_solid.proofs.Moves.PrismsMove.{shifted, shifted_loops, prism-moved}
 
 -- ---- one axis
 

@@ -1,29 +1,29 @@
 -- What is kept of a solid answers for each shift.
-use Rattle.std.proofs.Common.{◌≡◌, ℕ, ℤ, pos, ◌≤◌, ◌<◌, ◌+ℤ◌, Bool, true, false, not, ◌&&◌, List, [], ◌∷◌, ◌++◌, map, length, Option, Some, None, refl, sym, ap, ap₂, ◌∙◌, arith, subst, ◌^◌}
-use Rattle.std.specs.Prelude.{unsigned_abs, nat_le}
-use Rattle.std.specs.List.{list_all, flat_map}
+use Rattle.std.proofs.Common.{◌≡◌, ℤ, ◌≤◌, ◌+ℤ◌, Bool, true, false, not, ◌&&◌, List, [], ◌∷◌, ◌++◌, map, length, Some, None, refl, sym, ap, ap₂, ◌∙◌, arith, ◌^◌}
+use Rattle.std.specs.Prelude.{unsigned_abs}
+use Rattle.std.specs.List.{list_all}
 use Rattle.std.specs.Option.{option_map}
 use Rattle.std.proofs.lemmas.Int.{ints}
-use Rattle.std.proofs.lemmas.Bool.{and_parts, and_from, leb-true, leb-false, le-leb, false≢true}
+use Rattle.std.proofs.lemmas.Bool.{and_parts, and_from, leb-true, le-leb, false≢true}
 use Rattle.std.proofs.lemmas.List.{length-map}
 use Rattle.theory_plans.specs.Plans.{corners_in}
 use Rattle.theory_shifts.proofs.EdgesMove.{corners-moved}
-use Rattle.sb_fraction.specs.Spots.{Vector, vector}
+use Rattle.sb_fraction.specs.Spots.{Vector}
 use Rattle.sb_model.specs.Frames.{sum_of}
 use Rattle.sb_model.specs.Solids.{Upright}
-use Rattle.sb_solid.specs.declared.axes.Coordinate.{Coordinate}
-use Rattle.sb_solid.specs.declared.axes.Coordinate.TheVariants as coordinate
+use Rattle.sb_solid.specs.declared.points.axes.Coordinate.{Coordinate}
+use Rattle.sb_solid.specs.declared.points.axes.Coordinate.TheVariants as coordinate
 use Rattle.sb_solid.specs.declared.placing.Placing.{Placing}
 use Rattle.sb_solid.specs.Grid.{is_near, is_in_world}
 use Rattle.sb_solid.specs.Sizes.{is_small, is_wide}
 use Rattle.sb_solid.specs.Solids.{Extruded, each_coordinate, world_points, is_beyond, is_off_grid, in_millimetres, prism_at, first_in}
 use Rattle.sb_solid.specs.Steps.{coordinate_of, are_wide}
 use Rattle.sb_solid.specs.Spans.{Reaches}
-use Rattle.sb_solid.specs.Judged.{numbers_in, AreSpansOf, IsPlacingOf, IsEmpty, anchor_at, steps_of, base_prism, points_in, points_where, counted}
-use Rattle.sb_solid.specs.Moving.{moved_upright, in_plan, is_in_range}
-use Rattle.sb_solid.proofs.EveryPoint.{every, world-every, world-along, along_passes, at_ends}
-use Rattle.sb_solid.proofs.SpansTellAll.{all_of, world_of}
-use Rattle.sb_solid.proofs.SolidsMove.{solid_is_close, solid_moves, empty_gives_none, no_loops_give_none}
+use Rattle.sb_solid.specs.Judged.{numbers_in, AreSpansOf, IsPlacingOf, IsEmpty, anchor_at, steps_of, points_in, points_where, counted}
+use Rattle.sb_solid.specs.Moving.{moved_upright, in_plan}
+use Rattle.sb_solid.proofs.Coordinates.EveryPoint.{every, world-every, world-along, along_passes, at_ends}
+use Rattle.sb_solid.proofs.Coordinates.SpansTellAll.{all_of, world_of}
+use Rattle.sb_solid.proofs.Moves.SolidsMove.{solid_is_close, solid_moves, empty_gives_none, no_loops_give_none}
 
 -- ---- by axes
 

@@ -1,10 +1,10 @@
 -- A loop that is a rectangle is no knot, and the plan of one loop is a rectangle where its normal form is.
-use Rattle.std.proofs.Common.{◌≡◌, ℕ, ℤ, pos, ◌<ℤ◌, ◌≤ℤ◌, ◌-ℤ◌, ◌*ℤ◌, Bool, true, false, not, ◌&&◌, ◌||◌, ◌⊎◌, inl, inr, List, [], ◌∷◌, ◌++◌, map, length, reverse, nat_lt, ◌≤◌, ◌<◌, Option, Some, None, IsTrue, refl, sym, ap, ap₂, ◌∙◌, subst, arith}
+use Rattle.std.proofs.Common.{◌≡◌, ℤ, pos, ◌<ℤ◌, ◌≤ℤ◌, ◌-ℤ◌, ◌*ℤ◌, Bool, true, false, not, ◌&&◌, ◌||◌, ◌⊎◌, inl, inr, List, [], ◌∷◌, length, reverse, nat_lt, ◌≤◌, ◌<◌, Option, Some, None, refl, sym, ap, ap₂, ◌∙◌, subst, arith}
 use Rattle.std.specs.Prelude.{int_lt, if◌then◌else◌}
 use Rattle.std.specs.List.{list_all, AllByRecursion}
 use Rattle.std.specs.Ordering.{int_eq}
 use Rattle.std.proofs.lemmas.Int.{ints}
-use Rattle.std.proofs.lemmas.Bool.{and_parts, and_from, or_parts, ltb-true, false≢true}
+use Rattle.std.proofs.lemmas.Bool.{and_parts, or_parts, ltb-true, false≢true}
 use Rattle.std.proofs.lemmas.Bool.Decides.{Decides-int_eq}
 use Rattle.std.proofs.lemmas.List.{length-reverse}
 use Rattle.theory_numbers.proofs.Shapes.{var, num, minus, times, equal}
@@ -13,18 +13,18 @@ use Rattle.sb_fraction.specs.declared.point.Point.{Point}
 use Rattle.sb_fraction.specs.Edges.{Edge}
 use Rattle.sb_fraction.specs.Plane.{is_plan_point, is_coordinate}
 use Rattle.theory_plans.specs.LoopEdges.{edges_of}
-use Rattle.theory_plans.specs.Loops.{bend, is_bent, are_bent, is_bent_loop, comes_before, is_least_first}
+use Rattle.theory_plans.specs.Loops.{bend, is_bent, are_bent, is_bent_loop, comes_before}
 use Rattle.theory_plans.specs.Rectangles.{corner, rectangle}
 use Rattle.theory_plans.specs.Plans.{is_same_point, are_apart, is_plan}
 use Rattle.theory_plans.proofs.EdgesOfPlans.{same_point, bent_is_not_0, plan_is}
 use Rattle.theory_plans.proofs.RectangleIsPlan.{sides_make_rectangle, rectangle_is_plan}
 use Rattle.theory_parity.specs.Sides.{turned_loop, is_left_at_first, put_left}
 use Rattle.theory_loops.specs.Normal.{normal_loop, dropped}
-use Rattle.theory_loops.specs.Answers.{normal_loops, keeps_few, are_flat, are_knotted, plan_of}
+use Rattle.theory_loops.specs.Answers.{normal_loops, keeps_few, are_flat, are_knotted}
 use Rattle.theory_loops.proofs.NormalIsLoop.{normal_is_bent, all_left}
 use Rattle.theory_loops.proofs.LeastFirst.{none_before_head, IsNotBefore}
 use Rattle.sb_solid.specs.Solids.{are_same_points, rectangle_in}
-use Rattle.sb_solid.proofs.Mirrored.{mirrored, apart-mirrored}
+use Rattle.sb_solid.proofs.Rectangles.Mirrored.{apart-mirrored}
 
 -- ---- the corners
 

@@ -1,14 +1,14 @@
 -- Numbers that are moved together are all in range, and all near whole millimetres, where their span says so.
-use Rattle.std.proofs.Common.{◌≡◌, ℕ, ℤ, pos, ◌≤◌, ◌≤ℤ◌, ◌<ℤ◌, ◌+ℤ◌, ◌-ℤ◌, ◌*ℤ◌, ◌+◌, ◌*◌, ◌/◌, ◌<◌, Bool, true, false, not, ◌&&◌, inl, inr, List, [], ◌∷◌, map, arith, refl, sym, ap, ◌∙◌, subst}
-use Rattle.std.specs.Prelude.{neg_ℤ, unsigned_abs, nat_le, int_lt, int_le, if◌then◌else◌}
+use Rattle.std.proofs.Common.{◌≡◌, ℕ, ℤ, pos, ◌≤◌, ◌≤ℤ◌, ◌<ℤ◌, ◌+ℤ◌, ◌-ℤ◌, ◌*ℤ◌, ◌+◌, ◌*◌, ◌/◌, ◌<◌, Bool, true, false, ◌&&◌, inl, inr, List, [], ◌∷◌, map, arith, refl, ap, ◌∙◌, subst}
+use Rattle.std.specs.Prelude.{neg_ℤ, unsigned_abs, int_lt, if◌then◌else◌}
 use Rattle.std.specs.List.{list_all}
 use Rattle.std.proofs.lemmas.Int.{ints}
 use Rattle.std.proofs.lemmas.Bool.{leb-true, le-leb, and_parts, and_from}
 use Rattle.theory_lists.specs.Members.{Stands}
 use Rattle.theory_numbers.proofs.Signs.{same_tests, less_from, not_less_from, test_at_most, at_most_from}
 use Rattle.sb_solid.specs.Grid.{is_near, is_near_to, is_in_world, nearest_millimetre, farthest}
-use Rattle.sb_solid.specs.Spans.{Reaches, IsSpanOf, rest_from, is_narrow}
-use Rattle.sb_solid.proofs.NearIsNearest.{near_is_nearest}
+use Rattle.sb_solid.specs.Spans.{Reaches, rest_from, is_narrow}
+use Rattle.sb_solid.proofs.Coordinates.NearIsNearest.{near_is_nearest}
 
 -- ---- tests of all
 

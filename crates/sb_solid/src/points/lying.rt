@@ -3,8 +3,8 @@ ghost use Rattle.std.specs.Prelude.{◌≡◌, ◌≤◌, ◌^◌, unsigned_abs}
 ghost use Rattle.sb_solid.specs.Sizes.{is_small, is_wide};
 ghost use Rattle.sb_solid.specs.Steps as spec;
 
-use crate::axes::Coordinate;
-use crate::sizes::{Lying, Wide};
+use crate::points::axes::Coordinate;
+use crate::points::sizes::{Lying, Wide};
 
 /// The point of these coordinates; `None` exactly where one is more than 10^18 in size.
 pub(crate) fn small_point(p: [i128; 3]) -> Option<Lying>

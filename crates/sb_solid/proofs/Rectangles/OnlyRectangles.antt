@@ -1,21 +1,20 @@
 -- Loops that are one rectangle, and the box over a rectangle.
-use Rattle.std.proofs.Common.{◌≡◌, ℕ, ℤ, Bool, true, false, ◌&&◌, ◌||◌, List, [], ◌∷◌, length, Option, Some, None, IsTrue, refl, sym, ap, ◌∙◌, subst, arith}
+use Rattle.std.proofs.Common.{◌≡◌, ℤ, Bool, true, false, ◌||◌, List, [], ◌∷◌, length, Option, Some, None, refl, sym, ap, ◌∙◌, arith}
 use Rattle.std.specs.Prelude.{int_lt, if◌then◌else◌}
 use Rattle.std.specs.List.{list_all}
-use Rattle.std.proofs.lemmas.Bool.{and_parts, and_from, or_parts, or_from}
+use Rattle.std.proofs.lemmas.Bool.{and_parts, or_from}
 use Rattle.theory_numbers.proofs.Signs.{less_from, test_less}
 use Rattle.sb_fraction.specs.declared.point.Point.{Point}
-use Rattle.sb_fraction.specs.Plane.{is_plan_point, is_coordinate}
+use Rattle.sb_fraction.specs.Plane.{is_plan_point}
 use Rattle.theory_plans.specs.Rectangles.{rectangle}
-use Rattle.theory_plans.specs.Plans.{is_plan}
 use Rattle.theory_loops.specs.Normal.{normal_loop}
 use Rattle.theory_loops.specs.Answers.{are_flat, are_knotted, plan_of}
 use Rattle.theory_loops.proofs.PlansStay.{plan_stays}
-use Rattle.sb_model.specs.Solids.{Upright, upright}
+use Rattle.sb_model.specs.Solids.{upright}
 use Rattle.sb_solid.specs.declared.boxes.Corners.{Corners}
 use Rattle.sb_solid.specs.Solids.{only_rectangle, rectangle_in}
-use Rattle.sb_solid.specs.Boxes.{plan_where, between, pair_of, AreCorners, AreCornersWhere, IsOnly, first_rectangle, IsInterval}
-use Rattle.sb_solid.proofs.RectanglesArePlans.{IsBox, none_without_plan, same_as_plan, sides_apart}
+use Rattle.sb_solid.specs.Boxes.{plan_where, between, pair_of, AreCornersWhere, IsOnly, first_rectangle, IsInterval}
+use Rattle.sb_solid.proofs.Rectangles.RectanglesArePlans.{none_without_plan, same_as_plan, sides_apart}
 use Rattle.sb_solid.proofs.PrismsInRange.{corners_in_range, rectangle_points_in}
 
 -- ---- one rectangle

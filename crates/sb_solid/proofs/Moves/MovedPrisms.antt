@@ -1,5 +1,5 @@
 -- A prism that is kept, moved to where its solid lies on the grid.
-use Rattle.std.proofs.Common.{◌≡◌, ℤ, pos, ◌+ℤ◌, ◌<ℤ◌, Bool, true, false, not, ◌&&◌, List, [], ◌∷◌, map, Option, Some, None, Ok, Err, IsTrue, refl, sym, ap, ap₂, ◌∙◌, arith, subst}
+use Rattle.std.proofs.Common.{◌≡◌, ℤ, ◌+ℤ◌, ◌<ℤ◌, Bool, true, false, not, ◌&&◌, List, [], ◌∷◌, Some, None, Ok, Err, refl, sym, ap, ap₂, ◌∙◌, arith}
 use Rattle.std.specs.Prelude.{Result, int_lt, if◌then◌else◌}
 use Rattle.std.specs.List.{list_all}
 use Rattle.std.proofs.lemmas.Int.{ints}
@@ -7,12 +7,12 @@ use Rattle.std.proofs.lemmas.Bool.{and_parts, and_from, or_from, false≢true}
 use Rattle.theory_numbers.specs.Arrows.{Arrow}
 use Rattle.theory_numbers.proofs.Signs.{less_from}
 use Rattle.sb_fraction.specs.declared.point.Point.{Point}
-use Rattle.sb_fraction.specs.Spots.{Vector, vector}
+use Rattle.sb_fraction.specs.Spots.{Vector}
 use Rattle.sb_fraction.specs.Plane.{is_plan_point, is_coordinate}
 use Rattle.theory_plans.specs.Plans.{is_plan}
 use Rattle.theory_loops.specs.Answers.{are_flat, are_knotted, plan_of}
 use Rattle.theory_loops.proofs.PlansStay.{plan_stays}
-use Rattle.theory_shifts.specs.Shifts.{moved, moved_loop, moved_loops}
+use Rattle.theory_shifts.specs.Shifts.{moved, moved_loops}
 use Rattle.theory_shifts.proofs.PlansMove.{still_plan}
 use Rattle.sb_model.specs.Frames.{sum_of}
 use Rattle.sb_model.specs.Solids.{Upright, upright, is_upright, is_height}
@@ -25,9 +25,9 @@ use Rattle.sb_solid.specs.Solids.{Extruded, is_beyond, is_off_grid, in_millimetr
 use Rattle.sb_solid.specs.Judged.{IsPlacingOf, anchor_at, steps_of, PlacedAt}
 use Rattle.sb_solid.specs.Boxes.{plan_where}
 use Rattle.sb_solid.specs.Moving.{steps_at, in_plan, moved_upright, is_in_range, IsMoved}
-use Rattle.sb_solid.proofs.EveryPoint.{every, every-map, every-from, world-every, at_both, at_ends}
+use Rattle.sb_solid.proofs.Coordinates.EveryPoint.{every, every-map, every-from, world-every, at_both, at_ends}
 use Rattle.sb_solid.proofs.PrismsInRange.{are_coordinates, millimetre_in_range, prism_in_range}
-use Rattle.sb_solid.proofs.JudgedAnswers.{kept_some}
+use Rattle.sb_solid.proofs.Moves.JudgedAnswers.{kept_some}
 
 -- ---- a plan that is moved into range comes out as it is
 

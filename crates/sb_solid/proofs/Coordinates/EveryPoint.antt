@@ -1,13 +1,13 @@
 -- Tests of every point of loops, by their coordinates.
-use Rattle.std.proofs.Common.{◌≡◌, ℤ, ◌+ℤ◌, Bool, true, false, not, ◌&&◌, List, [], ◌∷◌, ◌++◌, map, refl, sym, ap, ap₂, ◌∙◌, arith}
+use Rattle.std.proofs.Common.{◌≡◌, ℤ, ◌+ℤ◌, Bool, true, false, ◌&&◌, List, [], ◌∷◌, map, refl, sym, ap, ap₂, ◌∙◌, arith}
 use Rattle.std.specs.List.{list_all, flat_map}
 use Rattle.std.proofs.lemmas.Int.{ints}
 use Rattle.std.proofs.lemmas.Bool.{and_parts, and_from}
 use Rattle.std.proofs.lemmas.List.Folds.{list_all-append}
-use Rattle.sb_fraction.specs.Spots.{Vector, vector}
+use Rattle.sb_fraction.specs.Spots.{Vector}
 use Rattle.sb_model.specs.Frames.{sum_of}
-use Rattle.sb_solid.specs.declared.axes.Coordinate.{Coordinate}
-use Rattle.sb_solid.specs.declared.axes.Coordinate.TheVariants as coordinate
+use Rattle.sb_solid.specs.declared.points.axes.Coordinate.{Coordinate}
+use Rattle.sb_solid.specs.declared.points.axes.Coordinate.TheVariants as coordinate
 use Rattle.sb_solid.specs.Steps.{coordinate_of}
 use Rattle.sb_solid.specs.Solids.{Extruded, ends_of, world_points, each_coordinate}
 use Rattle.sb_solid.specs.Judged.{numbers_in}

@@ -1,13 +1,12 @@
 -- The prism of loops that are moved by whole millimetres is their prism, moved.
-use Rattle.std.proofs.Common.{◌≡◌, ℤ, pos, ◌+ℤ◌, Bool, true, false, ◌&&◌, ◌||◌, List, [], ◌∷◌, map, Option, Some, None, refl, sym, ap, ap₂, ◌∙◌}
+use Rattle.std.proofs.Common.{◌≡◌, ℤ, pos, ◌+ℤ◌, Bool, true, false, ◌&&◌, ◌||◌, List, [], ◌∷◌, map, Option, Some, None, refl, ap, ap₂, ◌∙◌}
 use Rattle.std.specs.Prelude.{int_lt, if◌then◌else◌}
 use Rattle.std.specs.Option.{option_map}
 use Rattle.std.specs.Ordering.{int_eq}
 use Rattle.sb_fraction.specs.declared.point.Point.{Point}
-use Rattle.sb_fraction.specs.Spots.{Vector, vector}
+use Rattle.sb_fraction.specs.Spots.{Vector}
 use Rattle.theory_numbers.specs.Arrows.{Arrow, arrow}
-use Rattle.theory_plans.specs.Rectangles.{corner, rectangle}
-use Rattle.theory_plans.specs.Plans.{is_same_point}
+use Rattle.theory_plans.specs.Rectangles.{rectangle}
 use Rattle.theory_loops.specs.Normal.{normal_loop}
 use Rattle.theory_loops.specs.Answers.{are_flat, are_knotted, plan_of}
 use Rattle.theory_shifts.specs.Shifts.{moved, moved_loop, moved_loops}
@@ -15,7 +14,7 @@ use Rattle.theory_shifts.proofs.StepsStay.{less-moved, equal-moved, same-moved}
 use Rattle.theory_shifts.proofs.NormalMoves.{normal-moved}
 use Rattle.theory_shifts.proofs.PlansMove.{flat-moved, knotted-moved, plan-moved}
 use Rattle.sb_model.specs.Frames.{sum_of}
-use Rattle.sb_model.specs.Solids.{Upright, upright}
+use Rattle.sb_model.specs.Solids.{upright}
 use Rattle.sb_solid.specs.Solids.{lower_of, upper_of, in_the_plan, beside_x, beside_y, are_same_points, rectangle_in, only_rectangle, standing, box_along_x, box_along_y, prism_between}
 use Rattle.sb_solid.specs.Moving.{in_plan, moved_upright}
 

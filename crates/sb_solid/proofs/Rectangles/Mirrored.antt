@@ -1,5 +1,5 @@
 -- Edges that are mirrored at the diagonal are apart where they were.
-use Rattle.std.proofs.Common.{◌≡◌, ℤ, pos, neg_ℤ, ◌-ℤ◌, ◌*ℤ◌, Bool, true, false, not, ◌&&◌, ◌||◌, List, [], ◌∷◌, ◌++◌, map, refl, sym, ap, ap₂, ◌∙◌, arith}
+use Rattle.std.proofs.Common.{◌≡◌, ℤ, pos, neg_ℤ, ◌*ℤ◌, Bool, true, false, not, ◌&&◌, ◌||◌, List, [], ◌∷◌, ◌++◌, map, refl, sym, ap, ap₂, ◌∙◌, arith}
 use Rattle.std.specs.Prelude.{int_lt, int_le}
 use Rattle.std.specs.Ordering.{int_eq}
 use Rattle.std.specs.List.{list_all}
@@ -12,11 +12,11 @@ use Rattle.theory_numbers.proofs.Ring.{neg-mul-neg}
 use Rattle.theory_numbers.proofs.Shapes.{var, minus, times, plus, negated, equal}
 use Rattle.theory_numbers.proofs.Signs.{same_tests}
 use Rattle.sb_fraction.specs.declared.point.Point.{Point}
-use Rattle.sb_fraction.specs.Spots.{Spot, spot_at}
-use Rattle.sb_fraction.specs.Edges.{Edge, edge, seen_from, turn_at, reach_at, is_on}
+use Rattle.sb_fraction.specs.Spots.{spot_at}
+use Rattle.sb_fraction.specs.Edges.{Edge, edge, turn_at, reach_at, is_on}
 use Rattle.theory_plans.specs.Rectangles.{corner}
-use Rattle.theory_plans.specs.LoopEdges.{edges_back, edges_of_loop, edges_of}
-use Rattle.theory_plans.specs.Plans.{is_same_point, is_parted, do_touch, is_consecutive, is_of_each_two, corners_in, are_apart}
+use Rattle.theory_plans.specs.LoopEdges.{edges_back, edges_of_loop}
+use Rattle.theory_plans.specs.Plans.{is_same_point, is_parted, do_touch, is_consecutive, is_of_each_two, are_apart}
 
 -- the point with its coordinates exchanged
 abbrev pub mirrored : Point → Point

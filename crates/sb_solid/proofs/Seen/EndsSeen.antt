@@ -1,17 +1,17 @@
 -- Where the first point of a solid lies along the line of sight, and how many points loops have.
-use Rattle.std.proofs.Common.{◌≡◌, ℕ, ◌+◌, ◌<◌, ℤ, Bool, true, false, ◌&&◌, List, [], ◌∷◌, ◌++◌, take, length, get_or, Option, Some, None, refl, sym, ap, ◌∙◌, subst, arith}
+use Rattle.std.proofs.Common.{◌≡◌, ℕ, ◌+◌, ◌<◌, ℤ, List, [], ◌∷◌, ◌++◌, take, length, get_or, Option, Some, None, refl, sym, ap, ◌∙◌, subst, arith}
 use Rattle.std.specs.Prelude.{min}
 use Rattle.std.proofs.lemmas.List.{append_assoc, length-append}
 use Rattle.sb_fraction.specs.declared.point.Point.{Point}
-use Rattle.sb_fraction.specs.Spots.{Vector, vector}
+use Rattle.sb_fraction.specs.Spots.{Vector}
 use Rattle.theory_plans.specs.Plans.{corners_in}
 use Rattle.sb_model.specs.Frames.{sum_of}
-use Rattle.sb_solid.specs.declared.axes.View.{View}
-use Rattle.sb_solid.specs.declared.sizes.Wide.{Wide}
-use Rattle.sb_solid.specs.declared.sizes.Lying.{Lying}
+use Rattle.sb_solid.specs.declared.points.axes.View.{View}
+use Rattle.sb_solid.specs.declared.points.sizes.Wide.{Wide}
+use Rattle.sb_solid.specs.declared.points.sizes.Lying.{Lying}
 use Rattle.sb_solid.specs.Steps.{vector_at, wide_at}
 use Rattle.sb_solid.specs.Judged.{IsBase, depth_in, both, first_of, AreEndsOf, AreEnds, counted}
-use Rattle.sb_solid.proofs.SeenPoints.{IsBoth, seen_both}
+use Rattle.sb_solid.proofs.Seen.SeenPoints.{IsBoth, seen_both}
 use Rattle.sb_solid.proofs.ListsGrow.{taken}
 
 -- ---- the ends

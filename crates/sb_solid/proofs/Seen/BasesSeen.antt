@@ -1,24 +1,23 @@
 -- The prism counted from the anchors is that of the loops as they are seen.
-use Rattle.std.proofs.Common.{◌≡◌, ℤ, pos, Bool, true, false, ◌&&◌, List, [], ◌∷◌, ◌++◌, map, Option, Some, None, refl, sym, ap, ap₂, ◌∙◌, subst}
+use Rattle.std.proofs.Common.{◌≡◌, ℤ, pos, Bool, true, false, ◌&&◌, List, [], ◌∷◌, ◌++◌, map, Some, None, refl, sym, ap, ap₂, ◌∙◌}
 use Rattle.std.specs.Prelude.{if◌then◌else◌}
-use Rattle.std.specs.List.{list_all, flat_map}
+use Rattle.std.specs.List.{list_all}
 use Rattle.std.specs.Ordering.{int_eq}
 use Rattle.std.proofs.lemmas.Bool.{and_parts, and_from, false≢true}
 use Rattle.sb_fraction.specs.declared.point.Point.{Point}
-use Rattle.sb_fraction.specs.Spots.{Vector, vector}
+use Rattle.sb_fraction.specs.Spots.{Vector}
 use Rattle.sb_model.specs.Frames.{sum_of}
-use Rattle.sb_model.specs.Solids.{Upright}
-use Rattle.sb_solid.specs.declared.axes.View.{View}
-use Rattle.sb_solid.specs.declared.axes.View.TheVariants as view
-use Rattle.sb_solid.specs.declared.axes.Coordinate.{Coordinate}
-use Rattle.sb_solid.specs.declared.sizes.Wide.{Wide}
-use Rattle.sb_solid.specs.declared.sizes.Lying.{Lying}
-use Rattle.sb_solid.specs.Steps.{vector_at, wide_at, coordinate_of, coordinates, numbers_along}
+use Rattle.sb_solid.specs.declared.points.axes.View.{View}
+use Rattle.sb_solid.specs.declared.points.axes.View.TheVariants as view
+use Rattle.sb_solid.specs.declared.points.axes.Coordinate.{Coordinate}
+use Rattle.sb_solid.specs.declared.points.sizes.Wide.{Wide}
+use Rattle.sb_solid.specs.declared.points.sizes.Lying.{Lying}
+use Rattle.sb_solid.specs.Steps.{vector_at, wide_at, coordinate_of, numbers_along}
 use Rattle.sb_solid.specs.Solids.{in_the_plan, beside_x, beside_y, first_in, only_rectangle, standing, box_along_x, box_along_y, prism_between}
 use Rattle.sb_solid.specs.Boxes.{prism_seen}
 use Rattle.sb_solid.specs.Judged.{is_close, base_of, base_at, is_close_point, are_close_ends, are_close, base_prism, lying_solid, view_along, in_view, is_close_in, depth_in, seen_at, AreSeen, AreEnds, numbers_in}
-use Rattle.sb_solid.proofs.EveryPoint.{every, every-from, every-map}
-use Rattle.sb_solid.proofs.SolidsMove.{map-once, map-twice, empty_gives_none, no_loops_give_none}
+use Rattle.sb_solid.proofs.Coordinates.EveryPoint.{every, every-from, every-map}
+use Rattle.sb_solid.proofs.Moves.SolidsMove.{map-once, map-twice, empty_gives_none, no_loops_give_none}
 
 -- ---- the coordinates of points that the code keeps
 

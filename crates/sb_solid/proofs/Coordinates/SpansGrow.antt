@@ -1,5 +1,5 @@
 -- The extent of numbers, with one more.
-use Rattle.std.proofs.Common.{◌≡◌, ℤ, map, ◌≤ℤ◌, ◌<ℤ◌, ◌⊎◌, inl, inr, List, [], ◌∷◌, ◌++◌, arith, refl, sym, ap, ◌∙◌, subst}
+use Rattle.std.proofs.Common.{◌≡◌, ℤ, map, ◌≤ℤ◌, ◌<ℤ◌, ◌⊎◌, inl, inr, List, [], ◌∷◌, ◌++◌, arith, refl}
 use Rattle.std.proofs.lemmas.Int.{ints}
 use Rattle.theory_lists.specs.Members.{Stands}
 use Rattle.sb_solid.specs.Spans.{Reaches}

@@ -1,15 +1,14 @@
 -- The box over a rectangle beside an axis is made between its sides.
-use Rattle.std.proofs.Common.{◌≡◌, ℤ, Bool, true, false, List, [], ◌∷◌, Option, Some, None, IsTrue, refl, sym, ap, ◌∙◌, arith, subst}
+use Rattle.std.proofs.Common.{◌≡◌, ℤ, Bool, true, false, [], ◌∷◌, Some, None, IsTrue, refl, sym, ap, arith}
 use Rattle.std.specs.Prelude.{int_lt, if◌then◌else◌}
 use Rattle.std.specs.Ordering.{int_eq}
 use Rattle.std.proofs.lemmas.Int.{ints}
 use Rattle.std.proofs.lemmas.Bool.{and_parts, false_from_ne_true}
 use Rattle.std.proofs.lemmas.Bool.Decides.{Decides-int_eq}
 use Rattle.theory_numbers.proofs.Signs.{test_less, not_less_from}
-use Rattle.sb_fraction.specs.declared.point.Point.{Point}
 use Rattle.sb_fraction.specs.Plane.{is_coordinate}
 use Rattle.theory_plans.specs.Rectangles.{rectangle}
-use Rattle.sb_model.specs.Solids.{Upright, upright}
+use Rattle.sb_model.specs.Solids.{upright}
 use Rattle.sb_solid.specs.declared.boxes.Corners.{Corners}
 use Rattle.sb_solid.specs.Solids.{lower_of, upper_of}
 use Rattle.sb_solid.specs.Boxes.{AreCorners, IsInterval, box_of}
