@@ -22,7 +22,7 @@ use Rattle.sb_profile.specs.declared.defects.Code.TheVariants as code
 use Rattle.sb_profile.specs.Contents.{Contents, Says}
 use Rattle.sb_profile.specs.Products.{placement_of, shape_of}
 use Rattle.sb_profile.specs.Following.{building_placement}
-use Rattle.sb_building.specs.Placings.{IsFrameIn, IsPrismIn}
+use Rattle.sb_building.specs.Placings.{IsFrameIn, IsPrismIn, IsPlacedIn}
 use Rattle.sb_building.specs.Conditions.{HasCondition}
 use Rattle.sb_building.proofs.ShapesByContents.{shape_at, one_shape}
 
@@ -242,3 +242,10 @@ module _ (unique : ParametersAreUnique) (one_chain : ChainsAreUnique) (i : Index
 
   pub one_condition : (j k : Code) → HasCondition i c u j p → HasCondition i c u k p → j ≡ k
   one_condition j k first second = one_of j k (is_of j first) (is_of k second)
+
+  -- a product that stands in a frame and fills a prism has no condition but that of its layers
+  pub only_layers : (f : Frame) (prism : Upright) (k : Code) → IsPlacedIn i c u p f prism
+      → HasCondition i c u k p → k ≡ code.Layers
+  only_layers f prism k placed has =
+      one_of k code.Layers (is_of k has)
+      (of_prism f (Ok prism) code.Layers refl placed.frame placed.prism_is)

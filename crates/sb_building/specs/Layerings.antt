@@ -1,6 +1,6 @@
 -- What an element is made of, by its material instance (IfcMaterial, IfcMaterialLayerSet and
 -- IfcMaterialLayerSetUsage): the layering that is read, and where none can be.
-use Rattle.std.specs.Prelude.{ℕ, suc, ℤ, pos, Bool, true, false, not, ◌&&◌, ◌||◌, nat_eq, nat_le, int_le, unsigned_abs, List, [], ◌∷◌, length, Option, Some, None, codes, if◌then◌else◌}
+use Rattle.std.specs.Prelude.{◌≡◌, ℕ, suc, ℤ, pos, Bool, true, false, not, ◌&&◌, ◌||◌, nat_eq, nat_le, int_le, unsigned_abs, List, [], ◌∷◌, length, Option, Some, None, codes, if◌then◌else◌}
 use Rattle.std.specs.List.{list_all}
 use Rattle.std.specs.Option.{option_map_or}
 use Rattle.std.specs.Str.{bytes_eq}
@@ -17,7 +17,13 @@ use Rattle.sb_model.specs.Building.{greatest_thickness, most_layers}
 use Rattle.sb_model.specs.Solids.{Upright}
 use Rattle.sb_layers.specs.Axes.{axis_along}
 use Rattle.sb_profile.specs.Entities.Entity.{material, material_layer, material_layer_set, material_layer_set_usage}
-use Rattle.sb_profile.specs.Contents.{Contents}
+use Rattle.sb_step.specs.Indexed.{Indexed}
+use Rattle.sb_profile.specs.Contents.{Contents, Says}
+use Rattle.sb_building.specs.declared.made.Made.{Made}
+use Rattle.sb_building.specs.declared.made.Made.TheVariants as made
+use Rattle.sb_building.specs.declared.made.Along.{Along}
+use Rattle.sb_building.specs.declared.made.LayerAxis.{LayerAxis}
+use Rattle.sb_building.specs.declared.made.LayerAxis.TheVariants as axes
 
 -- ---- layers
 
@@ -108,8 +114,11 @@ is_bad_usage c u v =
 abbrev pub has_bad_layers : Contents → units.Unit → Option ℕ → Bool
 has_bad_layers c u None = false
 has_bad_layers c u (Some m) =
-    option_map_or (is_bad_usage c u) (c.given material_layer_set_usage m) false
-    || option_map_or (λ set. not (is_layer_set c u m)) (c.given material_layer_set m) false
+    option_map_or (λ v. false)
+    (c.given material m)
+    (option_map_or (is_bad_usage c u)
+    (c.given material_layer_set_usage m)
+    (option_map_or (λ set. not (is_layer_set c u m)) (c.given material_layer_set m) false))
 
 -- layers along an axis; none, if all of them have been dropped
 abbrev pub along : Upright → Quarter → Option (ℕ × Bool) → List Layer → Layering
@@ -136,3 +145,43 @@ layering_by c u keyword prism turn (Some m) =
     (option_map_or (by_usage c u prism turn)
     (c.given material_layer_set_usage m)
     (option_map_or (λ set. by_set c u keyword prism turn m) (c.given material_layer_set m) Plain))
+
+-- ---- what is read of a material instance, whatever element it is of
+
+abbrev pub number_at : LayerAxis → ℕ
+number_at axes.First = 1
+number_at axes.Second = 2
+number_at axes.Third = 3
+
+-- an axis that is given with its sense, and that of the element's class where none is
+abbrev pub axis_at : Option (List ℕ) → Option Along → ℕ × Bool
+axis_at keyword None = (axis_of_class keyword, false)
+axis_at keyword (Some a) = (number_at a.axis, a.negative)
+
+-- the layering of an element that is made of this
+abbrev pub layering_in : Made → Option (List ℕ) → Upright → Quarter → Layering
+layering_in made.Nothing keyword prism turn = Plain
+layering_in (made.OneMaterial name) keyword prism turn = Single name
+layering_in (made.InLayers layers a) keyword prism turn = along prism turn (Some (axis_at keyword a)) layers
+
+-- What is read of a material instance: nothing, where it cannot be read, and else what gives each element
+-- its layering.
+abbrev pub IsMadeOf : Contents → units.Unit → Option ℕ → Option Made → Type 0
+IsMadeOf c u m None = has_bad_layers c u m ≡ true
+IsMadeOf c u m (Some what) =
+    (has_bad_layers c u m ≡ false)
+    × ((keyword : Option (List ℕ)) (prism : Upright) (turn : Quarter)
+    → layering_in what keyword prism turn ≡ layering_by c u keyword prism turn m)
+
+-- the layering of an element by its material instance; none where the instance cannot be read
+abbrev pub IsLayeringOf : Contents → units.Unit → Option (List ℕ) → Upright → Quarter → Option ℕ
+    → Option Layering → Type 0
+IsLayeringOf c u keyword prism turn m None = has_bad_layers c u m ≡ true
+IsLayeringOf c u keyword prism turn m (Some l) =
+    (has_bad_layers c u m ≡ false) × (l ≡ layering_by c u keyword prism turn m)
+
+-- what is kept of material instances, by their numbers, is what the file says of them
+abbrev pub AreMade : Indexed → units.Unit → (ℕ → Option (Option Made)) → Type 0
+AreMade indexed u known =
+    (c : Contents) → Says indexed c → (n : ℕ) (what : Option Made) → known n ≡ Some what
+    → IsMadeOf c u (Some n) what

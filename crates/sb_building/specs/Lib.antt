@@ -5,3 +5,5 @@ pub mod Layerings
 pub mod Conditions
 pub mod Models
 pub mod Laws
+-- what the private functions promise
+pub mod Steps

@@ -1,5 +1,7 @@
 // The frames of products: each placement is read once.
-ghost use Rattle.std.specs.Prelude.{◌≢◌, ◌≡◌, ℕ, nat_eq, Some, Err, IfOk, OnOk, if◌then◌else◌};
+ghost use Rattle.std.specs.Prelude.{◌≢◌, ◌≡◌, ℕ, nat_eq, Option, Some, Err, IfOk, OnOk, if◌then◌else◌};
+ghost use Rattle.sb_fraction.specs.declared.unit.Unit as units;
+ghost use Rattle.sb_step.specs.Indexed.{Indexed};
 ghost use Rattle.std.specs.Ordering.{nat_cmp};
 ghost use Rattle.std.specs.BTreeMap.{get};
 ghost use Rattle.sb_place.specs.Chains as chain;
@@ -22,12 +24,20 @@ pub type Placements = BTreeMap<u32, Placed>;
 /// How many placements of a chain are read.
 const MOST: u32 = 64;
 
+/// Nothing is known yet.
+pub fn no_placements(alloc: Global) -> Placements
+    ensures { (indexed : Indexed) (building : Option ℕ) (unit : units.Unit)
+        → spec.AreKnown indexed building unit (get nat_cmp result) }
+{
+    BTreeMap::new(alloc)
+}
+
 /// The frame of a product on this placement (its attribute ObjectPlacement), exactly as `frame_of` of
 /// `sb_place` answers it: `Chain`, `Turned`, `Range`, or an instance that is not of its row or is absent.
 /// Shifts are in nanometres (nm).
 ///
 /// What is read of placements is kept in `known`, so that each is read once however many products stand
-/// on it. It may be empty at first; it serves one file, one unit and one placement of the building.
+/// on it. It begins with [`no_placements`], and serves one file, one unit and one placement of the building.
 pub fn frame_in(
     alloc: Global,
     file: &StepFile<'_>,

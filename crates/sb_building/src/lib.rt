@@ -5,8 +5,19 @@
 //! `specs/Models.antt`, the model of a file.
 #![tactic(auto)]
 
+mod assembled;
+mod filling;
 mod frames;
 mod laws;
+mod least;
+mod made;
+mod materials;
+mod once;
+mod ordered;
+mod standing;
 
-pub use crate::frames::{Placements, frame_in};
+pub use crate::frames::{Placements, frame_in, no_placements};
 pub use crate::laws::{one_first_of_all, one_model, products_are_read};
+pub use crate::made::{Along, LayerAxis, Made};
+pub use crate::materials::made_of;
+pub use crate::once::{Materials, layering_of, no_materials};

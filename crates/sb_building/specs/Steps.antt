@@ -1,0 +1,7 @@
+-- What the private functions promise.
+pub mod Least
+pub mod Order
+pub mod Standing
+pub mod Given
+pub mod Parts
+pub mod Materials
