@@ -50,6 +50,17 @@ fn answer(alloc: Global, instances: &[u8]) -> Result<Vec<u8>, AllocError> {
     }
 }
 
+/// The exchange text of these instances, and of these.
+pub(crate) fn indexed_text(
+    alloc: Global,
+    shape: &[u8],
+    solids: &[u8],
+) -> Result<Vec<u8>, AllocError> {
+    let mut instances = bytes(alloc, shape)?;
+    instances.extend_from_slice(solids)?;
+    text_of(alloc, &instances)
+}
+
 /// The exchange text of these instances.
 fn text_of(alloc: Global, instances: &[u8]) -> Result<Vec<u8>, AllocError> {
     let mut input = bytes(alloc, b"ISO-10303-21;HEADER;A();ENDSEC;DATA;")?;
@@ -65,7 +76,7 @@ fn bytes(alloc: Global, text: &[u8]) -> Result<Vec<u8>, AllocError> {
 }
 
 /// A refusal as a text.
-fn told(alloc: Global, error: PrismError) -> Result<Vec<u8>, AllocError> {
+pub(crate) fn told(alloc: Global, error: PrismError) -> Result<Vec<u8>, AllocError> {
     let text = match error {
         PrismError::Fields(n) => format!(in alloc; "Fields {n}")?,
         PrismError::Missing(n) => format!(in alloc; "Missing {n}")?,
