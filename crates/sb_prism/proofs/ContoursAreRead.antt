@@ -14,7 +14,7 @@ use Rattle.sb_prism.specs.declared.measure.Measure.{Measure}
 use Rattle.sb_place.specs.Directions.{Coordinates, all_three}
 use Rattle.sb_place.specs.Positions.{is_length}
 use Rattle.sb_prism.specs.declared.faults.Faults.{Faults}
-use Rattle.sb_prism.specs.declared.spot.Spot.{Spot}
+use Rattle.sb_solid.specs.declared.spot.Spot.{Spot}
 use Rattle.sb_prism.specs.declared.contour.Contour.{Contour}
 use Rattle.sb_prism.specs.declared.outline.Outline.{Outline}
 use Rattle.sb_step.specs.Indexed.{Indexed}

@@ -8,12 +8,13 @@ use Rattle.sb_fixed.specs.Rounding.{rounded}
 use Rattle.theory_plans.specs.Rectangles.{corner}
 use Rattle.sb_place.specs.declared.sight.Seen.{Seen}
 use Rattle.sb_place.specs.declared.sight.Seen.TheVariants as seen
-use Rattle.sb_prism.specs.Grid.{is_near, is_in_world, nearest_millimetre}
+use Rattle.sb_solid.specs.Grid.{is_near, is_in_world, nearest_millimetre}
 use Rattle.sb_prism.specs.Shapes.{Curve, is_named_body}
 use Rattle.sb_prism.specs.Shapes.Curve.{indexed}
 use Rattle.sb_prism.specs.Faults.{is_index, is_segment, is_no_curve, is_above, is_along_z}
 use Rattle.sb_prism.specs.Outlines.{points_of, half_of}
-use Rattle.sb_prism.specs.Prisms.{rectangle_in, box_along_x, standing}
+use Rattle.sb_prism.specs.Moved.{depth_on}
+use Rattle.sb_solid.specs.Solids.{rectangle_in, box_along_x, standing}
 
 -- ---- the grid
 
@@ -130,3 +131,14 @@ no_loops = refl
 
 no_height : standing ((corner (pos 0) (pos 0) ∷ corner (pos 4) (pos 0) ∷ corner (pos 4) (pos 3) ∷ []) ∷ []) (pos 3) (pos 3) ≡ None
 no_height = refl
+
+-- ---- how far along an axis
+
+upright_way : depth_on (vector (pos 0) (pos 0) (neg_ℤ (pos 1))) (vector (pos 1) (pos 2) (pos 3)) ≡ pos 3
+upright_way = refl
+
+way_along_x : depth_on (vector (pos 1) (pos 0) (pos 0)) (vector (pos 1) (pos 2) (pos 3)) ≡ pos 1
+way_along_x = refl
+
+way_along_y : depth_on (vector (pos 0) (pos 1) (pos 0)) (vector (pos 1) (pos 2) (pos 3)) ≡ pos 2
+way_along_y = refl

@@ -9,7 +9,7 @@ use Rattle.std.proofs.lemmas.List.Elements.{filter_more}
 use Rattle.sb_fraction.specs.declared.unit.Unit as units
 use Rattle.sb_fixed.specs.Decimals.{digits_in}
 use Rattle.sb_place.specs.Directions.{Coordinates}
-use Rattle.sb_prism.specs.declared.spot.Spot.{Spot}
+use Rattle.sb_solid.specs.declared.spot.Spot.{Spot}
 use Rattle.sb_prism.specs.Faults.{index_of}
 use Rattle.sb_prism.specs.Outlines.{point_numbered}
 use Rattle.sb_prism.specs.Kept.{spot_in, no_spot, held}

@@ -10,5 +10,9 @@ mod SoundShapes
 mod ShiftsAreFramed
 mod BodiesAreRead
 mod IndicesAreRead
-mod NearIsNearest
+mod TurnedAcross
+mod ProfilesAreFlat
+mod TurnedFirst
+mod NumbersFit
+mod ShapesAreJudged
 mod Examples

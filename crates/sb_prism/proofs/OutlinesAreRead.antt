@@ -12,7 +12,7 @@ use Rattle.sb_place.specs.Directions.{Coordinates, all_three}
 use Rattle.sb_place.specs.Positions.{is_length}
 use Rattle.sb_place.specs.Sight.{absent_at, broken_at, is_other}
 use Rattle.sb_prism.specs.declared.faults.Faults.{Faults}
-use Rattle.sb_prism.specs.declared.spot.Spot.{Spot}
+use Rattle.sb_solid.specs.declared.spot.Spot.{Spot}
 use Rattle.sb_prism.specs.declared.outline.Outline.{Outline}
 use Rattle.sb_prism.specs.Shapes.Curve.{polyline}
 use Rattle.sb_prism.specs.Outlines.{texts_at}

@@ -16,7 +16,7 @@ use Rattle.sb_place.specs.Directions.{Coordinates, all_three}
 use Rattle.sb_place.specs.Sight.{IsSeen, absent_at, broken_at, is_other}
 use Rattle.sb_place.specs.Positions.{is_length, IsSpacePosition, IsDirection}
 use Rattle.sb_prism.specs.declared.faults.Faults.{Faults}
-use Rattle.sb_prism.specs.declared.spot.Spot.{Spot}
+use Rattle.sb_solid.specs.declared.spot.Spot.{Spot}
 use Rattle.sb_prism.specs.declared.outline.Outline.{Outline}
 use Rattle.sb_prism.specs.declared.body.Body.{Body}
 use Rattle.sb_prism.specs.declared.kept.Extrusion.{Extrusion}

@@ -1,7 +1,7 @@
 // What is kept of a profile.
 use crate::faults::Faults;
-use crate::spot::Spots;
 use sb_list::Listed;
+use sb_solid::Spots;
 
 /// What is kept of a profile: its faults, and its loops in nanometres (nm), the outer one first. Where a
 /// length is out of range they mean nothing.

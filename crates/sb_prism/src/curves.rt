@@ -18,11 +18,12 @@ use crate::faults::Faults;
 use crate::indices::{are_segments, named_point};
 use crate::outline::Outline;
 use crate::reading::{indexed_seen, list_seen, point_at, polyline_seen};
-use crate::spot::{Spot, origin, spot_of_pair, spot_of_texts};
+use crate::spot::{origin, spot_of_pair, spot_of_texts};
 use sb_fraction::Unit;
 use sb_list::{Listed, Text};
 use sb_place::Seen;
 use sb_schema::{LentPairs, LentReferences, Texts, TypedList, TypedLists};
+use sb_solid::Spot;
 use sb_step::StepFile;
 use std::alloc::{AllocError, Global};
 

@@ -1,6 +1,8 @@
 ghost use Rattle.std.specs.Prelude.{◌≡◌};
 ghost use Rattle.sb_prism.specs.declared.error.PrismError.TheVariants.{NoMemory};
+ghost use Rattle.sb_prism.specs.Errors.{of_solid};
 
+use sb_solid::SolidError;
 use std::alloc::AllocError;
 use thiserror::Error;
 
@@ -38,5 +40,18 @@ impl From<AllocError> for PrismError {
 
     fn from(_error: AllocError) -> PrismError {
         PrismError::NoMemory
+    }
+}
+
+impl From<SolidError> for PrismError {
+    ghost from_gives = { λ e p. p ≡ of_solid e };
+
+    fn from(error: SolidError) -> PrismError {
+        match error {
+            SolidError::Range => PrismError::Range,
+            SolidError::OffGrid => PrismError::OffGrid,
+            SolidError::Loops => PrismError::Loops,
+            SolidError::NoMemory => PrismError::NoMemory,
+        }
     }
 }

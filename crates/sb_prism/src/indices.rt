@@ -10,9 +10,10 @@ ghost use Rattle.sb_prism.specs.Faults as faults;
 ghost use Rattle.sb_prism.specs.Outlines.{point_numbered};
 ghost use Rattle.sb_prism.specs.Kept as spec;
 
-use crate::spot::{Spot, origin};
+use crate::spot::origin;
 use sb_list::Text;
 use sb_schema::TypedList;
+use sb_solid::Spot;
 
 /// From here on a number grows no more: no list has so many points.
 const HELD: u128 = 18_446_744_073_709_551_616;

@@ -1,8 +1,8 @@
 // What is kept of a shape.
 use crate::faults::Faults;
-use crate::spot::Spots;
 use sb_list::Listed;
 use sb_model::Frame;
+use sb_solid::Spots;
 
 /// What is kept of an extruded solid: its faults, the loops of its profile in nanometres (nm), the frame of
 /// its position, and how far it goes along its local z, in nanometres, below 0 where it goes down. Where a

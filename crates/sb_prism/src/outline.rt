@@ -1,6 +1,6 @@
 // What is kept of a curve.
 use crate::faults::Faults;
-use crate::spot::Spots;
+use sb_solid::Spots;
 
 /// What is kept of a curve: its faults, and its points in the plane of the profile in nanometres (nm),
 /// in order. A point out of range is the origin.

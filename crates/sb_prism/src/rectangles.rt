@@ -15,12 +15,12 @@ use crate::areas::no_loops;
 use crate::contour::Contour;
 use crate::faults::Faults;
 use crate::measure::{Measure, measured_length};
-use crate::spot::{Spot, Spots};
 use sb_fraction::Unit;
 use sb_list::Listed;
 use sb_model::{Axis, Frame, Turn};
 use sb_place::{Local, plan_position, space_position, told};
 use sb_schema::RectangleProfileDef;
+use sb_solid::{Spot, Spots};
 use sb_step::StepFile;
 use std::alloc::{AllocError, Global};
 

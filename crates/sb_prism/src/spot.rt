@@ -4,19 +4,9 @@ ghost use Rattle.sb_prism.specs.Kept as spec;
 
 use sb_fixed::nanometres;
 use sb_fraction::Unit;
-use sb_list::{Listed, Text};
+use sb_list::Text;
 use sb_schema::Texts;
-
-/// A point in nanometres (nm).
-#[derive(Clone, Copy)]
-pub(crate) struct Spot {
-    pub(crate) x: i128,
-    pub(crate) y: i128,
-    pub(crate) z: i128,
-}
-
-/// Points in order.
-pub(crate) type Spots = Listed<Spot>;
+use sb_solid::Spot;
 
 /// The origin.
 pub(crate) fn origin() -> Spot

@@ -193,7 +193,8 @@ below [] (suc k) e at = absurd cc
 below (f ∷ edges) zero e at = omega arith
 below (f ∷ edges) (suc k) e at = let rest = below edges k e at in omega arith
 
-x_is_way : IsWay along_x
+-- (1, 0) is a direction
+pub x_is_way : IsWay along_x
 unfolding dot
 x_is_way = omega (arith, ints)
 

@@ -1,0 +1,5 @@
+-- Loops that are one rectangle, and boxes over it.
+pub mod Mirrored
+pub mod RectanglesArePlans
+pub mod OnlyRectangles
+pub mod BoxesOverRectangles

@@ -1,0 +1,9 @@
+pub mod Grid
+pub mod Sizes
+pub mod Solids
+pub mod Turned
+pub mod Spans
+pub mod Judged
+pub mod Steps
+pub mod Boxes
+pub mod Moving
