@@ -10,6 +10,7 @@ use Rattle.sb_place.specs.declared.error.PlaceError.TheVariants as place_error
 use Rattle.sb_place.specs.Judgement.{IsFrameOf}
 use Rattle.sb_profile.specs.declared.defects.Code.{Code}
 use Rattle.sb_profile.specs.declared.defects.Code.TheVariants as code
+use Rattle.sb_profile.specs.declared.defects.Defect.{Defect}
 use Rattle.sb_profile.specs.declared.products.Shaped.{Shaped}
 use Rattle.sb_profile.specs.Contents.{Contents}
 use Rattle.sb_profile.specs.Products.{is_taken}
@@ -19,7 +20,7 @@ use Rattle.sb_building.specs.declared.standing.Standing.{Standing}
 use Rattle.sb_building.specs.Placings.{IsFrameIn}
 use Rattle.sb_building.specs.Conditions.{HasCondition}
 use Rattle.sb_building.specs.Steps.Order.{AreInOrder}
-use Rattle.sb_building.specs.Steps.Standing.{code_of, standing, StandsAs, HasFault, IsJudgedAmong, AreStanding, IsTakenStanding, AreTakenStanding}
+use Rattle.sb_building.specs.Steps.Standing.{code_of, standing, StandsAs, HasFault, IsJudgedAmong, AreStanding, AreJudged, IsTakenStanding, AreTakenStanding, TakenAreJudged}
 
 -- products in order are taken as they were
 pub taken_in_order : (c : Contents) (test : ℕ → Bool) (ps qs : List Shaped) → AreTaken c test ps
@@ -85,3 +86,17 @@ module _ (i : Indexed) (c : Contents) (u : units.Unit) where
             → ((s : Standing) × Stands s all × (s.number ≡ n)) ⊎ ((k : Code) × Stands (n, k) seen)
         by n p is (inl (f, at)) = inl (standing p f, at, is)
         by n p is (inr (k, at)) = inr (k, subst (λ m. Stands (m, k) seen) is at)
+
+-- taken products that were judged in order
+pub taken_are_judged : (i : Indexed) (b : Option ℕ) (u : units.Unit) (ps qs : List Shaped)
+    (all : List Standing) (found then_found : Option Defect)
+    → AreInOrder (λ (p : Shaped). p.number) ps qs → AreJudged i b u qs all found then_found
+    → TakenAreJudged i b u ps all found then_found
+taken_are_judged i b u ps qs all found then_found order judged before least =
+    let (seen, are, now_least) = judged before least in (
+      seen,
+      are.rise order.rise,
+      now_least,
+      λ c test taken below.
+          judged_taken i c u test qs (taken_in_order c test ps qs taken order) b below all seen are,
+    )

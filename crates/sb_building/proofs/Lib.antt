@@ -14,6 +14,7 @@ mod StandingOneByOne
 mod MaterialsAreRead
 mod LayersOneByOne
 mod MadeOnce
+mod BadLayersOneByOne
 mod FramesAreKnown
 mod EntriesInOrder
 mod EachByNumber

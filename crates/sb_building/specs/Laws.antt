@@ -9,14 +9,17 @@ use Rattle.sb_profile.specs.declared.defects.Code.{Code}
 use Rattle.sb_profile.specs.declared.defects.Code.TheVariants as code
 use Rattle.sb_profile.specs.declared.defects.Defect.{Defect}
 use Rattle.sb_profile.specs.Defects.{Occurs, file_codes}
-use Rattle.sb_profile.specs.First.{IsFirstDefect}
+use Rattle.sb_profile.specs.First.{IsFirst, IsFirstDefect}
 use Rattle.sb_profile.specs.Products.{is_taken}
+use Rattle.sb_profile.specs.Units.{unit_in}
 use Rattle.sb_step.specs.Indexed.{Indexed}
 use Rattle.sb_profile.specs.Contents.{Contents, Says}
 use Rattle.sb_model.specs.Building.{Building, is_building}
 use Rattle.sb_building.specs.Placings.{IsFrameIn, IsPrismIn}
-use Rattle.sb_building.specs.Conditions.{HasCondition, IsFirstOfProducts, IsFirstIn, product_codes, all_codes}
+use Rattle.sb_building.specs.Conditions.{HasCondition, OccursAt, IsFirstOfProducts, IsFirstIn, product_codes, all_codes}
 use Rattle.sb_building.specs.Models.{IsModelBy}
+use Rattle.sb_building.specs.Steps.Least.{IsLeastOf}
+use Rattle.sb_building.specs.Steps.Given.{AreGiven}
 
 -- What is answered of the frame of a taken product: an instance that is not of its row, or an absent one,
 -- is a defect of the file.
@@ -66,3 +69,11 @@ OneModel =
     (indexed : Indexed) (c : Contents) (ground : ℤ) (reach : ℕ) (one two : Building)
     → Says indexed c → IsTrue (is_building one) → IsTrue (is_building two)
     → IsModelBy indexed c ground reach one → IsModelBy indexed c ground reach two → one ≡ two
+
+-- Where it was found of each taken product which condition it has, the least of these conditions is the
+-- first of products.
+abbrev pub LeastOfProducts : Type 0
+LeastOfProducts =
+    (indexed : Indexed) (c : Contents) (u : units.Unit) (seen : List (ℕ × Code)) (found : Option Defect)
+    → Says indexed c → unit_in c ≡ Some u → AreGiven indexed c u seen → IsLeastOf seen found
+    → IsFirst (OccursAt indexed c) product_codes found

@@ -3,5 +3,6 @@ pub mod Least
 pub mod Order
 pub mod Standing
 pub mod Given
+pub mod Layers
 pub mod Parts
 pub mod Materials

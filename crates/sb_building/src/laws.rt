@@ -1,5 +1,5 @@
 // The laws of what is read of products.
-ghost use Rattle.sb_building.specs.Laws.{ProductsAreRead, OneCondition, OneFirstIn, FileComesFirst, ProductsFollow, OneModel};
+ghost use Rattle.sb_building.specs.Laws.{ProductsAreRead, OneCondition, OneFirstIn, FileComesFirst, ProductsFollow, OneModel, LeastOfProducts};
 
 use sb_place::one_chain;
 use sb_step::one_list_of_parameters;
@@ -31,6 +31,16 @@ pub fn one_first_of_all()
 #[inline(always)]
 pub fn one_model()
     ensures { OneModel }
+{
+    one_chain();
+    one_list_of_parameters();
+}
+
+/// A law of products: where it was found of each taken one which condition it has, or that it has none, the
+/// least of these conditions is the first defect of products.
+#[inline(always)]
+pub fn least_of_products()
+    ensures { LeastOfProducts }
 {
     one_chain();
     one_list_of_parameters();

@@ -9,6 +9,7 @@ mod assembled;
 mod filling;
 mod frames;
 mod laws;
+mod layer_faults;
 mod least;
 mod made;
 mod materials;
@@ -17,7 +18,7 @@ mod ordered;
 mod standing;
 
 pub use crate::frames::{Placements, frame_in, no_placements};
-pub use crate::laws::{one_first_of_all, one_model, products_are_read};
+pub use crate::laws::{least_of_products, one_first_of_all, one_model, products_are_read};
 pub use crate::made::{Along, LayerAxis, Made};
 pub use crate::materials::made_of;
 pub use crate::once::{Materials, layering_of, no_materials};

@@ -58,7 +58,7 @@ pub fn layering_of(
 }
 
 /// Reads a material instance, unless that was done before.
-fn read_once(
+pub(crate) fn read_once(
     alloc: Global,
     file: &StepFile<'_>,
     known: &mut Materials,

@@ -9,6 +9,7 @@ ghost use Rattle.sb_building.specs.Steps.Standing as spec;
 
 use crate::frames::{Placements, frame_in};
 use crate::least::least;
+use crate::ordered::in_order;
 use sb_fraction::Unit;
 use sb_model::Frame;
 use sb_place::PlaceError;
@@ -24,8 +25,37 @@ pub(crate) struct Standing {
     pub frame: Frame,
 }
 
+/// Those of some taken products that stand in a frame, by rising numbers; of the others the least condition
+/// is kept.
+pub(crate) fn stand_taken(
+    alloc: Global,
+    file: &StepFile<'_>,
+    known: &mut Placements,
+    products: &[Shaped],
+    building: Option<u32>,
+    unit: Unit,
+    found: &mut Option<Defect>,
+) -> Result<Vec<Standing>, AllocError>
+    requires { AreKnown file.now building unit (get nat_cmp known.now) }
+    ensures judged { IfOk result (λ all. spec.TakenAreJudged file.now building unit products.now all.items
+        found.old found.new) }
+    ensures known { OnOk result (AreKnown file.now building unit (get nat_cmp known.new)) }
+{
+    let products = in_order(alloc, products)?;
+    let all = stand_each(
+        alloc,
+        file,
+        known,
+        products.as_slice(),
+        building,
+        unit,
+        found,
+    )?;
+    Ok(all)
+}
+
 /// The products that stand in a frame, in order; of the others the least condition is kept.
-pub(crate) fn stand_each(
+fn stand_each(
     alloc: Global,
     file: &StepFile<'_>,
     known: &mut Placements,

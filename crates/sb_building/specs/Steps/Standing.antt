@@ -14,6 +14,8 @@ use Rattle.sb_profile.specs.declared.defects.Code.TheVariants as code
 use Rattle.sb_profile.specs.declared.defects.Defect.{Defect}
 use Rattle.sb_profile.specs.Contents.{Contents}
 use Rattle.sb_profile.specs.Products.{is_taken, shape_of}
+use Rattle.sb_profile.specs.Following.{building_placement}
+use Rattle.sb_profile.specs.Steps.Read.{AreTaken}
 use Rattle.sb_building.specs.declared.standing.Standing.{Standing}
 use Rattle.sb_building.specs.Placings.{IsFrameIn}
 use Rattle.sb_building.specs.Conditions.{HasCondition}
@@ -97,3 +99,12 @@ pub record AreTakenStanding (i : Indexed) (c : Contents) (u : units.Unit) (test 
   pub seen_are : (n : ℕ) (k : Code) → Stands (n, k) seen → (is_taken c n ≡ true) × HasCondition i c u k n
   pub each : (n : ℕ) → test n ≡ true
       → ((s : Standing) × Stands s all × (s.number ≡ n)) ⊎ ((k : Code) × Stands (n, k) seen)
+
+-- taken products were judged, behind conditions that had been seen
+abbrev pub TakenAreJudged : Indexed → Option ℕ → units.Unit → List Shaped → List Standing
+    → Option Defect → Option Defect → Type 0
+TakenAreJudged i b u ps all found then_found =
+    (before : List (ℕ × Code)) → IsLeastOf before found
+    → (seen : List (ℕ × Code)) × Rise (λ s. s.number) all × IsLeastOf (before ++ seen) then_found
+    × ((c : Contents) (test : ℕ → Bool) → AreTaken c test ps → b ≡ building_placement c
+    → AreTakenStanding i c u test all seen)
