@@ -10,6 +10,7 @@ mod SoundShapes
 mod ShiftsAreFramed
 mod BodiesAreRead
 mod IndicesAreRead
+mod PointsArePicked
 mod TurnedAcross
 mod ProfilesAreFlat
 mod TurnedFirst

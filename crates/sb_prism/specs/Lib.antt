@@ -4,5 +4,6 @@ pub mod Outlines
 pub mod Prisms
 pub mod Moved
 pub mod Kept
+pub mod Picked
 pub mod Sound
 pub mod Errors

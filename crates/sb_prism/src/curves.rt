@@ -1,6 +1,8 @@
 // Curves as they are read: their points are walked in the text, and kept as numbers.
 ghost use Rattle.std.specs.Prelude.{◌≡◌, ◌++◌, List, [], ◌∷◌, map, Some, None, codes, IfOk, OnOk};
-ghost use Rattle.std.specs.List.{flat_map};
+ghost use Rattle.std.specs.Ordering.{nat_cmp};
+ghost use Rattle.std.specs.List.{All, flat_map};
+ghost use Rattle.std.specs.BTreeMap.{get};
 ghost use Rattle.sb_schema.specs.declared.lists.TypedList.{TypedList as Segment};
 ghost use Rattle.sb_schema.specs.Views.{IsOther};
 ghost use Rattle.sb_place.specs.declared.sight.Seen.{Seen as SeenOf};
@@ -10,13 +12,14 @@ ghost use Rattle.sb_place.specs.Positions.{IsPoint};
 ghost use Rattle.sb_fraction.specs.declared.unit.Unit as units;
 ghost use Rattle.sb_prism.specs.Shapes.{Curve, AreEach, IsCurve};
 ghost use Rattle.sb_prism.specs.Shapes.Curve.{polyline, indexed};
-ghost use Rattle.sb_prism.specs.Faults.{is_segment};
 ghost use Rattle.sb_prism.specs.Outlines.{texts_at, point_numbered};
 ghost use Rattle.sb_prism.specs.Kept as spec;
+ghost use Rattle.sb_prism.specs.Picked.{Names};
 
 use crate::faults::Faults;
-use crate::indices::{are_segments, named_point};
+use crate::indices::are_segments;
 use crate::outline::Outline;
+use crate::picked::{Places, named_point, pick};
 use crate::reading::{indexed_seen, list_seen, point_at, polyline_seen};
 use crate::spot::{origin, spot_of_pair, spot_of_texts};
 use sb_fraction::Unit;
@@ -147,85 +150,81 @@ fn listed_at(
         Seen::Other => Ok(no_points(alloc, Faults::stray())),
         Seen::Shown(list) => {
             let mut pairs = list.a1;
-            let all = measured(alloc, &mut pairs, unit)?;
-            named(alloc, all.as_slice(), segments)
+            points_of(alloc, &mut pairs, segments, unit)
         }
     }
 }
 
-/// All points of a list; `None` for one that is out of range.
-fn measured(
+/// What is kept of those points of a list that the segments name, or of all where there are none.
+fn points_of(
     alloc: Global,
     pairs: &mut LentPairs<'_>,
-    unit: Unit,
-) -> Result<Listed<Option<Spot>>, AllocError>
-    ensures { IfOk result (λ all. all ≡ map (spec.spot_in unit) pairs.old) }
-{
-    let mut all = Listed::new(alloc);
-    'pairs: while let Some((x, y)) = pairs.next() {
-        all.push(spot_of_pair(x, y, unit))?;
-    }
-    Ok(all)
-}
-
-/// What is kept of those of these points that the segments name, or of all where there are none.
-fn named(
-    alloc: Global,
-    all: &[Option<Spot>],
     segments: &Option<TypedLists>,
+    unit: Unit,
 ) -> Result<Outline, AllocError>
-    ensures { IfOk result (λ outline. (unit : units.Unit) (points : List Coordinates) → all.now ≡ map (spec.spot_in unit) points
-        → outline ≡ spec.outline_of unit (seen.Shown (indexed (seen.Shown points) segments.now))) }
+    ensures { IfOk result (λ outline. outline
+        ≡ spec.outline_of unit (seen.Shown (indexed (seen.Shown pairs.old) segments.now))) }
 {
     match segments {
-        Some(segments) => {
-            let stray = !are_segments(all.len(), segments.as_slice());
-            let mut outline = no_points(alloc, Faults::of_lengths(stray, false));
-            push_segments(&mut outline, all, segments.as_slice())?;
-            Ok(outline)
-        }
-        None => {
-            let mut outline = no_points(alloc, Faults::none());
-            push_all(&mut outline, all)?;
-            Ok(outline)
-        }
+        Some(segments) => named(alloc, pairs, segments.as_slice(), unit),
+        None => whole(alloc, pairs, unit),
     }
 }
 
-/// Appends all points.
-fn push_all(outline: &mut Outline, all: &[Option<Spot>]) -> Result<(), AllocError>
-    ensures { OnOk result ((unit : units.Unit) (points : List Coordinates) → all.now ≡ map (spec.spot_in unit) points
-        → outline.new ≡ spec.with_points unit outline.old points) }
+/// What is kept of all points of a list.
+fn whole(alloc: Global, pairs: &mut LentPairs<'_>, unit: Unit) -> Result<Outline, AllocError>
+    ensures { IfOk result (λ outline. outline
+        ≡ spec.outline_of unit (seen.Shown (indexed (seen.Shown pairs.old) None))) }
 {
-    'spots: for spot in all {
-        push_measured(outline, *spot)?;
+    let mut outline = no_points(alloc, Faults::none());
+    'pairs: while let Some((x, y)) = pairs.next() {
+        push_measured(&mut outline, spot_of_pair(x, y, unit))?;
     }
-    Ok(())
+    Ok(outline)
+}
+
+/// What is kept of those points of a list that these segments name.
+fn named(
+    alloc: Global,
+    pairs: &mut LentPairs<'_>,
+    segments: &[TypedList],
+    unit: Unit,
+) -> Result<Outline, AllocError>
+    ensures { IfOk result (λ outline. outline
+        ≡ spec.outline_of unit (seen.Shown (indexed (seen.Shown pairs.old) (Some segments.now)))) }
+{
+    let picked = pick(alloc, pairs, segments, unit)?;
+    let stray = !are_segments(picked.count, segments);
+    let mut outline = no_points(alloc, Faults::of_lengths(stray, false));
+    push_segments(&mut outline, &picked.points, segments)?;
+    Ok(outline)
 }
 
 /// Appends the points that the segments name.
 fn push_segments(
     outline: &mut Outline,
-    all: &[Option<Spot>],
+    picked: &Places,
     segments: &[TypedList],
 ) -> Result<(), AllocError>
-    ensures { OnOk result ((unit : units.Unit) (points : List Coordinates) → all.now ≡ map (spec.spot_in unit) points
+    ensures { OnOk result ((unit : units.Unit) (points : List Coordinates)
+        → All (λ s. All (Names unit points (get nat_cmp picked.now)) s.list) segments.now
         → outline.new ≡ spec.with_points unit outline.old
         (map (point_numbered points) (flat_map (λ s. s.list) segments.now))) }
 {
     'segments: for segment in segments {
-        push_named(outline, all, segment.list.as_slice())?;
+        push_named(outline, picked, segment.list.as_slice())?;
     }
     Ok(())
 }
 
 /// Appends the points of these indices.
-fn push_named(outline: &mut Outline, all: &[Option<Spot>], texts: &[Text]) -> Result<(), AllocError>
-    ensures { OnOk result ((unit : units.Unit) (points : List Coordinates) → all.now ≡ map (spec.spot_in unit) points
+fn push_named(outline: &mut Outline, picked: &Places, texts: &[Text]) -> Result<(), AllocError>
+    ensures { OnOk result ((unit : units.Unit) (points : List Coordinates)
+        → All (Names unit points (get nat_cmp picked.now)) texts.now
         → outline.new ≡ spec.with_points unit outline.old (map (point_numbered points) texts.now)) }
 {
     'texts: for text in texts {
-        push_measured(outline, named_point(all, text.bytes()))?;
+        push_measured(outline, named_point(picked, text.bytes()))?;
     }
     Ok(())
 }

@@ -1,19 +1,15 @@
 // Indices of points, as a curve's segments name them.
-ghost use Rattle.std.specs.Prelude.{◌≡◌, ◌+◌, ◌*◌, ◌≤◌, min, ◌-◌, IsTrue, map, List, length, get_or, Some, if◌then◌else◌};
+ghost use Rattle.std.specs.Prelude.{◌≡◌, ◌+◌, ◌*◌, ◌≤◌, min, IsTrue, if◌then◌else◌};
 ghost use Rattle.std.specs.Char.{is_ascii_digit, digit_value};
 ghost use Rattle.std.specs.Str.Parse.{digits_value};
 ghost use Rattle.std.specs.List.{list_all};
-ghost use Rattle.sb_fraction.specs.declared.unit.Unit as units;
 ghost use Rattle.sb_fixed.specs.Decimals.{digits_in, has_minus};
-ghost use Rattle.sb_place.specs.Directions.{Coordinates};
 ghost use Rattle.sb_prism.specs.Faults as faults;
-ghost use Rattle.sb_prism.specs.Outlines.{point_numbered};
 ghost use Rattle.sb_prism.specs.Kept as spec;
+ghost use Rattle.sb_prism.specs.Picked.{place_of};
 
-use crate::spot::origin;
 use sb_list::Text;
 use sb_schema::TypedList;
-use sb_solid::Spot;
 
 /// From here on a number grows no more: no list has so many points.
 const HELD: u128 = 18_446_744_073_709_551_616;
@@ -55,30 +51,11 @@ fn is_index(count: usize, text: &[u8]) -> bool
     1 <= index && index <= count as u128
 }
 
-/// The point of this index, of all points of a list; the origin where it names none.
-pub(crate) fn named_point(all: &[Option<Spot>], text: &[u8]) -> Option<Spot>
-    ensures { (unit : units.Unit) (points : List Coordinates) → all.now ≡ map (spec.spot_in unit) points
-        → result ≡ spec.spot_in unit (point_numbered points text.now) }
-{
-    spot_where(all, place(text))
-}
-
 /// The place of the point of this index, counted from 0.
-fn place(text: &[u8]) -> usize
-    ensures { result ≡ min (faults.index_of text.now - 1) (spec.held - 1) }
+pub(crate) fn place(text: &[u8]) -> usize
+    ensures { result ≡ place_of text.now }
 {
     index(text).saturating_sub(1) as usize
-}
-
-fn spot_where(all: &[Option<Spot>], place: usize) -> Option<Spot>
-    ensures value { result ≡ get_or all.now place (Some spec.no_spot) }
-    ensures short { length all.now ≤ spec.held - 1 }
-{
-    if place < all.len() {
-        all[place]
-    } else {
-        Some(origin())
-    }
 }
 
 /// The index that a text writes, and 0 where it is negative.

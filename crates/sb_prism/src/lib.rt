@@ -17,6 +17,7 @@ mod kept;
 mod laws;
 mod measure;
 mod outline;
+mod picked;
 mod prism;
 mod profiles;
 mod reading;

@@ -25,10 +25,10 @@ returns-in-Other c = (
   c.no_points-in-Other.ensures ∙ ap without_points c.stray.ensures,
 )
 
-pub returns-in_ok-all-in-Shown : goal.returns-in_ok-all-in-Shown
-returns-in_ok-all-in-Shown c =
-    IfOk-weaker c.named.result _ _ (λ outline of. (
+pub returns-in-Shown : goal.returns-in-Shown
+returns-in-Shown c =
+    IfOk-weaker c.points_of.result _ _ (λ outline is. (
       seen.Shown c.in-Shown.list.a1,
       rw c.in-Shown.is at c.in_ok-n.ensures,
-      of c.args.unit c.in-Shown.list.a1 (c.as_slice.ensures ∙ c.in_ok-all-in-Shown.ensures),
-    )) c.named.ensures
+      is,
+    )) c.points_of.ensures
