@@ -1,7 +1,7 @@
 -- The slabs of one room along x, told one after another, and wrong ones that are refused.
 
 use Rattle.std.proofs.Common.{◌≡◌, inl, inr, refl, sym, ap, ◌∙◌, subst, arith, ℕ, pos}
-use Rattle.std.proofs.Common.{◌<◌, true, IsTrue, List, [], ◌∷◌, length, slice_get, IsPermutation}
+use Rattle.std.proofs.Common.{◌<◌, true, false, IsTrue, List, [], ◌∷◌, length, slice_get, IsPermutation}
 use Rattle.std.proofs.lemmas.Int.{ints}
 use Rattle.std.proofs.lemmas.List.Sorted.{IsPermutation-refl}
 use Rattle.std.proofs.lemmas.Option.{same_Some}
@@ -12,7 +12,7 @@ use Rattle.theory_lists.specs.Members.{Stands}
 use Rattle.theory_lists.proofs.Members.{all_stands, one_of_any}
 use Rattle.theory_numbers.specs.Arrows.{Arrow, arrow, cross, dot}
 use Rattle.theory_numbers.specs.Divisors.{greatest_divisor, divisor_within}
-use Rattle.theory_numbers.specs.Fractions.{whole}
+use Rattle.theory_numbers.specs.Fractions.{Ratio, whole}
 use Rattle.theory_numbers.specs.Rationals.{rational, IsBelow, IsSame}
 use Rattle.theory_numbers.proofs.Clear.{positive_between}
 use Rattle.theory_plane.specs.Sides.{clearance, clearance_at}
@@ -28,7 +28,7 @@ use Rattle.theory_lines.specs.Slabs.{AreAbscissae, IsSlabOrder, IsUnder, spannin
 use Rattle.theory_lines.proofs.NeighboursInAList.{neighbours_in_list}
 use Rattle.theory_lines.proofs.SlabOrderIsOne.{before_by_edges, slab_order_is_one}
 use Rattle.sb_frame.specs.declared.slab.Slab.{Slab}
-use Rattle.sb_slab.specs.Slabs.{SlabsLeft, HasLeft, IsNext}
+use Rattle.sb_slab.specs.Slabs.{SlabsLeft, HasLeft, IsNext, are_ends}
 
 -- the direction along x
 abbrev along_x : Arrow
@@ -228,3 +228,20 @@ told_again_is_refused :
     (slab_to 10 (0 ∷ 2 ∷ [])) → ⊥
 told_again_is_refused is =
     let same = ap (λ (left : List Arrow). length left) is.low in absurd cc
+
+-- ---- ends of slabs
+
+-- 0 and 1/2 are ends of a slab that can hold patches; 1/2 as 2/4 is not in lowest terms
+half : Ratio
+half = record { num = pos 1; den = pos 2 }
+
+two_quarters : Ratio
+two_quarters = record { num = pos 2; den = pos 4 }
+
+half_is_an_end : are_ends (whole (pos 0)) half ≡ true
+unfolding half greatest_divisor divisor_within
+half_is_an_end = refl
+
+two_quarters_are_none : are_ends (whole (pos 0)) two_quarters ≡ false
+unfolding two_quarters greatest_divisor divisor_within
+two_quarters_are_none = refl

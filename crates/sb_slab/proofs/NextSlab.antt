@@ -9,7 +9,7 @@ use Rattle.std.specs.Option.{option_map}
 use Rattle.std.specs.Ordering.{int_eq}
 use Rattle.std.proofs.lemmas.Int.{ints}
 use Rattle.std.proofs.Common.{IfSome, nat_lt}
-use Rattle.std.proofs.lemmas.Bool.{and_parts, or_cases, lt-ltb}
+use Rattle.std.proofs.lemmas.Bool.{and_parts, and_from, or_cases, lt-ltb}
 use Rattle.std.proofs.lemmas.Bool.Decides.{Decides-int_eq}
 use Rattle.std.proofs.lemmas.List.{length-map, length-drop}
 use Rattle.std.proofs.lemmas.Option.{same_Some, none-some}
@@ -24,11 +24,12 @@ use Rattle.theory_numbers.proofs.Shapes.{dot_eq}
 use Rattle.theory_numbers.proofs.Signs.{same_tests, less_from}
 use Rattle.theory_parity.specs.Below.{IsWay}
 use Rattle.sb_fraction.specs.declared.direction.Direction.{Direction}
-use Rattle.sb_fraction.specs.Bounds.{is_abscissa_size}
+use Rattle.sb_fraction.specs.Bounds.{is_abscissa_size, is_fraction}
 use Rattle.sb_fraction.specs.Lines.{arrow_along, reaches_past}
 use Rattle.sb_fraction.specs.Numbers.{number}
 use Rattle.sb_fraction.specs.Plane.{is_forward, longest_step}
 use Rattle.sb_model.specs.Building.{Building}
+use Rattle.sb_model.specs.Sides.{is_abscissa_size as is_end_size}
 use Rattle.sb_model.specs.PlanEdges.{PlanEdge, plan_edges}
 use Rattle.theory_lines.specs.Slabs.{AreAbscissae, AreNeighbours, IsSlab, is_spanning, places_from}
 use Rattle.theory_lines.specs.Slabs.{spanning_places, IsSlabOrder}
@@ -36,7 +37,7 @@ use Rattle.theory_lines.proofs.NeighboursInAList.{neighbours_in_list}
 use Rattle.theory_lines.proofs.EdgesOverASlab.{spanning_reaches, reaching_spans}
 use Rattle.theory_lines.proofs.SortedByLeads.{sorted_is_slab_order}
 use Rattle.sb_frame.specs.declared.slab.Slab.{Slab}
-use Rattle.sb_slab.specs.Slabs.{SlabsLeft, HasLeft, IsNext, is_within}
+use Rattle.sb_slab.specs.Slabs.{SlabsLeft, HasLeft, IsNext, is_within, are_ends}
 use Rattle.sb_slab.specs.Sorted.{IsSortedAt}
 
 -- ---- a direction is a way
@@ -116,6 +117,22 @@ pub size_of_next : (list : List Ratio) (n : ℕ) (r : Ratio) → IsTrue (is_with
     → slice_get list n ≡ Some r → IsTrue (is_abscissa_size r)
 size_of_next list n r is at =
     size_at list n r (and_parts (nat_le n (length list)) (list_all is_abscissa_size list) is).1 at
+
+-- of two places in the list, in lowest terms
+pub ends_are : (list : List Ratio) (i j n : ℕ) (low high : Ratio) → IsTrue (is_within list n)
+    → slice_get list i ≡ Some low → slice_get list j ≡ Some high
+    → IsTrue (is_fraction low && is_fraction high) → IsTrue (are_ends low high)
+ends_are list i j n low high is low_at high_at lowest =
+    and_from (is_end_size low) (is_end_size high) (and_from (is_fraction low) _ both.0 (size i low low_at))
+    (and_from (is_fraction high) _ both.1 (size j high high_at))
+  where
+    both : (is_fraction low ≡ true) × (is_fraction high ≡ true)
+    both = and_parts (is_fraction low) (is_fraction high) lowest
+
+    size : (k : ℕ) (r : Ratio) → slice_get list k ≡ Some r → is_abscissa_size r ≡ true
+    size k r at =
+        size_at list k r
+        (and_parts (nat_le n (length list)) (list_all is_abscissa_size list) is).1 at
 
 -- the next two are the first of those left
 two_ahead : (xs : List Arrow) (a b : Arrow) → slice_get xs 0 ≡ Some a → slice_get xs 1 ≡ Some b
@@ -219,6 +236,11 @@ pub some_weaker : {X : Type 0} (o : Option X) (P Q : X → Type 0) → ((x : X) 
     → IfSome o P → IfSome o Q
 some_weaker (Some x) P Q step holds = step x holds
 some_weaker None P Q step holds = tt
+
+pub some_from_three : {X : Type 0} (o : Option X) (P Q R S : X → Type 0)
+    → ((x : X) → P x → Q x → R x → S x) → IfSome o P → IfSome o Q → IfSome o R → IfSome o S
+some_from_three (Some x) P Q R S step first second third = step x first second third
+some_from_three None P Q R S step first second third = tt
 
 -- the abscissa k places on is that of those left
 pub left_from_kept : (s : SlabsLeft) (list : List Ratio) (n k i : ℕ) (r : Ratio)

@@ -10,6 +10,7 @@ use Rattle.sb_fraction.specs.Bounds.{is_abscissa_size}
 use Rattle.sb_fraction.specs.Lines.{arrow_along}
 use Rattle.sb_fraction.specs.Numbers.{number}
 use Rattle.sb_model.specs.Building.{Building}
+use Rattle.sb_model.specs.Sides.{is_abscissa_size as is_end_size}
 use Rattle.sb_model.specs.PlanEdges.{PlanEdge, plan_edges}
 use Rattle.theory_lines.specs.Slabs.{AreAbscissae, AreNeighbours, IsSlabOrder}
 use Rattle.sb_frame.specs.Network.{Network}
@@ -37,6 +38,10 @@ pub record IsNext (m : Building) (d : Arrow) (passed : List Arrow) (old new : Sl
   pub neighbours : AreNeighbours m d (number s.low) (number s.high)
   pub order : IsSlabOrder (plan_edges m) d (number s.low) (number s.high) s.order
   pub rest : HasLeft m d (passed ++ number s.low ∷ []) new
+
+-- a slab of these ends can hold patches: both are in lowest terms and within the bounds of abscissae
+abbrev pub are_ends : Ratio → Ratio → Bool
+are_ends low high = is_end_size low && is_end_size high
 
 -- there was memory enough for an answer
 abbrev pub IsMade : {T E : Type 0} → Result T E → Type 0

@@ -1,13 +1,13 @@
 //! The slabs of a direction, one after another.
 
-ghost use Rattle.std.specs.Prelude.{◌≡◌, ◌≢◌, ◌↔◌, ◌≤◌, ◌+◌, nat_lt, if◌then◌else◌, List, [], Ok, Some, None, length, slice_get, IfOk, IfSome, IfNone, OnErr, IsTrue};
+ghost use Rattle.std.specs.Prelude.{◌≡◌, ◌≢◌, ◌↔◌, ◌≤◌, ◌+◌, ◌&&◌, nat_lt, if◌then◌else◌, List, [], Ok, Some, None, length, slice_get, IfOk, IfSome, IfNone, OnErr, IsTrue};
 ghost use Rattle.theory_numbers.specs.Arrows.{Arrow};
-ghost use Rattle.sb_fraction.specs.Bounds.{is_abscissa_size};
+ghost use Rattle.sb_fraction.specs.Bounds.{is_abscissa_size, is_fraction};
 ghost use Rattle.sb_fraction.specs.Lines.{arrow_along};
 ghost use Rattle.sb_fraction.specs.Numbers.{number};
 ghost use Rattle.sb_model.specs.Building.{Building};
 ghost use Rattle.sb_frame.specs.Network.{IsNetwork};
-ghost use Rattle.sb_slab.specs.Slabs.{HasLeft, IsNext, IsMade};
+ghost use Rattle.sb_slab.specs.Slabs.{HasLeft, IsNext, IsMade, are_ends};
 
 use crate::sorting::order_past;
 use sb_fraction::{Direction, Fraction, Steps};
@@ -67,12 +67,15 @@ impl<'a> SlabOrders<'a> {
     /// span it, in their order from below at every abscissa strictly inside; edges on one line by their
     /// places.
     ///
+    /// Both ends are in lowest terms and within the bounds of abscissae, as the ends of patches must be.
+    ///
     /// - `Ok(None)`: exactly after the last, where fewer than two abscissae are left. It stays so.
     /// - `Err`: there is no memory. What is left is as before.
     pub fn next<L: Ledger>(&mut self, steps: &mut Steps<L>) -> Result<Option<Slab>, AllocError>
         ensures none { IsMade result → (result ≡ Ok None) ↔ (length self.old.left ≤ 1) }
         ensures slab { (m : Building) (d : Arrow) (passed : List Arrow) → HasLeft m d passed self.old
             → IfOk result (λ answer. IfSome answer (IsNext m d passed self.old self.new)) }
+        ensures ends { IfOk result (λ answer. IfSome answer (λ slab. IsTrue (are_ends slab.low slab.high))) }
         ensures after_last { IfOk result (λ answer. IfNone answer (self.new ≡ self.old)) }
         ensures refused { OnErr result (self.new ≡ self.old) }
     {
@@ -94,6 +97,7 @@ impl<'a> SlabOrders<'a> {
         ensures low { IfSome result (λ ends. slice_get self.now.left 0 ≡ Some (number ends.low)) }
         ensures high { IfSome result (λ ends. slice_get self.now.left 1 ≡ Some (number ends.high)) }
         ensures size { IfSome result (λ ends. IsTrue (is_abscissa_size ends.low)) }
+        ensures ends { IfSome result (λ ends. IsTrue (are_ends ends.low ends.high)) }
         ensures none { IfNone result (length self.now.left ≤ 1) }
     {
         ends_from(self.abscissae.as_slice(), self.next)
@@ -111,6 +115,7 @@ fn following(place: usize, len: usize) -> usize
 fn ends_from(list: &[Fraction], place: usize) -> Option<Ends>
     ensures low { IfSome result (λ ends. slice_get list.now place ≡ Some ends.low) }
     ensures high { IfSome result (λ ends. slice_get list.now (place + 1) ≡ Some ends.high) }
+    ensures lowest { IfSome result (λ ends. IsTrue (is_fraction ends.low && is_fraction ends.high)) }
     ensures none { IfNone result (length list.now ≤ place + 1) }
 {
     if place >= list.len() {
@@ -121,7 +126,16 @@ fn ends_from(list: &[Fraction], place: usize) -> Option<Ends>
         return None;
     }
     Some(Ends {
-        low: list[place],
-        high: list[next],
+        low: in_lowest_terms(list[place]),
+        high: in_lowest_terms(list[next]),
     })
+}
+
+/// The number; its denominator tells that it is in lowest terms.
+fn in_lowest_terms(number: Fraction) -> Fraction
+    ensures value { result ≡ number }
+    ensures lowest { IsTrue (is_fraction result) }
+{
+    let _den = number.den();
+    number
 }

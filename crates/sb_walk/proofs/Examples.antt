@@ -3,6 +3,7 @@
 use Rattle.std.proofs.Common.{◌≡◌, ◌⊎◌, inl, inr, refl, sym, ap, ◌∙◌, subst, arith, ℕ, pos, ◌<◌, true}
 use Rattle.std.proofs.Common.{[], ◌∷◌, ◌*ℤ◌, ◌<ℤ◌, int_lt}
 use Rattle.std.proofs.lemmas.Bool.{and_parts}
+use Rattle.std.proofs.lemmas.Option.{none-some}
 use Rattle.theory_numbers.proofs.Signs.{less_from}
 use Rattle.theory_plans.specs.Inside.{is_in_plan}
 use Rattle.theory_plans.specs.Rectangles.{is_between_xs, is_between_ys}
@@ -18,6 +19,11 @@ use Rattle.sb_model.specs.Building.{Building}
 use Rattle.theory_gaps.specs.Gaps.{IsCommonOver}
 use Rattle.theory_models.proofs.ExampleModels.{model, block, box_room}
 use Rattle.sb_frame.specs.Directions.{along_x}
+use Rattle.sb_model.specs.declared.boundary.Cell.{Cell}
+use Rattle.sb_model.specs.PlanEdges.{PlanEdge}
+use Rattle.sb_walk.specs.CellsOfGaps.{AreForEach}
+use Rattle.sb_walk.specs.GapsBetween.{IsBetween}
+use Rattle.sb_walk.specs.declared.way.Way.{Way}
 use Rattle.sb_walk.specs.Overlaps.{OverlapOver, IsUpTo, IsLeastOverlap, HaveNoOverlapOver}
 
 abbrev at : ℕ → Arrow
@@ -163,3 +169,30 @@ touching_do_not_overlap low high x y less o = by o.first_in o.second_in o.common
         (subst (λ (r : Space). is_in_solid r.prism p ≡ true) t is.second)
     by (inl s) (inr (inr none)) common = none
     by (inr (inr none)) other common = none
+
+-- ---- gaps and their cells
+
+-- the gap behind the first of three edges lies between it and the second
+between_two : (e f g : PlanEdge) → IsBetween (e ∷ f ∷ g ∷ []) 1 e f
+between_two e f g = (refl, refl)
+
+-- that before the first lies between no two, nor does the one behind the last
+none_before : (e f : PlanEdge) → IsBetween (e ∷ f ∷ []) 0 e f → ⊥
+none_before e f between = between
+
+none_behind : (e f : PlanEdge) → IsBetween (e ∷ f ∷ []) 2 e f → ⊥
+none_behind e f between = none-some f between.1
+
+-- where the three rooms are not there are no cells: 23 is no room
+no_cells : (P : Space → Way → Cell → Type 0) → AreForEach three_rooms P (23 ∷ []) []
+no_cells P = tt
+
+-- and none more than those of the rooms that are present
+one_too_many : (P : Space → Way → Cell → Type 0) (c : Cell)
+    → AreForEach three_rooms P (23 ∷ []) (c ∷ []) → ⊥
+one_too_many P c all = all
+
+-- that of Bottom alone is one too few
+one_too_few : (P : Space → Way → Cell → Type 0) (c : Cell)
+    → AreForEach three_rooms P (20 ∷ []) (c ∷ []) → ⊥
+one_too_few P c all = all

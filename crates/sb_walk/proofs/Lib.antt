@@ -4,6 +4,14 @@ mod StepsOfSharing
 mod LeastPairs
 mod FineCellsHavePoints
 mod HeightsFit
+mod OffsetsFit
+mod LinesOfEdges
+mod PointsBetween
+mod EdgesBeside
+mod StripsOfGaps
+mod CellsListed
+mod SpacesFound
+mod CellsInGaps
 mod SortedOnce
 mod ReadAlong
 mod TurnedNumbers

@@ -167,11 +167,11 @@ module _ (d : Arrow) (a b : ℕ) where
 -- ---- the order of a slab
 
 -- an edge stands at each place
-abbrev HaveEdges : List PlanEdge → List ℕ → Type 0
+abbrev pub HaveEdges : List PlanEdge → List ℕ → Type 0
 HaveEdges edges places = AllByRecursion (λ k. (e : PlanEdge) × (slice_get edges k ≡ Some e)) places
 
 -- the edges at the first places are the first edges
-edges_at-take : (edges : List PlanEdge) (places : List ℕ) → HaveEdges edges places → (j : ℕ)
+pub edges_at-take : (edges : List PlanEdge) (places : List ℕ) → HaveEdges edges places → (j : ℕ)
     → edges_at edges (take j places) ≡ take j (edges_at edges places)
 edges_at-take edges [] have zero = refl
 edges_at-take edges [] have (suc j) = refl
@@ -201,7 +201,7 @@ x_is_way = omega (arith, ints)
 module _ (m : Building) (valid : IsTrue (is_building m)) (low high : Arrow)
     (slab : IsSlab m along_x low high) (order : List ℕ)
     (is : IsSlabOrder (plan_edges m) along_x low high order) where
-  have_edges : HaveEdges (plan_edges m) order
+  pub have_edges : HaveEdges (plan_edges m) order
   have_edges =
       all_that_stand (λ k. (e : PlanEdge) × (slice_get (plan_edges m) k ≡ Some e)) order
       (λ k k_in.
@@ -227,7 +227,7 @@ module _ (m : Building) (valid : IsTrue (is_building m)) (low high : Arrow)
   amid_in : IsRational (mediant low high)
   amid_in = mediant-IsRational low high slab.low_in slab.high_in
 
-  lines_are_told : LinesAreTold along_x (edges_at (plan_edges m) order)
+  pub lines_are_told : LinesAreTold along_x (edges_at (plan_edges m) order)
   lines_are_told e f e_in f_in =
       let between = mediant_between low high slab.wide in
       let none = slab.none (mediant low high) amid_in between.0 between.1 in

@@ -4,6 +4,9 @@ pub mod PointsOfCells
 pub mod WalksInGaps
 -- what its steps promise
 pub mod Shared
+pub mod GapsBetween
+pub mod CellsOfGaps
+pub mod Strips
 pub mod Ways
 pub mod Present
 pub mod Behind

@@ -62,7 +62,7 @@ pub fn level_walk(
 }
 
 /// The walk of a face of a space, by the products that are present in a gap and their positions.
-fn walk_of_space(
+pub(crate) fn walk_of_space(
     alloc: Global,
     model: &Model,
     present: &[u32],
@@ -79,7 +79,7 @@ fn walk_of_space(
 
 /// The position of the ground.
 #[tactic(auto, using(crate::proofs::HeightsFit::heights))]
-fn ground_position(model: &Model, way: Way) -> i32
+pub(crate) fn ground_position(model: &Model, way: Way) -> i32
     ensures value { result ≡ ground_along (normal_of way) model.now.ground_height }
     ensures is_building { IsTrue (is_building model.now) }
 {

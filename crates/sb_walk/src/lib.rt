@@ -4,6 +4,7 @@
 #![tactic(auto)]
 
 mod behind;
+mod cells;
 mod gaps;
 mod heights;
 mod laws;
@@ -11,6 +12,8 @@ mod levels;
 mod pairs;
 mod present;
 mod reading;
+mod sides;
+mod strip;
 mod way;
 
 pub use laws::cells_have_points;
