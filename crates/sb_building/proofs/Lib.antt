@@ -11,6 +11,7 @@ mod OneMore
 mod LeastIsFirst
 mod LeastOfProducts
 mod StandingOneByOne
+mod ShapingOneByOne
 mod MaterialsAreRead
 mod LayersOneByOne
 mod MadeOnce

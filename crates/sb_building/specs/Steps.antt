@@ -2,6 +2,7 @@
 pub mod Least
 pub mod Order
 pub mod Standing
+pub mod Shaping
 pub mod Given
 pub mod Layers
 pub mod Parts

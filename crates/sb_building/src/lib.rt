@@ -15,6 +15,7 @@ mod made;
 mod materials;
 mod once;
 mod ordered;
+mod shaping;
 mod standing;
 
 pub use crate::frames::{Placements, frame_in, no_placements};
