@@ -25,7 +25,7 @@ pub(crate) fn shape_each(
 {
     let mut all = Vec::new(alloc);
     'products: for product in products {
-        shape(alloc, file, *product, unit, &mut all, found)?;
+        shape(alloc, file, product, unit, &mut all, found)?;
     }
     Ok(all)
 }
@@ -34,20 +34,35 @@ pub(crate) fn shape_each(
 fn shape(
     alloc: Global,
     file: &StepFile<'_>,
-    product: Standing,
+    product: &Standing,
     unit: Unit,
     all: &mut Vec<Standing>,
     found: &mut Option<Defect>,
 ) -> Result<(), AllocError>
-    ensures { OnOk result (spec.IsOneMoreShaped file.now unit product all.old.items all.new.items
+    ensures { OnOk result (spec.IsOneMoreShaped file.now unit product.now all.old.items all.new.items
         found.old found.new) }
 {
-    match prism_of(alloc, file, product.shape, &product.frame, unit) {
-        Ok(_) => {
-            all.push(product)?;
+    match fills(alloc, file, product, unit) {
+        Ok(()) => {
+            all.push(*product)?;
             Ok(())
         }
         Err(error) => note(found, product.number, error),
+    }
+}
+
+/// Whether the shape of a product gives a prism in its frame, or why it gives none.
+fn fills(
+    alloc: Global,
+    file: &StepFile<'_>,
+    product: &Standing,
+    unit: Unit,
+) -> Result<(), PrismError>
+    ensures { spec.IsAnswered file.now unit product.now result }
+{
+    match prism_of(alloc, file, product.shape, &product.frame, unit) {
+        Ok(_) => Ok(()),
+        Err(error) => Err(error),
     }
 }
 

@@ -1,6 +1,6 @@
 -- Products that stand in frames as their shapes are judged, one after another: those that fill a prism, and
 -- the conditions of the others.
-use Rattle.std.specs.Prelude.{◌≡◌, ℕ, ◌⊎◌, List, [], ◌∷◌, ◌++◌, Option, Some, None, Ok, Err}
+use Rattle.std.specs.Prelude.{◌≡◌, ℕ, ◌⊎◌, List, [], ◌∷◌, ◌++◌, Option, Some, None, Result, Ok, Err}
 use Rattle.theory_lists.specs.Members.{Stands}
 use Rattle.sb_fraction.specs.declared.unit.Unit as units
 use Rattle.sb_step.specs.Indexed.{Indexed}
@@ -48,6 +48,11 @@ pub record AreShaped (i : Indexed) (u : units.Unit) (ss all : List Standing) (se
   pub filling_are : (s : Standing) → Stands s all → FillsPrism i u ss s
   pub seen_are : (n : ℕ) (k : Code) → Stands (n, k) seen → HasShapeFault i u ss n k
   pub each : (s : Standing) → Stands s ss → Stands s all ⊎ ((k : Code) × Stands (s.number, k) seen)
+
+-- whether its shape gives a prism, or why it gives none
+abbrev pub IsAnswered : Indexed → units.Unit → Standing → Result (Unit {0}) PrismError → Type 0
+IsAnswered i u s (Ok done) = (prism : Upright) × IsPrismOf i s.shape s.frame u (Ok prism)
+IsAnswered i u s (Err e) = IsPrismOf i s.shape s.frame u (Err e)
 
 -- one product more was judged
 abbrev pub IsOneMoreShaped : Indexed → units.Unit → Standing → List Standing → List Standing

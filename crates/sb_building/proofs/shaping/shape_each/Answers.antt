@@ -1,4 +1,4 @@
-use Rattle.std.proofs.Common.{[], ◌∷◌, ◌++◌, ◌∙◌, ap, take, sym, subst}
+use Rattle.std.proofs.Common.{[], ◌∷◌, ◌++◌, take, sym, ap, ◌∙◌, subst}
 use Rattle.std.proofs.lemmas.List.{take_more, take_all}
 use Rattle.sb_building.specs.Steps.Shaping.{ShapesAreJudged}
 use Rattle.sb_building.proofs.ShapingOneByOne.{shaped_none, shaped_more}
@@ -13,9 +13,10 @@ pub products-preserved : goal.products-preserved
 products-preserved c =
     subst (λ ps. ShapesAreJudged c.args.file.now c.args.unit ps c.shape.new.all.items c.args.found.now
     c.shape.new.found)
-    (ap (λ p. take c.products.product-index c.args.products.now ++ p ∷ []) c.product-item.is
-    ∙ sym (take_more c.args.products.now c.products.product-index c.product-item.result c.products-test.true))
-    (shaped_more c.args.file.now c.args.unit (take c.products.product-index c.args.products.now) c.product-item.result
+    (sym (take_more c.args.products.now c.products.product-index c.product-item.result c.products-test.true
+    ∙ ap (λ p. take c.products.product-index c.args.products.now ++ p ∷ []) (sym c.product-item.is)))
+    (shaped_more c.args.file.now c.args.unit (take c.products.product-index c.args.products.now)
+    c.product-item.result
     c.products.all.items c.shape.new.all.items c.args.found.now c.products.found c.shape.new.found
     c.products.invariant c.in_ok-shape.ensures)
 
