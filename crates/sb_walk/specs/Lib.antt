@@ -7,6 +7,7 @@ pub mod Shared
 pub mod GapsBetween
 pub mod CellsOfGaps
 pub mod Strips
+pub mod Appended
 pub mod Ways
 pub mod Present
 pub mod Behind

@@ -48,7 +48,7 @@ fn share_behind(edges: &PlanEdges, first: usize, behind: &[usize], a: u32, b: u3
 }
 
 /// Whether both ends of the second segment lie on the line of the first.
-fn are_collinear(s: &Segment, other: &Segment) -> bool
+pub(crate) fn are_collinear(s: &Segment, other: &Segment) -> bool
     requires first_in { IsTrue (is_in_range (edge_of s.now)) }
     requires second_in { IsTrue (is_in_range (edge_of other.now)) }
     ensures { result ≡ are_on_one_line (edge_of s.now) (edge_of other.now) }

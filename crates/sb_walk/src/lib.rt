@@ -5,6 +5,7 @@
 
 mod behind;
 mod cells;
+mod columns;
 mod gaps;
 mod heights;
 mod laws;
