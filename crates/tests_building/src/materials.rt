@@ -187,9 +187,7 @@ fn layering_after(
 ) -> Result<Vec<u8>, AllocError> {
     let mut known = no_materials(alloc);
     let unit = Unit::Millimetre;
-    layering_of(
-        alloc, file, &mut known, first, unit, None, prism, turn,
-    )?;
+    layering_of(alloc, file, &mut known, first, unit, None, prism, turn)?;
     let layering = layering_of(
         alloc,
         file,
@@ -255,7 +253,10 @@ fn a_metre_and_a_turn(rt: HostRuntime) -> Result<(), Fail> {
 
 /// A set of so many layers of thickness 0, and what is read of it.
 fn told_of_many(alloc: Global, members: usize) -> Result<bool, AllocError> {
-    let mut text = bytes(alloc, b"#2=IFCMATERIALLAYER($,0.,$,$,$,$,$);#1=IFCMATERIALLAYERSET((#2")?;
+    let mut text = bytes(
+        alloc,
+        b"#2=IFCMATERIALLAYER($,0.,$,$,$,$,$);#1=IFCMATERIALLAYERSET((#2",
+    )?;
     for _ in 1..members {
         text.extend_from_slice(b",#2")?;
     }
