@@ -5,10 +5,10 @@ use Rattle.std.specs.Bool.{MatchBool}
 use Rattle.std.specs.List.{AllByRecursion, list_any}
 use Rattle.std.proofs.lemmas.Bool.{eq-eqb}
 use Rattle.sb_model.specs.declared.boundary.Boundary.{Boundary}
-use Rattle.sb_model.specs.declared.face.FaceKind.{FaceKind}
+use Rattle.sb_model.specs.declared.faces.face.FaceKind.{FaceKind}
 use Rattle.sb_fraction.specs.Spots.{Spot, times_w}
-use Rattle.sb_model.specs.Faces.{Surface}
-use Rattle.sb_model.specs.Patches.{is_same_kind, is_in_patch}
+use Rattle.sb_model.specs.Surfaces.Faces.{Surface}
+use Rattle.sb_model.specs.Surfaces.Patches.{is_same_kind, is_in_patch}
 use Rattle.sb_model.specs.Boundaries.Covers.{is_top_at}
 use Rattle.theory_lists.specs.Members.{Stands, AllOfTwo}
 use Rattle.theory_lists.specs.OneOf.{ExactlyOne}

@@ -6,7 +6,7 @@ use Rattle.std.proofs.lemmas.Bool.{and_left}
 use Rattle.sb_fraction.specs.declared.unit.Unit as unit
 use Rattle.theory_numbers.proofs.Signs.{test_less, test_not_less}
 use Rattle.sb_model.specs.declared.frame.Frame.{Frame}
-use Rattle.sb_model.specs.declared.label.Label.TheVariants as label
+use Rattle.sb_model.specs.declared.labels.label.Label.TheVariants as label
 use Rattle.sb_model.specs.declared.products.Space.{Space}
 use Rattle.sb_fraction.specs.Spots.{Spot}
 use Rattle.theory_plans.specs.Inside.{is_in_plan}

@@ -14,14 +14,14 @@ use Rattle.theory_numbers.proofs.Ring.{mul_comm}
 use Rattle.theory_numbers.proofs.Products.{positive_product, negative_product, weak_product}
 use Rattle.theory_numbers.proofs.Products.{weak_negative_product}
 use Rattle.theory_cuttings.specs.Passages.{ray_start}
-use Rattle.sb_model.specs.declared.face.FaceKind.TheVariants as kind
-use Rattle.sb_model.specs.declared.label.Label.{Label}
-use Rattle.sb_model.specs.declared.label.Label.TheVariants as label
+use Rattle.sb_model.specs.declared.faces.face.FaceKind.TheVariants as kind
+use Rattle.sb_model.specs.declared.labels.label.Label.{Label}
+use Rattle.sb_model.specs.declared.labels.label.Label.TheVariants as label
 use Rattle.sb_fraction.specs.Spots.{Spot, IsSpot, vector, along, times_w}
 use Rattle.theory_plans.specs.Inside.{is_in_plan}
 use Rattle.sb_model.specs.Solids.{is_between_heights}
 use Rattle.sb_model.specs.Labels.{label_at, open_label}
-use Rattle.sb_model.specs.Faces.{bottom_of, top_of, is_in_plane, is_of_face}
+use Rattle.sb_model.specs.Surfaces.Faces.{bottom_of, top_of, is_in_plane, is_of_face}
 use Rattle.sb_fraction.specs.Directions.{axis_x, axis_y, axis_z}
 use Rattle.theory_plans.specs.Rectangles.{rectangle, is_between_xs, is_between_ys}
 use Rattle.theory_plans.proofs.InsideRectangle.{inside_rectangle}

@@ -5,9 +5,9 @@ use Rattle.sb_model.specs.declared.boundary.Boundary.{Boundary}
 use Rattle.sb_box.specs.BoxList.{BoxPatch, IsBoxBoundary, AreBoxBoundaries, IsBoxList, box_patch}
 use Rattle.sb_box.specs.BoxList.{box_patches, side_patches, is_cut, above, below}
 use Rattle.sb_box.specs.declared.extent.Extent.{Extent}
-use Rattle.sb_model.specs.declared.face.FaceKind.TheVariants as kind
+use Rattle.sb_model.specs.declared.faces.face.FaceKind.TheVariants as kind
 use Rattle.sb_model.specs.declared.walk.End.{End}
-use Rattle.sb_model.specs.declared.face.FaceKind.{FaceKind}
+use Rattle.sb_model.specs.declared.faces.face.FaceKind.{FaceKind}
 use Rattle.sb_model.specs.declared.walk.End.TheVariants as end
 
 appended : (space : ℕ) (ps : List BoxPatch) (list : List Boundary) (p : BoxPatch) (b : Boundary)

@@ -5,24 +5,24 @@ use Rattle.std.specs.List.{list_any}
 use Rattle.std.proofs.lemmas.Bool.{eq-eqb, and_from, and_left}
 use Rattle.std.proofs.lemmas.Int.{ints}
 use Rattle.theory_numbers.specs.Rationals.{IsSame}
-use Rattle.theory_numbers.proofs.Arrows.{cross-self}
+use Rattle.theory_numbers.proofs.Vectors.Arrows.{cross-self}
 use Rattle.theory_numbers.proofs.Signs.{less_from}
 use Rattle.theory_numbers.specs.Fractions.{Ratio, whole}
 use Rattle.theory_plane.specs.Sides.{LineSide, level, clearance_at}
 use Rattle.theory_plane.proofs.Clearance.{clearance-self}
 use Rattle.sb_model.specs.declared.boundary.Boundary.{Boundary}
-use Rattle.sb_model.specs.declared.face.Face.{Face}
-use Rattle.sb_model.specs.declared.face.FaceKind.{FaceKind}
-use Rattle.sb_model.specs.declared.face.FaceKind.TheVariants as kind
+use Rattle.sb_model.specs.declared.faces.face.Face.{Face}
+use Rattle.sb_model.specs.declared.faces.face.FaceKind.{FaceKind}
+use Rattle.sb_model.specs.declared.faces.face.FaceKind.TheVariants as kind
 use Rattle.sb_model.specs.declared.products.Space.{Space}
 use Rattle.sb_model.specs.declared.walk.End.{End}
 use Rattle.sb_model.specs.declared.walk.Walk.{Walk}
 use Rattle.sb_fraction.specs.Spots.{Spot, IsSpot, times_w}
 use Rattle.sb_model.specs.Building.{Building}
-use Rattle.sb_model.specs.Sides.{arrow_of, line_of}
-use Rattle.sb_model.specs.Faces.{Surface, surface_of, space_numbered, has_face, is_of_face}
-use Rattle.sb_model.specs.PlainPoints.{is_plain}
-use Rattle.sb_model.specs.Patches.{is_same_kind, is_in_patch, is_child_of, is_id}
+use Rattle.sb_model.specs.Surfaces.Sides.{arrow_of, line_of}
+use Rattle.sb_model.specs.Surfaces.Faces.{Surface, surface_of, space_numbered, has_face, is_of_face}
+use Rattle.sb_model.specs.Surfaces.PlainPoints.{is_plain}
+use Rattle.sb_model.specs.Surfaces.Patches.{is_same_kind, is_in_patch, is_child_of, is_id}
 use Rattle.theory_lists.specs.Members.{Stands}
 use Rattle.sb_model.specs.Boundaries.Places.{boundary_at}
 use Rattle.sb_model.specs.Boundaries.Covers.{Covers, CoversFace, is_top_at}

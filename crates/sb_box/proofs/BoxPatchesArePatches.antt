@@ -13,14 +13,14 @@ use Rattle.theory_numbers.specs.Arrows.{cross, dot}
 use Rattle.theory_numbers.specs.Rationals.{is_below}
 use Rattle.theory_plane.specs.Sides.{level, clearance, clearance_at}
 use Rattle.theory_plane.specs.Regions.{is_region}
-use Rattle.sb_model.specs.Sides.{is_abscissa_size, is_side_of, is_patch, line_of, arrow_of}
-use Rattle.sb_model.specs.Sides.{region_between, greatest_offset, greatest_abscissa_num}
-use Rattle.sb_model.specs.declared.face.FaceKind.{FaceKind}
-use Rattle.sb_model.specs.declared.face.FaceKind.TheVariants as kind
-use Rattle.sb_model.specs.declared.face.Side.{Side}
-use Rattle.sb_model.specs.declared.face.Side.TheVariants.{OnLine, Height}
-use Rattle.theory_numbers.proofs.GreatestDivisor.{coprime-one}
-use Rattle.theory_numbers.proofs.LowestTerms.{reduced-one}
+use Rattle.sb_model.specs.Surfaces.Sides.{is_abscissa_size, is_side_of, is_patch, line_of, arrow_of}
+use Rattle.sb_model.specs.Surfaces.Sides.{region_between, greatest_offset, greatest_abscissa_num}
+use Rattle.sb_model.specs.declared.faces.face.FaceKind.{FaceKind}
+use Rattle.sb_model.specs.declared.faces.face.FaceKind.TheVariants as kind
+use Rattle.sb_model.specs.declared.faces.face.Side.{Side}
+use Rattle.sb_model.specs.declared.faces.face.Side.TheVariants.{OnLine, Height}
+use Rattle.theory_numbers.proofs.Fractions.GreatestDivisor.{coprime-one}
+use Rattle.theory_numbers.proofs.Fractions.LowestTerms.{reduced-one}
 use Rattle.theory_numbers.proofs.Signs.{test_less, less_from}
 use Rattle.sb_box.specs.declared.extent.Extent.{Extent}
 use Rattle.sb_box.specs.BoxList.{is_cut, IsLevelFace}

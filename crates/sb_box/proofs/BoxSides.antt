@@ -17,16 +17,16 @@ use Rattle.theory_plans.specs.Inside.{is_in_plan}
 use Rattle.sb_fraction.specs.Edges.{Edge, edge, is_on}
 use Rattle.sb_model.specs.PlanEdges.{is_abscissa, plan_edges}
 use Rattle.sb_fraction.specs.Crossings.{ends_over, cross_over}
-use Rattle.sb_model.specs.Faces.{Surface, side_over, is_in_plane}
+use Rattle.sb_model.specs.Surfaces.Faces.{Surface, side_over, is_in_plane}
 use Rattle.sb_fraction.specs.Directions.{axis_x, axis_y, axis_z}
 use Rattle.theory_plans.specs.Rectangles.{corner, rectangle, is_between_xs, is_between_ys}
 use Rattle.theory_plans.proofs.InsideRectangle.{inside_rectangle}
-use Rattle.theory_plans.proofs.DirectionsAlongAxes.{IsHeaded, headed_east, headed_west}
-use Rattle.theory_plans.proofs.DirectionsAlongAxes.{headed_north, headed_south}
-use Rattle.theory_plans.proofs.OnEdgesAlongAxes.{AreAbout, about_rising, about_turned}
-use Rattle.theory_plans.proofs.OnEdgesAlongAxes.{about_between, on_edge_along_x, edge_along_x_on}
-use Rattle.theory_plans.proofs.OnEdgesAlongAxes.{on_edge_along_y, edge_along_y_on, no_end_along_x}
-use Rattle.theory_plans.proofs.OnEdgesAlongAxes.{no_end_along_y}
+use Rattle.theory_plans.proofs.Edges.DirectionsAlongAxes.{IsHeaded, headed_east, headed_west}
+use Rattle.theory_plans.proofs.Edges.DirectionsAlongAxes.{headed_north, headed_south}
+use Rattle.theory_plans.proofs.Edges.OnEdgesAlongAxes.{AreAbout, about_rising, about_turned}
+use Rattle.theory_plans.proofs.Edges.OnEdgesAlongAxes.{about_between, on_edge_along_x, edge_along_x_on}
+use Rattle.theory_plans.proofs.Edges.OnEdgesAlongAxes.{on_edge_along_y, edge_along_y_on, no_end_along_x}
+use Rattle.theory_plans.proofs.Edges.OnEdgesAlongAxes.{no_end_along_y}
 use Rattle.sb_box.specs.declared.extent.Extent.{Extent}
 use Rattle.sb_box.proofs.BoxLabels.{Besides, box_model}
 

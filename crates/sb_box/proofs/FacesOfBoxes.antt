@@ -12,22 +12,22 @@ use Rattle.theory_numbers.proofs.Signs.{less_from, test_less}
 use Rattle.theory_numbers.proofs.Products.{scale_at_most, negative_product, weak_product}
 use Rattle.theory_numbers.proofs.Ring.{mul_comm}
 use Rattle.theory_cuttings.specs.Passages.{ray_start}
-use Rattle.sb_model.specs.declared.face.FaceKind.{FaceKind}
-use Rattle.sb_model.specs.declared.face.FaceKind.TheVariants as kind
-use Rattle.sb_model.specs.declared.label.Label.TheVariants as label
+use Rattle.sb_model.specs.declared.faces.face.FaceKind.{FaceKind}
+use Rattle.sb_model.specs.declared.faces.face.FaceKind.TheVariants as kind
+use Rattle.sb_model.specs.declared.labels.label.Label.TheVariants as label
 use Rattle.sb_model.specs.declared.walk.End.{End}
 use Rattle.sb_model.specs.declared.walk.End.TheVariants as end
 use Rattle.sb_fraction.specs.Spots.{Spot, Vector, IsSpot, along, reading, times_w}
 use Rattle.sb_fraction.specs.Edges.{Edge, is_on}
 use Rattle.sb_model.specs.Solids.{is_between_heights}
 use Rattle.sb_model.specs.PlanEdges.{is_abscissa}
-use Rattle.sb_model.specs.PlainPoints.{is_plain, is_off_cuts, is_off_side_cuts, is_at_height}
-use Rattle.sb_model.specs.PlainPoints.{is_at_ground}
+use Rattle.sb_model.specs.Surfaces.PlainPoints.{is_plain, is_off_cuts, is_off_side_cuts, is_at_height}
+use Rattle.sb_model.specs.Surfaces.PlainPoints.{is_at_ground}
 use Rattle.sb_model.specs.Labels.{label_at, open_label}
-use Rattle.sb_model.specs.Faces.{Surface, side_over, is_in_plane, is_of_face, is_of_side}
-use Rattle.sb_model.specs.Faces.{edge_numbered, bottom_of, top_of}
+use Rattle.sb_model.specs.Surfaces.Faces.{Surface, side_over, is_in_plane, is_of_face, is_of_side}
+use Rattle.sb_model.specs.Surfaces.Faces.{edge_numbered, bottom_of, top_of}
 use Rattle.sb_fraction.specs.Directions.{direction_of, axis_z}
-use Rattle.sb_model.specs.Patches.{is_same_kind}
+use Rattle.sb_model.specs.Surfaces.Patches.{is_same_kind}
 use Rattle.theory_lists.specs.OneOf.{ExactlyOne}
 use Rattle.theory_models.proofs.PatchesBetweenLevels.{is_in_window}
 use Rattle.theory_lists.proofs.Members.{all_follow}

@@ -9,11 +9,11 @@ use Rattle.std.proofs.lemmas.Bool.{and_from, and_parts, and_left, and_right, or_
 use Rattle.std.proofs.lemmas.Bool.{eqb-true, eq-eqb, ne_eqb, cases_lt}
 use Rattle.theory_numbers.proofs.Signs.{test_less, test_not_less, test_at_most, test_not_at_most}
 use Rattle.theory_numbers.proofs.Signs.{less_from}
-use Rattle.sb_model.specs.declared.face.FaceKind.{FaceKind}
-use Rattle.sb_model.specs.declared.face.FaceKind.TheVariants as kind
+use Rattle.sb_model.specs.declared.faces.face.FaceKind.{FaceKind}
+use Rattle.sb_model.specs.declared.faces.face.FaceKind.TheVariants as kind
 use Rattle.sb_model.specs.declared.walk.End.{End}
 use Rattle.sb_model.specs.declared.walk.End.TheVariants as end
-use Rattle.sb_model.specs.Patches.{is_same_kind}
+use Rattle.sb_model.specs.Surfaces.Patches.{is_same_kind}
 use Rattle.sb_model.specs.Boundaries.Order.{rank_of}
 use Rattle.theory_lists.specs.Members.{AllOfTwo}
 use Rattle.theory_lists.specs.OneOf.{ExactlyOne}

@@ -3,10 +3,10 @@ use Rattle.std.specs.Prelude.{◌≡◌, ℕ, ℤ, pos, Bool, ◌&&◌, List, []
 use Rattle.std.specs.Prelude.{if◌then◌else◌}
 use Rattle.theory_numbers.specs.Fractions.{whole}
 use Rattle.theory_plane.specs.Sides.{level}
-use Rattle.sb_model.specs.Sides.{line_of}
+use Rattle.sb_model.specs.Surfaces.Sides.{line_of}
 use Rattle.sb_model.specs.declared.boundary.Boundary.{Boundary}
-use Rattle.sb_model.specs.declared.face.FaceKind.{FaceKind}
-use Rattle.sb_model.specs.declared.face.FaceKind.TheVariants as kind
+use Rattle.sb_model.specs.declared.faces.face.FaceKind.{FaceKind}
+use Rattle.sb_model.specs.declared.faces.face.FaceKind.TheVariants as kind
 use Rattle.sb_model.specs.declared.walk.End.{End}
 use Rattle.sb_model.specs.declared.walk.End.TheVariants as end
 use Rattle.sb_box.specs.declared.extent.Extent.{Extent}

@@ -10,7 +10,7 @@ ghost use Rattle.theory_numbers.specs.Fractions.{whole};
 ghost use Rattle.sb_model.specs.Boundaries.Order.{IsInOrder};
 ghost use Rattle.sb_model.specs.Boundaries.Sound.{IsSound};
 ghost use Rattle.theory_plane.specs.Sides.{level};
-ghost use Rattle.sb_model.specs.Sides.{line_of, is_side_of};
+ghost use Rattle.sb_model.specs.Surfaces.Sides.{line_of, is_side_of};
 
 use crate::extent::{Extent, Interval};
 use sb_fraction::{Direction, Fraction, Line};

@@ -32,7 +32,7 @@ use Rattle.sb_profile.specs.Following.{building_placement}
 use Rattle.sb_building.specs.Placings.{IsFrameIn, IsPrismIn, IsPlacedIn}
 use Rattle.sb_building.specs.Layerings.{layering_by}
 use Rattle.sb_building.specs.Models.{IsSpaceOf, IsElementOf, IsOpeningOf, IsFillingOf, IsModelBy, global_id_of, kind_of}
-use Rattle.sb_building.proofs.ShapesByContents.{shape_at, one_shape}
+use Rattle.sb_building.proofs.Followed.ShapesByContents.{shape_at, one_shape}
 
 -- ---- the products of a model rise
 

@@ -5,18 +5,13 @@
 //! `specs/Models.antt`, the model of a file.
 #![tactic(auto)]
 
-mod assembled;
-mod filling;
 mod frames;
+mod judging;
 mod laws;
-mod layer_faults;
-mod least;
+mod lists;
 mod made;
 mod materials;
 mod once;
-mod ordered;
-mod shaping;
-mod standing;
 
 pub use crate::frames::{Placements, frame_in, no_placements};
 pub use crate::laws::{least_of_products, one_first_of_all, one_model, products_are_read};

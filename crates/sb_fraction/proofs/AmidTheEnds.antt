@@ -10,17 +10,17 @@ use Rattle.theory_lists.specs.Parity.{differ}
 use Rattle.theory_numbers.specs.Tests.{is_positive}
 use Rattle.theory_numbers.specs.Arrows.{Arrow, cross, dot}
 use Rattle.theory_numbers.specs.Rationals.{IsRational, IsBelow, IsAtMost, rational, is_below}
-use Rattle.theory_numbers.proofs.Arrows.{cross-self, cross-turn}
+use Rattle.theory_numbers.proofs.Vectors.Arrows.{cross-self, cross-turn}
 use Rattle.theory_numbers.proofs.Ring.{mul-one}
 use Rattle.theory_numbers.proofs.Signs.{less_from, not_less_from}
-use Rattle.theory_numbers.proofs.Rationals.{below_or_not, at_most_trans, at_most_below_trans}
+use Rattle.theory_numbers.proofs.Fractions.Rationals.{below_or_not, at_most_trans, at_most_below_trans}
 use Rattle.theory_numbers.proofs.Products.{positive_product, product_of_negatives}
 use Rattle.theory_numbers.proofs.Shapes.{var, minus, plus, times, equal}
 use Rattle.sb_fraction.specs.declared.point.Point.{Point}
 use Rattle.sb_fraction.specs.Edges.{Edge, span_of}
 use Rattle.sb_fraction.specs.Crossings.{abscissa_at, ends_over}
 use Rattle.sb_fraction.specs.Lines.{place, flat, lies_after, reaches_past}
-use Rattle.sb_fraction.proofs.CrossingByGap.{IsAmid}
+use Rattle.sb_fraction.proofs.Meetings.CrossingByGap.{IsAmid}
 
 -- no end with this abscissa comes after w and up to u
 abbrev IsNoEnd : ℤ → Arrow → Arrow → Type 0

@@ -9,11 +9,11 @@ use Rattle.std.proofs.lemmas.Int.{to_z-of_z, ints, by_lt_z}
 use Rattle.std.specs.Ordering.{int_cmp, MatchOrdering}
 use Rattle.std.specs.Cmp.{int_cmp_is, int_ranks}
 use Rattle.theory_numbers.specs.Arrows.{Arrow, cross}
-use Rattle.theory_numbers.proofs.Arrows.{cross-self}
+use Rattle.theory_numbers.proofs.Vectors.Arrows.{cross-self}
 use Rattle.theory_numbers.specs.Fractions.{Ratio, is_lowest}
 use Rattle.theory_numbers.proofs.Ring.{mul_comm}
-use Rattle.theory_numbers.proofs.LowestTerms.{lowest_is_reduced}
-use Rattle.theory_numbers.proofs.Reduced.{fraction_unique}
+use Rattle.theory_numbers.proofs.Fractions.LowestTerms.{lowest_is_reduced}
+use Rattle.theory_numbers.proofs.Fractions.Reduced.{fraction_unique}
 use Rattle.sb_fraction.specs.Numbers.{number, order_of, ratio}
 use Rattle.sb_fraction.specs.Bounds.{is_fraction, is_in_bounds, is_abscissa_size}
 use Rattle.sb_fraction.specs.Bounds.{greatest_abscissa, greatest_cross, greatest_offset}

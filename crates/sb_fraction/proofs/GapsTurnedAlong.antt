@@ -6,13 +6,13 @@ use Rattle.std.proofs.lemmas.Int.{ints}
 use Rattle.theory_numbers.specs.Tests.{is_positive}
 use Rattle.theory_numbers.specs.Arrows.{Arrow, cross, dot, opposite}
 use Rattle.theory_numbers.specs.Rationals.{value_at}
-use Rattle.theory_numbers.proofs.Arrows.{same_arrow, opposite-cross, cross-opposite, opposite-dot}
-use Rattle.theory_numbers.proofs.Arrows.{dot_comm}
+use Rattle.theory_numbers.proofs.Vectors.Arrows.{same_arrow, opposite-cross, cross-opposite, opposite-dot}
+use Rattle.theory_numbers.proofs.Vectors.Arrows.{dot_comm}
 use Rattle.theory_numbers.proofs.Shapes.{var, minus, times, negated, equal}
 use Rattle.sb_fraction.specs.Edges.{Edge, span_of}
 use Rattle.sb_fraction.specs.Lines.{place, span_along}
 use Rattle.sb_fraction.specs.Steps.{gap_between, gap_over}
-use Rattle.sb_fraction.proofs.CrossingByGap.{plain_gap}
+use Rattle.sb_fraction.proofs.Meetings.CrossingByGap.{plain_gap}
 
 dot-opposite : (a b : Arrow) → dot a (opposite b) ≡ neg_ℤ (dot a b)
 dot-opposite a b = dot_comm a (opposite b) ∙ opposite-dot b a ∙ ap neg_ℤ (dot_comm b a)

@@ -1,17 +1,10 @@
 -- The laws that the calls cite.
-mod ReducedInBounds
+mod Ranges
 mod Passing
-mod ProductsFit
-mod CoordinatesFit
-mod PointsByShares
-mod CommonPointHasShares
-mod MeetingIsCommon
-mod MeetingInRange
-mod ShortVectors
+mod Meetings
 mod SidesOfPoints
 mod FractionsInOrder
 mod LinesByGaps
-mod CrossingByGap
 mod GapsTurnedAlong
 mod AmidTheEnds
 mod OrderAtHolds

@@ -7,8 +7,8 @@ use Rattle.std.proofs.Common.{Bool, true, false, if◌then◌else◌}
 use Rattle.std.proofs.lemmas.Int.{ints, by_lt_z}
 use Rattle.theory_numbers.specs.Tests.{is_positive}
 use Rattle.theory_numbers.specs.Arrows.{Arrow, arrow, cross, dot, opposite}
-use Rattle.theory_numbers.proofs.Arrows.{opposite-cross, dot_comm, opposite-dot}
-use Rattle.theory_numbers.proofs.ThreeTerms.{frame_cross}
+use Rattle.theory_numbers.proofs.Vectors.Arrows.{opposite-cross, dot_comm, opposite-dot}
+use Rattle.theory_numbers.proofs.Vectors.ThreeTerms.{frame_cross}
 use Rattle.theory_numbers.proofs.Ring.{mul-sub, mul_comm, mul_assoc}
 use Rattle.theory_numbers.proofs.Signs.{less_from, not_less_from}
 use Rattle.theory_numbers.proofs.Shapes.{var, minus, times, equal}

@@ -10,8 +10,8 @@ use Rattle.std.specs.Ordering.{int_eq, int_cmp}
 use Rattle.std.specs.Cmp.{signed_Decides, int_cmp_is}
 use Rattle.theory_numbers.specs.Arrows.{Arrow, cross, dot, scale}
 use Rattle.theory_numbers.specs.Rationals.{value_at}
-use Rattle.theory_numbers.proofs.Arrows.{same_arrow, scale-dot}
-use Rattle.theory_numbers.proofs.ThreeTerms.{frame_cross}
+use Rattle.theory_numbers.proofs.Vectors.Arrows.{same_arrow, scale-dot}
+use Rattle.theory_numbers.proofs.Vectors.ThreeTerms.{frame_cross}
 use Rattle.theory_numbers.proofs.Ring.{mul_comm, mul-zero}
 use Rattle.theory_numbers.proofs.Signs.{sign_cases}
 use Rattle.theory_numbers.proofs.Products.{positive_product, negative_product}

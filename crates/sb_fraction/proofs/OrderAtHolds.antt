@@ -14,7 +14,7 @@ use Rattle.theory_numbers.specs.Arrows.{Arrow, arrow, cross, dot}
 use Rattle.theory_numbers.specs.Divisors.{are_coprime}
 use Rattle.theory_numbers.specs.Fractions.{Ratio}
 use Rattle.theory_numbers.specs.Rationals.{IsRational, IsForm, value_at}
-use Rattle.theory_numbers.proofs.Arrows.{cross-turn}
+use Rattle.theory_numbers.proofs.Vectors.Arrows.{cross-turn}
 use Rattle.theory_numbers.proofs.Ring.{mul_comm, mul-zero, zero-mul, one-mul}
 use Rattle.theory_numbers.proofs.Signs.{equal_or_not, less_from}
 use Rattle.theory_numbers.proofs.Products.{zero_of_positive, zero_factor, positive_square}
@@ -32,9 +32,9 @@ use Rattle.sb_fraction.specs.Numbers.{number}
 use Rattle.sb_fraction.specs.Steps.{turn_between, share_of, gap_between, gap_over, gap_order}
 use Rattle.sb_fraction.proofs.SidesOfPoints.{seen_from_point}
 use Rattle.sb_fraction.proofs.FractionsInOrder.{equal_is_zero}
-use Rattle.sb_fraction.proofs.CommonPointHasShares.{turn_by_way}
-use Rattle.sb_fraction.proofs.CrossingByGap.{plain_gap, gap-x, cross-way}
-use Rattle.sb_fraction.proofs.CrossingByGap.{crosses_if_zero}
+use Rattle.sb_fraction.proofs.Meetings.CommonPointHasShares.{turn_by_way}
+use Rattle.sb_fraction.proofs.Meetings.CrossingByGap.{plain_gap, gap-x, cross-way}
+use Rattle.sb_fraction.proofs.Meetings.CrossingByGap.{crosses_if_zero}
 use Rattle.sb_fraction.proofs.GapsTurnedAlong.{gap_is_like, zero_if_like, zero_parts_if_like}
 use Rattle.sb_fraction.proofs.GapsTurnedAlong.{zero_slope_if_like}
 use Rattle.sb_fraction.proofs.AmidTheEnds.{amid_the_ends, moves_if_reaches}

@@ -68,7 +68,7 @@ impl Fraction {
 }
 
 /// Numerator and denominator of the number `num/den` in lowest terms.
-#[tactic(auto, using(crate::proofs::ReducedInBounds::lowest), unfolding(theory_numbers::specs::Fractions::reduced))]
+#[tactic(auto, using(crate::proofs::Ranges::ReducedInBounds::lowest), unfolding(theory_numbers::specs::Fractions::reduced))]
 pub fn reduce(num: i128, den: i128) -> (i128, i128)
     requires positive { pos 0 <ℤ den }
     requires num_size { unsigned_abs num ≤ greatest_num }

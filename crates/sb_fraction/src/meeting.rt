@@ -20,7 +20,7 @@ use crate::{HPoint, Segment};
 /// - `None`: exactly where they are parallel, also where they overlap, or have no common point.
 /// - `Some(p)`: `p` is the one point that lies on both, and `p.w` is the size of the cross product
 ///   of the two vectors from `a` to `b`. It is not in lowest terms.
-#[tactic(auto, using(crate::proofs::MeetingInRange::meetings))]
+#[tactic(auto, using(crate::proofs::Meetings::MeetingInRange::meetings))]
 pub fn meet(a: &Segment, b: &Segment) -> Option<HPoint>
     requires first_in { IsTrue (is_in_range (edge_of a.now)) }
     requires second_in { IsTrue (is_in_range (edge_of b.now)) }
@@ -35,7 +35,7 @@ pub fn meet(a: &Segment, b: &Segment) -> Option<HPoint>
 }
 
 /// Whether the two are not parallel, and the point where their lines meet lies on both.
-#[tactic(auto, using(crate::proofs::MeetingInRange::meetings))]
+#[tactic(auto, using(crate::proofs::Meetings::MeetingInRange::meetings))]
 fn have_one_point(a: &Segment, b: &Segment) -> bool
     requires first_in { IsTrue (is_in_range (edge_of a.now)) }
     requires second_in { IsTrue (is_in_range (edge_of b.now)) }
@@ -51,7 +51,7 @@ fn have_one_point(a: &Segment, b: &Segment) -> bool
 }
 
 /// Whether the line of `b` meets that of `a` within `a`, where the two are not parallel.
-#[tactic(auto, using(crate::proofs::MeetingInRange::meetings))]
+#[tactic(auto, using(crate::proofs::Meetings::MeetingInRange::meetings))]
 fn is_met(a: &Segment, b: &Segment) -> bool
     requires first_in { IsTrue (is_in_range (edge_of a.now)) }
     requires second_in { IsTrue (is_in_range (edge_of b.now)) }
@@ -61,7 +61,7 @@ fn is_met(a: &Segment, b: &Segment) -> bool
 }
 
 /// Whether `s/w` lies from 0 to 1. With `s·s <= s·w` the sign of `w` does not matter.
-#[tactic(auto, using(crate::proofs::ProductsFit::products))]
+#[tactic(auto, using(crate::proofs::Ranges::ProductsFit::products))]
 fn is_part(w: i64, s: i64) -> bool
     requires turn_in { unsigned_abs w ≤ greatest_cross }
     requires share_in { unsigned_abs s ≤ greatest_cross }
@@ -93,7 +93,7 @@ fn share(a: &Segment, b: &Segment) -> i64
 }
 
 /// The point where the lines of two segments meet.
-#[tactic(auto, using(crate::proofs::MeetingInRange::meetings))]
+#[tactic(auto, using(crate::proofs::Meetings::MeetingInRange::meetings))]
 fn meeting(a: &Segment, b: &Segment) -> HPoint
     requires first_in { IsTrue (is_in_range (edge_of a.now)) }
     requires second_in { IsTrue (is_in_range (edge_of b.now)) }
@@ -109,7 +109,7 @@ fn meeting(a: &Segment, b: &Segment) -> HPoint
 }
 
 /// A coordinate of the point that lies the share `s/w` of `step` after `a`, times `w`.
-#[tactic(auto, using(crate::proofs::CoordinatesFit::coordinates))]
+#[tactic(auto, using(crate::proofs::Ranges::CoordinatesFit::coordinates))]
 fn coordinate(a: i32, w: i64, s: i64, step: i64) -> i128
     requires coordinate_in { unsigned_abs a ≤ greatest_coordinate }
     requires turn_in { unsigned_abs w ≤ greatest_cross }
@@ -122,7 +122,7 @@ fn coordinate(a: i32, w: i64, s: i64, step: i64) -> i128
 }
 
 /// The point `(x/w, y/w)`, with its denominator made positive.
-#[tactic(auto, using(crate::proofs::CoordinatesFit::coordinates))]
+#[tactic(auto, using(crate::proofs::Ranges::CoordinatesFit::coordinates))]
 fn positive_point(x: i128, y: i128, w: i64) -> HPoint
     requires x_in { unsigned_abs x ≤ greatest_offset }
     requires y_in { unsigned_abs y ≤ greatest_offset }

@@ -88,7 +88,7 @@ fn turned_along(way: Span, s: &Segment) -> Span
 }
 
 /// The gap of two lines at the abscissa 0, times the parts of their vectors along `way`.
-#[tactic(auto, using(crate::proofs::CoordinatesFit::coordinates))]
+#[tactic(auto, using(crate::proofs::Ranges::CoordinatesFit::coordinates))]
 fn offset_between(way: Span, first: Span, a: Point, second: Span, b: Point) -> i128
     requires a_in { IsTrue (is_plan_point a) }
     requires b_in { IsTrue (is_plan_point b) }
@@ -101,7 +101,7 @@ fn offset_between(way: Span, first: Span, a: Point, second: Span, b: Point) -> i
     )
 }
 
-#[tactic(auto, using(crate::proofs::CoordinatesFit::coordinates))]
+#[tactic(auto, using(crate::proofs::Ranges::CoordinatesFit::coordinates))]
 fn difference(a: i128, b: i128) -> i128
     requires a_in { unsigned_abs a ≤ greatest_square }
     requires b_in { unsigned_abs b ≤ greatest_square }

@@ -46,7 +46,7 @@ impl Span {
     }
 
     /// The way from the origin to a plan point.
-    #[tactic(auto, using(crate::proofs::ShortVectors::short_vectors))]
+    #[tactic(auto, using(crate::proofs::Ranges::ShortVectors::short_vectors))]
     pub(crate) fn to(p: Point) -> Span
         requires { IsTrue (is_plan_point p) }
         ensures value { result ≡ place p }
@@ -58,7 +58,7 @@ impl Span {
     }
 
     /// A direction as a vector.
-    #[tactic(auto, using(crate::proofs::ShortVectors::short_vectors))]
+    #[tactic(auto, using(crate::proofs::Ranges::ShortVectors::short_vectors))]
     pub(crate) fn along(d: Direction) -> Span
         ensures value { result ≡ arrow_along d }
     {
@@ -69,7 +69,7 @@ impl Span {
     }
 
     /// The vector that points the other way.
-    #[tactic(auto, using(crate::proofs::ShortVectors::short_vectors))]
+    #[tactic(auto, using(crate::proofs::Ranges::ShortVectors::short_vectors))]
     pub(crate) fn opposite(self) -> Span
         ensures value { result ≡ opposite self }
     {

@@ -5,7 +5,7 @@ use Rattle.std.specs.Fmt.{digits}
 use Rattle.theory_numbers.specs.Fractions.{Ratio}
 use Rattle.sb_fixed.specs.Printed.{scaled_text}
 use Rattle.sb_fixed.specs.Rounding.{rounded}
-use Rattle.sb_model.specs.declared.face.FaceKind.TheVariants as kind
+use Rattle.sb_model.specs.declared.faces.face.FaceKind.TheVariants as kind
 use Rattle.sb_model.specs.declared.walk.End.TheVariants as end
 use Rattle.sb_idf_out.specs.FirstUse.{each_once, number_in}
 use Rattle.sb_idf_out.specs.Materials.{material, is_same_material}

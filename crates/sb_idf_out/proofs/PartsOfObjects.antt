@@ -5,7 +5,7 @@ use Rattle.std.proofs.lemmas.Grind.{common_steps}
 use Rattle.std.proofs.lemmas.List.{append_assoc}
 use Rattle.std.proofs.lemmas.List.Folds.{flat_map-map}
 use Rattle.sb_model.specs.declared.boundary.Boundary.{Boundary}
-use Rattle.sb_model.specs.declared.corner.Corners.{Corners}
+use Rattle.sb_model.specs.declared.patches.corner.Corners.{Corners}
 use Rattle.sb_model.specs.declared.products.FillKind.{FillKind}
 use Rattle.sb_idf_out.specs.Fields.{fields_text, corner_fields, condition_object, name_where, material_name}
 use Rattle.sb_idf_out.specs.Objects.{surface_object, filling_object, construction_object}

@@ -5,11 +5,11 @@ use Rattle.std.specs.List.{flat_map}
 use Rattle.theory_numbers.specs.Fractions.{Ratio}
 use Rattle.sb_fixed.specs.Printed.{scaled_text}
 use Rattle.sb_fixed.specs.Rounding.{scaled, rounded}
-use Rattle.sb_model.specs.declared.corner.Corner.{Corner}
-use Rattle.sb_model.specs.declared.corner.Corners.{Corners}
-use Rattle.sb_model.specs.declared.corner.Corners.TheVariants.{Three, Four}
-use Rattle.sb_model.specs.declared.face.FaceKind.{FaceKind}
-use Rattle.sb_model.specs.declared.face.FaceKind.TheVariants as kind
+use Rattle.sb_model.specs.declared.patches.corner.Corner.{Corner}
+use Rattle.sb_model.specs.declared.patches.corner.Corners.{Corners}
+use Rattle.sb_model.specs.declared.patches.corner.Corners.TheVariants.{Three, Four}
+use Rattle.sb_model.specs.declared.faces.face.FaceKind.{FaceKind}
+use Rattle.sb_model.specs.declared.faces.face.FaceKind.TheVariants as kind
 use Rattle.sb_model.specs.declared.products.FillKind.{FillKind}
 use Rattle.sb_model.specs.declared.products.FillKind.TheVariants.{Window, Door}
 use Rattle.sb_model.specs.declared.walk.End.{End}

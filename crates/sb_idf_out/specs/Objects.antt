@@ -3,11 +3,11 @@
 use Rattle.std.specs.Prelude.{ℕ, ℤ, List, [], ◌∷◌, Option, Some, None, codes, decimal, map, option_and_then}
 use Rattle.std.specs.List.{concat}
 use Rattle.sb_model.specs.declared.boundary.Boundary.{Boundary}
-use Rattle.sb_model.specs.declared.corner.Corners.{Corners}
+use Rattle.sb_model.specs.declared.patches.corner.Corners.{Corners}
 use Rattle.sb_model.specs.declared.products.FillKind.{FillKind}
 use Rattle.sb_model.specs.declared.products.Filling.{Filling}
 use Rattle.sb_model.specs.Building.{Building, filling_numbered}
-use Rattle.sb_model.specs.Corners.{corners_of}
+use Rattle.sb_model.specs.Surfaces.Corners.{corners_of}
 use Rattle.sb_idf_out.specs.Materials.{Material}
 use Rattle.sb_idf_out.specs.Constructions.{construction_number}
 use Rattle.sb_idf_out.specs.Fields.{object, surface_name, space_name, material_name}

@@ -1,8 +1,8 @@
 //! The objects of top-level boundaries.
 
 ghost use Rattle.std.specs.Prelude.{◌≡◌, ◌++◌, codes, IfOk, OnOk, IsTrue};
-ghost use Rattle.sb_model.specs.Corners.{corners_of};
-ghost use Rattle.sb_model.specs.Faces.{is_face_of};
+ghost use Rattle.sb_model.specs.Surfaces.Corners.{corners_of};
+ghost use Rattle.sb_model.specs.Surfaces.Faces.{is_face_of};
 ghost use Rattle.sb_idf_out.specs.Fields.{surface_type as type_of, top_type as top_type_of, condition as condition_of};
 ghost use Rattle.sb_idf_out.specs.Fields.{condition_object, name_where, sun as sun_at, wind as wind_at};
 ghost use Rattle.sb_idf_out.specs.Objects.{surface_object};

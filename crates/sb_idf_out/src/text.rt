@@ -3,7 +3,7 @@
 ghost use Rattle.std.specs.Prelude.{◌≡◌, ◌++◌, ◌+◌, ◌<◌, ℕ, [], Some, IfOk, OnOk, IsTrue, length, slice_get};
 ghost use Rattle.sb_model.specs.declared.boundary.Boundary.{Boundary};
 ghost use Rattle.std.specs.List.{flat_map};
-ghost use Rattle.sb_model.specs.Faces.{is_face_of};
+ghost use Rattle.sb_model.specs.Surfaces.Faces.{is_face_of};
 ghost use Rattle.sb_model.specs.ListOfModel.{is_list_of};
 ghost use Rattle.sb_idf_out.specs.Objects.{zone_object, object_under};
 ghost use Rattle.sb_idf_out.specs.IdfText.{head as head_text, idf_text_of};

@@ -2,8 +2,8 @@
 
 ghost use Rattle.std.specs.Prelude.{◌≡◌, ◌++◌, Option, OnOk, IsTrue, option_and_then, option_map};
 ghost use Rattle.sb_model.specs.Building.{filling_numbered};
-ghost use Rattle.sb_model.specs.Corners.{corners_of};
-ghost use Rattle.sb_model.specs.Faces.{is_face_of};
+ghost use Rattle.sb_model.specs.Surfaces.Corners.{corners_of};
+ghost use Rattle.sb_model.specs.Surfaces.Faces.{is_face_of};
 ghost use Rattle.sb_idf_out.specs.Fields.{kind_name as name_of, kind_construction as construction_of};
 ghost use Rattle.sb_idf_out.specs.Objects.{child_object, filling_object};
 ghost use Rattle.sb_idf_out.specs.Steps.Surfaces.{filling_start, filling_rest};

@@ -7,7 +7,7 @@ use Rattle.sb_fraction.specs.declared.unit.Unit.TheVariants.{Metre, Millimetre}
 use Rattle.sb_fraction.specs.Spots.{vector}
 use Rattle.sb_fixed.specs.Printed.{scaled_text}
 use Rattle.sb_fixed.specs.Rounding.{rounded}
-use Rattle.sb_model.specs.declared.corner.Corner.{Corner}
+use Rattle.sb_model.specs.declared.patches.corner.Corner.{Corner}
 use Rattle.sb_model.specs.declared.frame.Frame.{Frame}
 use Rattle.sb_ifc_out.specs.Guids.{guid_of}
 use Rattle.sb_ifc_out.specs.InTheSpace.{nanometres, in_frame, turned_back}

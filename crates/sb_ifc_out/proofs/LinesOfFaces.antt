@@ -4,13 +4,13 @@ use Rattle.std.proofs.Common.{◌≡◌, refl, sym, ap, ap₂, ◌∙◌, ℕ, �
 use Rattle.std.proofs.lemmas.Option.{same_Some, none-some}
 use Rattle.sb_fraction.specs.Spots.{Vector}
 use Rattle.sb_model.specs.declared.boundary.Boundary.{Boundary}
-use Rattle.sb_model.specs.declared.corner.Corners.{Corners}
-use Rattle.sb_model.specs.declared.facing.Facing.{Facing}
+use Rattle.sb_model.specs.declared.patches.corner.Corners.{Corners}
+use Rattle.sb_model.specs.declared.faces.facing.Facing.{Facing}
 use Rattle.sb_model.specs.declared.products.Space.{Space}
 use Rattle.sb_model.specs.Building.{Building}
-use Rattle.sb_model.specs.Corners.{corners_of}
-use Rattle.sb_model.specs.Facings.{normal_of, across_of}
-use Rattle.sb_model.specs.Faces.{Surface, surface_of, space_numbered}
+use Rattle.sb_model.specs.Surfaces.Corners.{corners_of}
+use Rattle.sb_model.specs.Surfaces.Facings.{normal_of, across_of}
+use Rattle.sb_model.specs.Surfaces.Faces.{Surface, surface_of, space_numbered}
 use Rattle.sb_model.specs.Labels.{axis_vector}
 use Rattle.sb_ifc_out.specs.Numbers.{corners_listed}
 use Rattle.sb_ifc_out.specs.InTheSpace.{turned_back}

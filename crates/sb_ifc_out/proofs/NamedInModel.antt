@@ -8,7 +8,7 @@ use Rattle.sb_model.specs.declared.boundary.Boundary.{Boundary}
 use Rattle.sb_model.specs.Building.{Building}
 use Rattle.sb_model.specs.declared.walk.Item.{Item}
 use Rattle.sb_model.specs.Building.{is_element}
-use Rattle.sb_model.specs.Faces.{is_face_of}
+use Rattle.sb_model.specs.Surfaces.Faces.{is_face_of}
 use Rattle.sb_model.specs.ListOfModel.{is_boundary_of, is_list_of, is_id_in, is_key_of, is_end_of}
 
 -- the boundary that stands at a place names what is the model's or in the list

@@ -5,7 +5,7 @@ use Rattle.std.proofs.lemmas.Option.{same_Some}
 use Rattle.sha1.specs.Sha1.{Holds}
 use Rattle.sb_model.specs.declared.products.Space.{Space}
 use Rattle.sb_model.specs.Building.{Building}
-use Rattle.sb_model.specs.Faces.{space_numbered}
+use Rattle.sb_model.specs.Surfaces.Faces.{space_numbered}
 use Rattle.sb_ifc_out.specs.declared.names.Names.{Names}
 use Rattle.sb_ifc_out.specs.Steps.{AreKept, IsKeptFor, IsBegunFor, beginning}
 

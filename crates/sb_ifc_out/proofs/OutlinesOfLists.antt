@@ -5,9 +5,9 @@ use Rattle.std.proofs.Common.{slice_get, Some, option_map}
 use Rattle.std.proofs.lemmas.List.{map-append, take_more, length-map}
 use Rattle.std.proofs.lemmas.Option.{same_Some, slice_get-map, slice_get_within, get_or_from_slice_get}
 use Rattle.sb_model.specs.declared.boundary.Boundary.{Boundary}
-use Rattle.sb_model.specs.declared.corner.Corners.{Corners}
+use Rattle.sb_model.specs.declared.patches.corner.Corners.{Corners}
 use Rattle.sb_model.specs.Building.{Building}
-use Rattle.sb_model.specs.Corners.{corners_of}
+use Rattle.sb_model.specs.Surfaces.Corners.{corners_of}
 use Rattle.sb_ifc_out.specs.Steps.{AreOutlines}
 
 -- there are as many as boundaries

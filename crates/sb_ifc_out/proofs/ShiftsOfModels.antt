@@ -7,7 +7,7 @@ use Rattle.std.proofs.lemmas.Option.{same_Some, none-some}
 use Rattle.std.specs.List.{find, list_all}
 use Rattle.sb_model.specs.declared.products.Space.{Space}
 use Rattle.sb_model.specs.Building.{Building, is_building, is_in_range, is_shift}
-use Rattle.sb_model.specs.Faces.{space_numbered}
+use Rattle.sb_model.specs.Surfaces.Faces.{space_numbered}
 
 -- one of two passes each test that both pass
 one_passes : {X : Type 0} (b : Bool) (q : X → Bool) (y x : X) (rest : Option X) → q y ≡ true

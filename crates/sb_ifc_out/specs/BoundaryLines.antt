@@ -8,13 +8,13 @@ use Rattle.sb_fraction.specs.declared.unit.Unit as unit
 use Rattle.sb_fraction.specs.Spots.{Vector}
 use Rattle.sb_fixed.specs.Printed.{scaled_text}
 use Rattle.sb_model.specs.declared.boundary.Boundary.{Boundary}
-use Rattle.sb_model.specs.declared.corner.Corner.{Corner}
+use Rattle.sb_model.specs.declared.patches.corner.Corner.{Corner}
 use Rattle.sb_model.specs.declared.frame.Frame.{Frame}
 use Rattle.sb_model.specs.declared.products.Space.{Space}
 use Rattle.sb_model.specs.declared.walk.End.{End}
 use Rattle.sb_model.specs.declared.walk.End.TheVariants as end
 use Rattle.sb_model.specs.Building.{Building, is_opening}
-use Rattle.sb_model.specs.Faces.{Surface}
+use Rattle.sb_model.specs.Surfaces.Faces.{Surface}
 use Rattle.sb_ifc_out.specs.Guids.{guid_of_name, relation_name, virtual_name}
 use Rattle.sb_ifc_out.specs.InTheSpace.{in_frame, turned_back, places_in}
 use Rattle.sb_ifc_out.specs.Lines.{line, point_body, loop_body, bound_body, direction_body}

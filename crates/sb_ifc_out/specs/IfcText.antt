@@ -6,7 +6,7 @@ use Rattle.sb_step.specs.Numbers.{IsGreatest}
 use Rattle.sb_model.specs.declared.boundary.Boundary.{Boundary}
 use Rattle.sb_model.specs.declared.products.Space.{Space}
 use Rattle.sb_model.specs.Building.{Building}
-use Rattle.sb_model.specs.Faces.{Surface, space_numbered, surface_of}
+use Rattle.sb_model.specs.Surfaces.Faces.{Surface, space_numbered, surface_of}
 use Rattle.sb_ifc_out.specs.BoundaryLines.{boundary_lines}
 use Rattle.sb_ifc_out.specs.Numbers.{line_count, last_line}
 

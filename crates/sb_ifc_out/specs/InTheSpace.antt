@@ -7,7 +7,7 @@ use Rattle.theory_numbers.specs.Fractions.{Ratio}
 use Rattle.sb_fixed.specs.Rounding.{scaled, less, rounded}
 use Rattle.sb_fraction.specs.Spots.{Vector, vector, inner}
 use Rattle.theory_turns.specs.Turns.{Quarter, y_of}
-use Rattle.sb_model.specs.declared.corner.Corner.{Corner}
+use Rattle.sb_model.specs.declared.patches.corner.Corner.{Corner}
 use Rattle.sb_model.specs.declared.frame.Frame.{Frame}
 use Rattle.sb_model.specs.Frames.{vector_of}
 

@@ -2,14 +2,14 @@
 
 use Rattle.std.specs.Prelude.{ℕ, zero, suc, ◌+◌, List, [], ◌∷◌, Option, Some, None, length}
 use Rattle.sb_model.specs.declared.boundary.Boundary.{Boundary}
-use Rattle.sb_model.specs.declared.corner.Corner.{Corner}
-use Rattle.sb_model.specs.declared.corner.Corners.{Corners}
-use Rattle.sb_model.specs.declared.corner.Corners.TheVariants.{Three, Four}
+use Rattle.sb_model.specs.declared.patches.corner.Corner.{Corner}
+use Rattle.sb_model.specs.declared.patches.corner.Corners.{Corners}
+use Rattle.sb_model.specs.declared.patches.corner.Corners.TheVariants.{Three, Four}
 use Rattle.sb_model.specs.declared.walk.End.{End}
 use Rattle.sb_model.specs.declared.walk.End.TheVariants as end
 use Rattle.sb_model.specs.declared.walk.Item.{Item}
 use Rattle.sb_model.specs.Building.{Building}
-use Rattle.sb_model.specs.Corners.{corners_of}
+use Rattle.sb_model.specs.Surfaces.Corners.{corners_of}
 
 -- the element of the first item
 abbrev pub first_element : List Item → Option ℕ

@@ -3,8 +3,8 @@
 use Rattle.std.specs.Prelude.{◌≡◌, ◌≤◌, ℕ, ◌*◌, ◌^◌, ⊤, ◌++◌, List, Option, Some, None, unsigned_abs, codes}
 use Rattle.std.specs.Prelude.{length, map}
 use Rattle.sb_fraction.specs.declared.unit.Unit as unit
-use Rattle.sb_model.specs.declared.corner.Corners.{Corners}
-use Rattle.sb_model.specs.declared.facing.Facing.{Facing}
+use Rattle.sb_model.specs.declared.patches.corner.Corners.{Corners}
+use Rattle.sb_model.specs.declared.faces.facing.Facing.{Facing}
 use Rattle.sb_model.specs.declared.frame.Frame.{Frame}
 use Rattle.sb_model.specs.Labels.{axis_vector}
 use Rattle.sha1.specs.Sha1.{Holds}
@@ -12,8 +12,8 @@ use Rattle.sb_fraction.specs.Spots.{Vector, vector}
 use Rattle.sb_model.specs.declared.products.Space.{Space}
 use Rattle.sb_model.specs.Building.{Building}
 use Rattle.sb_model.specs.declared.boundary.Boundary.{Boundary}
-use Rattle.sb_model.specs.Corners.{corners_of}
-use Rattle.sb_model.specs.Faces.{space_numbered}
+use Rattle.sb_model.specs.Surfaces.Corners.{corners_of}
+use Rattle.sb_model.specs.Surfaces.Faces.{space_numbered}
 use Rattle.sb_ifc_out.specs.declared.in_space.Span.{Span}
 use Rattle.sb_ifc_out.specs.declared.names.Names.{Names}
 use Rattle.sb_ifc_out.specs.declared.relation.Relation.{Relation}

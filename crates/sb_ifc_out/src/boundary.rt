@@ -3,8 +3,8 @@
 ghost use Rattle.std.specs.Prelude.{◌≡◌, ◌<◌, ◌+◌, ◌^◌, ◌++◌, ℕ, List, OnOk, IsTrue, Some};
 ghost use Rattle.sha1.specs.Sha1.{Holds};
 ghost use Rattle.sb_model.specs.Building.{is_shift};
-ghost use Rattle.sb_model.specs.Corners.{corners_of};
-ghost use Rattle.sb_model.specs.Faces.{is_face_of, space_numbered};
+ghost use Rattle.sb_model.specs.Surfaces.Corners.{corners_of};
+ghost use Rattle.sb_model.specs.Surfaces.Faces.{is_face_of, space_numbered};
 ghost use Rattle.sb_ifc_out.specs.Numbers.{element_of, virtual_lines, line_count};
 ghost use Rattle.sb_ifc_out.specs.BoundaryLines.{virtual_text, element_number, related_text, told_of};
 ghost use Rattle.sb_ifc_out.specs.Lines.{line, relation_body};

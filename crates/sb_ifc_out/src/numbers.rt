@@ -3,8 +3,8 @@
 ghost use Rattle.std.specs.Prelude.{◌≡◌, ◌≤◌, ◌<◌, ◌+◌, ◌^◌, ℕ, IfOk, IsTrue, Some, length, map, option_map, slice_get, slice_index};
 ghost use Rattle.std.specs.List.{range_with_len};
 ghost use Rattle.sb_model.specs.Building.{Building};
-ghost use Rattle.sb_model.specs.Corners.{corners_of};
-ghost use Rattle.sb_model.specs.Faces.{is_face_of};
+ghost use Rattle.sb_model.specs.Surfaces.Corners.{corners_of};
+ghost use Rattle.sb_model.specs.Surfaces.Faces.{is_face_of};
 ghost use Rattle.sb_model.specs.ListOfModel.{is_list_of, is_id_in};
 ghost use Rattle.sb_ifc_out.specs.Numbers.{element_of, first_element, end_element, first_there, virtual_lines};
 ghost use Rattle.sb_ifc_out.specs.Numbers.{corners_listed, surface_lines, line_count, last_line};

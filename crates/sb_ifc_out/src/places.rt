@@ -2,7 +2,7 @@
 
 ghost use Rattle.std.specs.Prelude.{◌≡◌, ◌<◌, IsTrue, Some, length, slice_get};
 ghost use Rattle.sb_model.specs.Building.{Building, is_shift};
-ghost use Rattle.sb_model.specs.Faces.{is_face_of, space_numbered};
+ghost use Rattle.sb_model.specs.Surfaces.Faces.{is_face_of, space_numbered};
 ghost use Rattle.sb_model.specs.ListOfModel.{is_list_of, is_boundary_of};
 
 use sb_model::{Boundaries, Boundary, Face, Model, Space};

@@ -3,7 +3,7 @@
 ghost use Rattle.std.specs.Prelude.{◌≡◌, ◌≤◌, ◌<◌, ◌+◌, ◌++◌, ℕ, List, IfOk, OnOk, IsTrue, Some, length, map, take, drop, slice_get, option_map};
 ghost use Rattle.std.specs.List.{range_with_len};
 ghost use Rattle.sb_model.specs.declared.boundary.Boundary.{Boundary};
-ghost use Rattle.sb_model.specs.Faces.{space_numbered, is_face_of};
+ghost use Rattle.sb_model.specs.Surfaces.Faces.{space_numbered, is_face_of};
 ghost use Rattle.sb_model.specs.ListOfModel.{is_list_of};
 ghost use Rattle.sb_step.specs.Numbers.{IsGreatest};
 ghost use Rattle.sb_ifc_out.specs.Numbers.{last_line, line_count};

@@ -4,7 +4,7 @@ use Rattle.std.specs.Int.{w128}
 use Rattle.std.proofs.Math.Nat.{mul-le-mul}
 use Rattle.std.proofs.lemmas.Int.{to_z-of_z, fits_signed_mul, unsigned_abs-mul}
 use Rattle.sb_fraction.specs.Plane.{longest_step}
-use Rattle.sb_model.specs.Sides.{greatest_offset, greatest_abscissa_num, greatest_abscissa_den}
+use Rattle.sb_model.specs.Surfaces.Sides.{greatest_offset, greatest_abscissa_num, greatest_abscissa_den}
 use Rattle.sb_join.specs.Sizes.{greatest_part, greatest_shift, greatest_turn, greatest_slope}
 use Rattle.sb_join.specs.Sizes.{greatest_first, greatest_second}
 

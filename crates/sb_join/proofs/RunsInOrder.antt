@@ -16,13 +16,13 @@ use Rattle.std.proofs.lemmas.List.Sorted.{ranks_by, sorted_far}
 use Rattle.theory_lists.specs.Members.{AllOfTwo}
 use Rattle.theory_numbers.specs.Arrows.{Arrow}
 use Rattle.theory_numbers.specs.Rationals.{IsRational, IsBelow, IsSame}
-use Rattle.theory_numbers.proofs.Arrows.{cross-turn}
-use Rattle.theory_numbers.proofs.Rationals.{below_trans, number_cases, same_sym, same_trans}
-use Rattle.theory_numbers.proofs.Rationals.{at_most_below_trans, below_at_most_trans}
+use Rattle.theory_numbers.proofs.Vectors.Arrows.{cross-turn}
+use Rattle.theory_numbers.proofs.Fractions.Rationals.{below_trans, number_cases, same_sym, same_trans}
+use Rattle.theory_numbers.proofs.Fractions.Rationals.{at_most_below_trans, below_at_most_trans}
 use Rattle.theory_patches.proofs.NoneBetween.{at_most_from_same}
 use Rattle.sb_fraction.specs.Numbers.{order_of}
 use Rattle.sb_model.specs.declared.boundary.Cell.{Cell}
-use Rattle.sb_model.specs.Patches.{region_of}
+use Rattle.sb_model.specs.Surfaces.Patches.{region_of}
 use Rattle.theory_faces.specs.Strips.{Strip, strip_of, strips_of}
 use Rattle.theory_faces.specs.Chains.{order_of_runs, AreInOrder}
 use Rattle.theory_faces.proofs.NoSeamInOrder.{keys_total}

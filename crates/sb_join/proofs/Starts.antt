@@ -16,12 +16,12 @@ use Rattle.theory_plane.proofs.SameSide.{same_line}
 use Rattle.sb_fraction.specs.Numbers.{order_of}
 use Rattle.sb_fraction.specs.Plane.{is_forward, longest_step}
 use Rattle.sb_model.specs.declared.boundary.Cell.{Cell}
-use Rattle.sb_model.specs.declared.face.FaceKind.{FaceKind}
-use Rattle.sb_model.specs.declared.face.FaceKind.TheVariants as kind
-use Rattle.sb_model.specs.declared.face.Side.{Side}
-use Rattle.sb_model.specs.declared.face.Side.TheVariants.{OnLine, Height}
-use Rattle.sb_model.specs.declared.patch.Patch.{Patch}
-use Rattle.sb_model.specs.Sides.{arrow_of, line_of, is_side_of, greatest_offset}
+use Rattle.sb_model.specs.declared.faces.face.FaceKind.{FaceKind}
+use Rattle.sb_model.specs.declared.faces.face.FaceKind.TheVariants as kind
+use Rattle.sb_model.specs.declared.faces.face.Side.{Side}
+use Rattle.sb_model.specs.declared.faces.face.Side.TheVariants.{OnLine, Height}
+use Rattle.sb_model.specs.declared.patches.patch.Patch.{Patch}
+use Rattle.sb_model.specs.Surfaces.Sides.{arrow_of, line_of, is_side_of, greatest_offset}
 use Rattle.theory_faces.specs.Strips.{strip_of}
 use Rattle.theory_faces.proofs.PatchesAreRegions.{patch_is}
 use Rattle.sb_join.specs.Sizes.{HasHeight, HasSizes}

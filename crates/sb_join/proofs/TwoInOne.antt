@@ -8,7 +8,7 @@ use Rattle.std.proofs.lemmas.Bool.{and_parts, and_from}
 use Rattle.std.proofs.lemmas.Bool.Decides.{Decides-int_eq}
 use Rattle.theory_numbers.specs.Arrows.{Arrow}
 use Rattle.theory_numbers.specs.Fractions.{Ratio}
-use Rattle.theory_numbers.proofs.Arrows.{same_arrow}
+use Rattle.theory_numbers.proofs.Vectors.Arrows.{same_arrow}
 use Rattle.theory_plane.specs.Regions.{is_region}
 use Rattle.theory_plane.proofs.Regions.{region_passes}
 use Rattle.theory_joining.specs.Runs.{IsRunOver}
@@ -20,13 +20,13 @@ use Rattle.theory_joining.proofs.GoesOn.{carried_on_is_patch, goes_on_from}
 use Rattle.sb_fraction.specs.Bounds.{is_fraction}
 use Rattle.sb_fraction.specs.Bounds.{is_abscissa_size as is_size}
 use Rattle.sb_model.specs.declared.boundary.Cell.{Cell}
-use Rattle.sb_model.specs.declared.face.Face.{Face}
-use Rattle.sb_model.specs.declared.face.Side.{Side}
-use Rattle.sb_model.specs.declared.patch.Patch.{Patch}
+use Rattle.sb_model.specs.declared.faces.face.Face.{Face}
+use Rattle.sb_model.specs.declared.faces.face.Side.{Side}
+use Rattle.sb_model.specs.declared.patches.patch.Patch.{Patch}
 use Rattle.sb_model.specs.declared.walk.Walk.{Walk}
-use Rattle.sb_model.specs.Sides.{is_patch, is_abscissa_size, is_side_of, region_between}
-use Rattle.sb_model.specs.Sides.{greatest_abscissa_num, greatest_abscissa_den}
-use Rattle.sb_model.specs.Patches.{region_of}
+use Rattle.sb_model.specs.Surfaces.Sides.{is_patch, is_abscissa_size, is_side_of, region_between}
+use Rattle.sb_model.specs.Surfaces.Sides.{greatest_abscissa_num, greatest_abscissa_den}
+use Rattle.sb_model.specs.Surfaces.Patches.{region_of}
 use Rattle.theory_faces.specs.Strips.{Mark, Strip, strip_of, is_same_mark, is_same_number}
 use Rattle.theory_faces.specs.Strips.{have_same_ends, is_raised_by}
 use Rattle.theory_faces.proofs.MarksTold.{mark_tells}

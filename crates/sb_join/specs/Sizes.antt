@@ -3,9 +3,9 @@
 use Rattle.std.specs.Prelude.{ℕ, ◌*◌, ◌^◌, ◌≤◌, unsigned_abs}
 use Rattle.theory_plane.specs.Sides.{LineSide}
 use Rattle.sb_fraction.specs.Plane.{longest_step}
-use Rattle.sb_model.specs.declared.face.Side.{Side}
-use Rattle.sb_model.specs.declared.face.Side.TheVariants.{OnLine, Height}
-use Rattle.sb_model.specs.Sides.{greatest_offset, greatest_abscissa_num, greatest_abscissa_den}
+use Rattle.sb_model.specs.declared.faces.face.Side.{Side}
+use Rattle.sb_model.specs.declared.faces.face.Side.TheVariants.{OnLine, Height}
+use Rattle.sb_model.specs.Surfaces.Sides.{greatest_offset, greatest_abscissa_num, greatest_abscissa_den}
 
 -- an offset times a part of a direction
 abbrev pub greatest_part : ℕ

@@ -2,7 +2,7 @@
 
 ghost use Rattle.std.specs.Prelude.{◌≡◌, IsPermutation};
 ghost use Rattle.sb_model.specs.Boundaries.Order.{rank_of};
-ghost use Rattle.sb_model.specs.Sides.{line_of};
+ghost use Rattle.sb_model.specs.Surfaces.Sides.{line_of};
 ghost use Rattle.theory_faces.specs.Strips.{strip_of, strips_of};
 ghost use Rattle.theory_faces.specs.Chains.{order_of_sides as sides_order, order_of_keys as keys_order};
 ghost use Rattle.theory_faces.specs.Chains.{order_of_runs as runs_order, AreInOrder};

@@ -3,8 +3,8 @@
 ghost use Rattle.std.specs.Prelude.{◌≡◌, ◌≤◌, ◌*ℤ◌, ◌-ℤ◌, ◌+ℤ◌, unsigned_abs, true};
 ghost use Rattle.theory_plane.specs.Sides.{line};
 ghost use Rattle.sb_fraction.specs.Plane.{longest_step};
-ghost use Rattle.sb_model.specs.Sides.{is_abscissa_size};
-ghost use Rattle.sb_model.specs.Sides.{greatest_offset, greatest_abscissa_num, greatest_abscissa_den};
+ghost use Rattle.sb_model.specs.Surfaces.Sides.{is_abscissa_size};
+ghost use Rattle.sb_model.specs.Surfaces.Sides.{greatest_offset, greatest_abscissa_num, greatest_abscissa_den};
 ghost use Rattle.sb_join.specs.Sizes.{greatest_part, greatest_shift, greatest_turn, greatest_slope};
 ghost use Rattle.sb_join.specs.Sizes.{greatest_first, greatest_second, HasSizes};
 ghost use Rattle.theory_faces.specs.Strips.{strip_of};

@@ -9,7 +9,7 @@ use Rattle.std.proofs.lemmas.Bool.{and_parts, false≢true}
 use Rattle.theory_lists.specs.Members.{Stands}
 use Rattle.theory_lists.proofs.Members.{all_stands}
 use Rattle.theory_numbers.specs.Arrows.{cross}
-use Rattle.theory_numbers.proofs.Arrows.{cross-turn}
+use Rattle.theory_numbers.proofs.Vectors.Arrows.{cross-turn}
 use Rattle.theory_numbers.proofs.Shapes.{var, num, minus, negated, times, equal, cross_by}
 use Rattle.theory_numbers.proofs.Signs.{less_from, not_less_from, sign_cases}
 use Rattle.sb_fraction.specs.declared.point.Point.{Point}
@@ -17,7 +17,7 @@ use Rattle.sb_fraction.specs.Edges.{Edge, edge, span_of, seen_from, turn_at}
 use Rattle.sb_fraction.specs.Plane.{is_plan_point}
 use Rattle.sb_fraction.specs.Spots.{spot_at}
 use Rattle.theory_plans.specs.Loops.{bend, is_bent_loop, comes_before}
-use Rattle.theory_plans.proofs.EdgesOfPlans.{bent_is_not_0}
+use Rattle.theory_plans.proofs.Edges.EdgesOfPlans.{bent_is_not_0}
 use Rattle.theory_sweep.specs.Corners.{Corner, corners_of, ArePassedApart}
 use Rattle.theory_sweep.specs.Open.{IsEdgeOf, AreBegun, is_under}
 use Rattle.theory_sweep.specs.Passing.{sweep_way, IsRising}

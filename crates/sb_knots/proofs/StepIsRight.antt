@@ -15,7 +15,7 @@ use Rattle.theory_lists.proofs.Blocks.{stands_before, stands_behind}
 use Rattle.sb_fraction.specs.declared.point.Point.{Point}
 use Rattle.sb_fraction.specs.Edges.{Edge}
 use Rattle.theory_plans.specs.Plans.{are_apart}
-use Rattle.theory_plans.proofs.EdgesOfPlans.{same_point}
+use Rattle.theory_plans.proofs.Edges.EdgesOfPlans.{same_point}
 use Rattle.theory_sweep.specs.Corners.{Corner, ArePassedApart}
 use Rattle.theory_sweep.specs.Open.{AreOpen, IsNext, IsSplitAt, AreBegun, MayBeNeighbours}
 use Rattle.theory_sweep.specs.Open.{FirstGoesOn, is_under, may_be_neighbours, AllNeighbours}

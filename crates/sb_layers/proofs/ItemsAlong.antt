@@ -23,9 +23,9 @@ use Rattle.sb_model.specs.Labels.{axis_vector, low_along, high_along, total_of}
 use Rattle.sb_model.specs.Walks.{lies_along, is_parallel}
 use Rattle.theory_cuttings.specs.Changes.{Fine}
 use Rattle.theory_sight.specs.Bands.{items_between, items_by, layer_items, bands_up, flipped, cut_between}
-use Rattle.theory_sight.proofs.BandsCut.{layer_is}
-use Rattle.theory_sight.proofs.CrossingItems.{not_across, items_of_piece, IsWithinExtent}
-use Rattle.theory_sight.proofs.Extents.{low-opposite, high-opposite}
+use Rattle.theory_sight.proofs.Crossings.BandsCut.{layer_is}
+use Rattle.theory_sight.proofs.Crossings.CrossingItems.{not_across, items_of_piece, IsWithinExtent}
+use Rattle.theory_sight.proofs.Crossings.Extents.{low-opposite, high-opposite}
 use Rattle.theory_sight.proofs.ItemsReversed.{items_reversed, inner-opposite, LiesWithin}
 use Rattle.sb_layers.specs.Parts.{parts_along, way_of}
 use Rattle.sb_model.specs.Solids.{Upright}

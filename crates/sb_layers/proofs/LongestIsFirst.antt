@@ -15,7 +15,7 @@ use Rattle.sb_fraction.specs.Edges.{Edge, is_in_range, has_length}
 use Rattle.theory_plans.specs.LoopEdges.{edges_of, edges_of_loop}
 use Rattle.theory_plans.specs.Plans.{is_plan}
 use Rattle.theory_plans.specs.Loops.{is_loop}
-use Rattle.theory_plans.proofs.EdgesOfPlans.{is_proper_edge, plan_edges_are_proper, plan_is}
+use Rattle.theory_plans.proofs.Edges.EdgesOfPlans.{is_proper_edge, plan_edges_are_proper, plan_is}
 use Rattle.sb_layers.specs.Axes.{squared_length, is_longest, longest_of, outer_edges}
 use Rattle.sb_layers.specs.Longest.{longer, longest_after}
 

@@ -13,7 +13,7 @@ use Rattle.theory_numbers.specs.Fractions.{reduced}
 use Rattle.theory_numbers.proofs.Shapes.{var, plus, minus, times, equal}
 use Rattle.theory_numbers.proofs.Signs.{test_less, test_not_less, less_from, not_less_from}
 use Rattle.theory_numbers.proofs.Products.{positive_product, positive_factor, scale_less, scale_at_most}
-use Rattle.theory_numbers.proofs.LowestTerms.{reduced_is_same, reduced_is_lowest, lowest_is_reduced}
+use Rattle.theory_numbers.proofs.Fractions.LowestTerms.{reduced_is_same, reduced_is_lowest, lowest_is_reduced}
 use Rattle.theory_cuttings.specs.Cuttings.{Break}
 use Rattle.theory_cuttings.specs.Changes.{label_after, breaks_after, breaks_before, break_at}
 use Rattle.sb_fraction.specs.Spots.{Vector}
@@ -24,7 +24,7 @@ use Rattle.sb_model.specs.Building.{are_layers, greatest_thickness}
 use Rattle.sb_model.specs.Labels.{low_along, high_along, total_of}
 use Rattle.sb_model.specs.Walks.{item, length_between, layer_item}
 use Rattle.theory_sight.specs.Bands.{fraction, band_ends, layer_items, item_at, item_of_layer}
-use Rattle.theory_sight.proofs.BandsCut.{fraction_is_same, fraction_is_reduced, layer_is}
+use Rattle.theory_sight.proofs.Crossings.BandsCut.{fraction_is_same, fraction_is_reduced, layer_is}
 use Rattle.sb_layers.specs.declared.parts.Way.{Way}
 use Rattle.sb_layers.specs.Parts.{end_behind, item_between, part_of, parts_of, way_of, parts_along}
 use Rattle.sb_layers.proofs.SameFractions.{reduced_alike}

@@ -10,7 +10,7 @@ use Rattle.theory_numbers.specs.Rationals.{rational}
 use Rattle.theory_numbers.proofs.Signs.{test_at_most, test_not_at_most}
 use Rattle.sb_model.specs.Walks.{is_reached_by, is_rounded}
 use Rattle.theory_sight.specs.Bands.{rounded_thickness}
-use Rattle.theory_sight.proofs.Thickness.{thickness_is}
+use Rattle.theory_sight.proofs.Crossings.Thickness.{thickness_is}
 
 -- a test of a number of micrometres, in natural numbers
 reached_from : (s : ℕ) (n l : ℕ) (k : ℤ) → pos (l * l) ≡ k *ℤ k → s * n ≤ 4000000 * (l * l)

@@ -5,8 +5,8 @@ use Rattle.std.proofs.lemmas.Int.{ints}
 use Rattle.theory_numbers.specs.Fractions.{Ratio, reduced}
 use Rattle.theory_numbers.proofs.Shapes.{var, times, equal}
 use Rattle.theory_numbers.proofs.Products.{positive_product, unscale_equal}
-use Rattle.theory_numbers.proofs.Reduced.{reduced_unique}
-use Rattle.theory_numbers.proofs.LowestTerms.{reduced_is_same, reduced_is_lowest, lowest_is_reduced}
+use Rattle.theory_numbers.proofs.Fractions.Reduced.{reduced_unique}
+use Rattle.theory_numbers.proofs.Fractions.LowestTerms.{reduced_is_same, reduced_is_lowest, lowest_is_reduced}
 
 not_zero : (k : ℤ) → pos 0 <ℤ k → k ≡ pos 0 → ⊥
 not_zero k some same = omega (arith, ints)

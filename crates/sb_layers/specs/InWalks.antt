@@ -4,7 +4,7 @@ use Rattle.std.specs.Prelude.{◌≡◌, ℤ, ◌-ℤ◌, pos, List, IsTrue, Som
 use Rattle.theory_numbers.specs.Rationals.{rational}
 use Rattle.theory_cuttings.specs.Cuttings.{Break}
 use Rattle.sb_fraction.specs.Spots.{IsSpot, Vector}
-use Rattle.sb_model.specs.declared.label.Label.{Label}
+use Rattle.sb_model.specs.declared.labels.label.Label.{Label}
 use Rattle.sb_model.specs.declared.products.Element.{Element}
 use Rattle.sb_model.specs.declared.walk.Item.{Item}
 use Rattle.sb_model.specs.Building.{Building, is_building}

@@ -24,10 +24,10 @@ use Rattle.theory_loops.proofs.DropsKeep.{from_least_keeps}
 use Rattle.theory_loops.proofs.NothingLeftToDrop.{IsDone, bent_has_three}
 use Rattle.theory_loops.proofs.NormalIsLoop.{done_from_next}
 use Rattle.theory_loops.proofs.LeastFirst.{least_is_first}
-use Rattle.theory_loops.proofs.SameLoop.{becomes_through}
-use Rattle.theory_loops.proofs.AnyOrder.{any_order, length-turned}
-use Rattle.theory_loops.proofs.LeftInAnyOrder.{left_is_normal}
-use Rattle.theory_loops.proofs.ApartFromAny.{apart_from_any}
+use Rattle.theory_loops.proofs.Orders.SameLoop.{becomes_through}
+use Rattle.theory_loops.proofs.Orders.AnyOrder.{any_order, length-turned}
+use Rattle.theory_loops.proofs.Orders.LeftInAnyOrder.{left_is_normal}
+use Rattle.theory_loops.proofs.Orders.ApartFromAny.{apart_from_any}
 use Rattle.sb_loops.specs.Ways.{HasBegun, IsLeft, AreLeft}
 
 -- ---- one loop

@@ -12,7 +12,7 @@ use Rattle.theory_loops.specs.Normal.{last_of}
 use Rattle.theory_loops.specs.Orders.{IsLevelAt, Becomes}
 use Rattle.theory_loops.specs.Orders.Becomes.{stays, begins_next, loses_first}
 use Rattle.theory_loops.proofs.DropsKeep.{straight}
-use Rattle.theory_loops.proofs.SameLoop.{becomes_through, becomes_turned, last_of-append}
+use Rattle.theory_loops.proofs.Orders.SameLoop.{becomes_through, becomes_turned, last_of-append}
 use Rattle.sb_loops.specs.Ways.{is_bent_after, is_bent_way, is_last_straight_after}
 use Rattle.sb_loops.specs.Ways.{is_last_straight}
 use Rattle.sb_loops.specs.Ways.{is_first_straight}

@@ -10,7 +10,7 @@ use Rattle.sb_fraction.specs.Plane.{are_two_points}
 use Rattle.sb_fraction.specs.Edges.{edge, is_in_range, has_length}
 use Rattle.theory_plans.specs.LoopEdges.{edges_of}
 use Rattle.theory_plans.specs.Plans.{is_plan}
-use Rattle.theory_plans.proofs.EdgesOfPlans.{is_proper_edge, plan_edges_are_proper}
+use Rattle.theory_plans.proofs.Edges.EdgesOfPlans.{is_proper_edge, plan_edges_are_proper}
 
 -- a test that all items pass is passed by the item at each place
 passed_at : {X : Type 0} (p : X → Bool) (xs : List X) (i : ℕ) (x : X)

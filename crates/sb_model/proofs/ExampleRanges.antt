@@ -5,7 +5,7 @@ use Rattle.std.proofs.Common.{map, ◌^◌, ◌+◌, ◌*◌}
 use Rattle.sb_model.specs.declared.layers.Layer.{Layer}
 use Rattle.sb_model.specs.declared.layers.Layering.TheVariants.{Layered}
 use Rattle.sb_model.specs.Building.{is_ground_height, is_reach, is_shift, are_layers, is_layering}
-use Rattle.sb_model.specs.Sides.{greatest_offset, greatest_abscissa_num, greatest_abscissa_den}
+use Rattle.sb_model.specs.Surfaces.Sides.{greatest_offset, greatest_abscissa_num, greatest_abscissa_den}
 
 -- the ground from -500,000 to 500,000 mm
 ground_heights :

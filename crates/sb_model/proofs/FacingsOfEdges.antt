@@ -9,15 +9,15 @@ use Rattle.std.proofs.lemmas.Nat.Gcd.{same_from_IsGcd}
 use Rattle.std.proofs.Math.IntN.{neg_ℤ-neg_ℤ}
 use Rattle.std.specs.Ordering.{int_eq}
 use Rattle.theory_numbers.specs.Divisors.{are_coprime, greatest_divisor}
-use Rattle.theory_numbers.proofs.GreatestDivisor.{greatest_divisor_is}
-use Rattle.theory_plans.proofs.StepsOfEdges.{direction_along, direction_against}
+use Rattle.theory_numbers.proofs.Fractions.GreatestDivisor.{greatest_divisor_is}
+use Rattle.theory_plans.proofs.Edges.StepsOfEdges.{direction_along, direction_against}
 use Rattle.sb_fraction.specs.Plane.{is_forward, longest_step}
 use Rattle.sb_fraction.specs.Spots.{Vector, vector, opposite}
 use Rattle.sb_fraction.specs.Edges.{Edge}
 use Rattle.sb_fraction.specs.Directions.{step, runs_along, direction_of, normal_over}
 use Rattle.sb_model.specs.declared.layers.Axis.{Axis}
 use Rattle.sb_model.specs.Building.{is_level_axis, is_upright_axis}
-use Rattle.sb_model.specs.Facings.{right_of}
+use Rattle.sb_model.specs.Surfaces.Facings.{right_of}
 use Rattle.sb_model.specs.Labels.{axis_vector}
 use Rattle.sb_fraction.specs.declared.direction.Direction.{Direction}
 use Rattle.sb_fraction.specs.Lines.{arrow_along, flat}

@@ -1,8 +1,6 @@
 -- The laws that the calls cite.
 mod Passing
-mod LabelsFound
-mod LayersByBands
-mod BandsFit
+mod LabelsOfPoints
 mod FirstThatPasses
 mod FirstReadings
 mod ReadingsFit
@@ -10,10 +8,8 @@ mod FoundByNumber
 mod NumbersInOrder
 mod TurnsInCode
 mod LinesOfSides
-mod CornersFit
-mod EndsOfPatches
+mod PointsOfPatches
 mod FacingsOfEdges
 mod EdgesOfSides
-mod PointsInPatches
 -- and what the ranges are
 mod ExampleRanges

@@ -10,14 +10,14 @@ use Rattle.theory_numbers.proofs.Products.{positive_square, weak_square}
 use Rattle.theory_plane.specs.Regions.{is_region}
 use Rattle.sb_fraction.specs.declared.direction.Direction.{Direction}
 use Rattle.sb_fraction.specs.Plane.{is_forward, longest_step}
-use Rattle.sb_model.specs.declared.face.FaceKind.{FaceKind}
-use Rattle.sb_model.specs.declared.face.FaceKind.TheVariants as kind
-use Rattle.sb_model.specs.declared.face.Side.{Side}
-use Rattle.sb_model.specs.declared.face.Side.TheVariants.{OnLine, Height}
-use Rattle.sb_model.specs.declared.patch.Patch.{Patch}
-use Rattle.sb_model.specs.declared.side_line.SideLine.{SideLine}
-use Rattle.sb_model.specs.Sides.{is_abscissa_size, is_side_of, region_between, greatest_offset}
-use Rattle.sb_model.specs.SideLines.{is_side, is_side_line}
+use Rattle.sb_model.specs.declared.faces.face.FaceKind.{FaceKind}
+use Rattle.sb_model.specs.declared.faces.face.FaceKind.TheVariants as kind
+use Rattle.sb_model.specs.declared.faces.face.Side.{Side}
+use Rattle.sb_model.specs.declared.faces.face.Side.TheVariants.{OnLine, Height}
+use Rattle.sb_model.specs.declared.patches.patch.Patch.{Patch}
+use Rattle.sb_model.specs.declared.faces.side_line.SideLine.{SideLine}
+use Rattle.sb_model.specs.Surfaces.Sides.{is_abscissa_size, is_side_of, region_between, greatest_offset}
+use Rattle.sb_model.specs.Surfaces.SideLines.{is_side, is_side_line}
 
 -- ---- patches
 

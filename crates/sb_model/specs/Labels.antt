@@ -5,8 +5,8 @@ use Rattle.std.specs.Prelude.{List, [], ◌∷◌, ◌++◌, Option, Some, None,
 use Rattle.std.specs.List.{fold}
 use Rattle.std.specs.Int.{int_min, int_max}
 use Rattle.sb_fraction.specs.declared.point.Point.{Point}
-use Rattle.sb_model.specs.declared.label.Label.{Label}
-use Rattle.sb_model.specs.declared.label.Label.TheVariants as label
+use Rattle.sb_model.specs.declared.labels.label.Label.{Label}
+use Rattle.sb_model.specs.declared.labels.label.Label.TheVariants as label
 use Rattle.sb_model.specs.declared.layers.Axis.{Axis}
 use Rattle.sb_model.specs.declared.layers.Layer.{Layer}
 use Rattle.sb_model.specs.declared.layers.Layering.{Layering}

@@ -7,7 +7,7 @@ use Rattle.sb_model.specs.declared.boundary.Boundary.{Boundary}
 use Rattle.sb_model.specs.declared.walk.End.{End}
 use Rattle.sb_model.specs.declared.walk.End.TheVariants as end
 use Rattle.sb_model.specs.Building.{Building, is_space, is_element, is_opening, is_filling}
-use Rattle.sb_model.specs.Faces.{is_face_of}
+use Rattle.sb_model.specs.Surfaces.Faces.{is_face_of}
 
 -- the space or element at the end of a walk is the model's
 abbrev pub is_end_of : Building → End → Bool

@@ -4,8 +4,8 @@ use Rattle.std.specs.Prelude.{◌==◌, Bool, false, if◌then◌else◌, List, 
 use Rattle.theory_numbers.specs.Arrows.{Arrow}
 use Rattle.theory_cuttings.specs.Cuttings.{Break}
 use Rattle.theory_cuttings.specs.Passages as cut
-use Rattle.sb_model.specs.declared.label.Label.{Label}
-use Rattle.sb_model.specs.declared.label.Label.TheVariants as label
+use Rattle.sb_model.specs.declared.labels.label.Label.{Label}
+use Rattle.sb_model.specs.declared.labels.label.Label.TheVariants as label
 use Rattle.sb_fraction.specs.Spots.{Spot, Vector, along}
 use Rattle.sb_model.specs.Building.{Building}
 use Rattle.sb_model.specs.Labels.{label_at}

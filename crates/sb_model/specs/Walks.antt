@@ -10,8 +10,8 @@ use Rattle.theory_numbers.specs.Fractions.{Ratio, reduced, whole}
 use Rattle.theory_numbers.specs.Arrows.{Arrow}
 use Rattle.theory_numbers.specs.Rationals.{rational}
 use Rattle.theory_cuttings.specs.Cuttings.{Break}
-use Rattle.sb_model.specs.declared.label.Label.{Label}
-use Rattle.sb_model.specs.declared.label.Label.TheVariants as label
+use Rattle.sb_model.specs.declared.labels.label.Label.{Label}
+use Rattle.sb_model.specs.declared.labels.label.Label.TheVariants as label
 use Rattle.sb_model.specs.declared.layers.Layer.{Layer}
 use Rattle.sb_model.specs.declared.layers.Layering.{Layering}
 use Rattle.sb_model.specs.declared.layers.Layering.TheVariants.{Plain, Single, Layered}
@@ -25,7 +25,7 @@ use Rattle.sb_fraction.specs.Edges.{Edge, is_on, span_of}
 use Rattle.sb_model.specs.Building.{Building}
 use Rattle.sb_model.specs.Labels.{axis_vector, low_along, high_along, total_of}
 use Rattle.sb_model.specs.PlanEdges.{plan_edges}
-use Rattle.sb_model.specs.Faces.{Surface}
+use Rattle.sb_model.specs.Surfaces.Faces.{Surface}
 use Rattle.sb_model.specs.Passages.{Ray, ray_from, at_depth, ArePassages, Passage, passages_of}
 use Rattle.sb_model.specs.Passages.{Piece, pieces_of, start_of, end_of}
 

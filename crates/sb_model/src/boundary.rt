@@ -4,7 +4,7 @@ ghost use Rattle.std.specs.Prelude.{◌≡◌, [], ◌∷◌, ◌++◌, ◌<◌,
 ghost use Rattle.std.specs.Prelude.{IsSome, OnOk, OnErr};
 ghost use Rattle.std.specs.Option.{option_copied};
 
-use crate::patch::Patch;
+use crate::patches::patch::Patch;
 use crate::walk::Walk;
 use sb_list::Listed;
 use std::alloc::{AllocError, Global};

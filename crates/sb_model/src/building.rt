@@ -8,7 +8,7 @@ ghost use Rattle.sb_model.specs.Building.{building, is_building, is_in_range, Is
 ghost use Rattle.sb_model.specs.Building.{first_bad};
 ghost use Rattle.sb_model.specs.Building.{material_of, material_in as material_name};
 ghost use Rattle.sb_model.specs.Building.{material_at as name_at};
-ghost use Rattle.sb_model.specs.Faces.{space_numbered};
+ghost use Rattle.sb_model.specs.Surfaces.Faces.{space_numbered};
 ghost use Rattle.sb_model.specs.Building.{element_numbered, opening_numbered, filling_numbered};
 
 use crate::layers::{Layer, Layering, Layers};

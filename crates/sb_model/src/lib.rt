@@ -5,43 +5,35 @@
 //! list of boundaries is sound. Begin with [`Model::new`].
 #![tactic(auto)]
 
-mod band;
 mod boundary;
 mod building;
-mod corner;
-mod corner_numbers;
 mod extent;
-mod face;
-mod facing;
+mod faces;
 mod frame;
-mod label;
-mod labelling;
+mod labels;
 mod layers;
 mod loops;
 mod numbering;
-mod outline;
-mod patch;
-mod patch_points;
+mod patches;
 mod prism;
 mod products;
-mod side_line;
 mod walk;
 
-pub use band::total_thickness;
 pub use boundary::{Boundaries, Boundary, Cell, Cells};
 pub use building::{Model, ModelError};
-pub use corner::{Corner, Corners};
 pub use extent::{Extent, extent_of};
-pub use face::{Face, FaceKind, Side};
-pub use facing::{Facing, facing_of, facing_over};
+pub use faces::face::{Face, FaceKind, Side};
+pub use faces::facing::{Facing, facing_of, facing_over};
 pub use frame::{Frame, LocalAxes, Turn};
-pub use label::Label;
-pub use labelling::label_at;
+pub use labels::band::total_thickness;
+pub use labels::label::Label;
+pub use labels::labelling::label_at;
 pub use layers::{Axis, Layer, Layering, Layers};
 pub use loops::Loops;
-pub use outline::corners;
-pub use patch::Patch;
-pub use patch_points::inside;
+pub use patches::corner::{Corner, Corners};
+pub use patches::outline::corners;
+pub use patches::patch::Patch;
+pub use patches::patch_points::inside;
 pub use prism::Prism;
 pub use products::{
     Element, Elements, FillKind, Filling, Fillings, Opening, Openings, Space, Spaces,

@@ -11,14 +11,14 @@ use Rattle.std.proofs.Math.Nat.{div-le_self, zero-div}
 use Rattle.std.proofs.Math.IntN.{neg_ℤ-neg_ℤ}
 use Rattle.theory_numbers.specs.Divisors.{greatest_divisor, are_coprime, divisor_within}
 use Rattle.theory_numbers.specs.Fractions.{Ratio, divided, reduced, is_lowest}
-use Rattle.theory_numbers.proofs.GreatestDivisor.{greatest_divisor_is}
-use Rattle.theory_numbers.proofs.LowestTerms.{abs-divided, reduced_is_lowest}
+use Rattle.theory_numbers.proofs.Fractions.GreatestDivisor.{greatest_divisor_is}
+use Rattle.theory_numbers.proofs.Fractions.LowestTerms.{abs-divided, reduced_is_lowest}
 use Rattle.theory_numbers.proofs.Signs.{test_less, test_not_less, test_not_equal, less_from}
 use Rattle.theory_numbers.proofs.Signs.{not_less_from, order_cases}
-use Rattle.theory_plans.proofs.DirectionsAlongAxes.{headed_along_y}
+use Rattle.theory_plans.proofs.Edges.DirectionsAlongAxes.{headed_along_y}
 use Rattle.std.proofs.lemmas.Bool.{false≢true}
 use Rattle.std.proofs.lemmas.Bool.Decides.{Decides-int_eq}
-use Rattle.theory_plans.proofs.StepsOfEdges.{direction_along, direction_against}
+use Rattle.theory_plans.proofs.Edges.StepsOfEdges.{direction_along, direction_against}
 use Rattle.sb_fraction.specs.declared.point.Point.{Point}
 use Rattle.sb_fraction.specs.Plane.{are_two_points, longest_step}
 use Rattle.sb_fraction.specs.Plane.{is_forward, is_direction}

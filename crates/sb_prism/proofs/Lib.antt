@@ -1,18 +1,12 @@
 -- The proofs by topic.
 mod FaultsAreJoined
 mod EachIsRead
-mod OutlinesAreRead
-mod ContoursAreRead
-mod SolidsAreRead
-mod ShapesAreRead
+mod Outlines
+mod Solids
 mod SignsOfLengths
 mod SoundShapes
 mod ShiftsAreFramed
-mod BodiesAreRead
-mod IndicesAreRead
-mod PointsArePicked
 mod TurnedAcross
-mod ProfilesAreFlat
 mod TurnedFirst
 mod NumbersFit
 mod ShapesAreJudged

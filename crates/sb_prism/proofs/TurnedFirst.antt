@@ -27,7 +27,7 @@ use Rattle.sb_prism.specs.Outlines.{carried, frame_where, loops_in, way_of, near
 use Rattle.sb_prism.specs.Prisms.{has_far_length, near_loops, near_origin, far_origin, along_of, prism_of}
 use Rattle.sb_prism.specs.Moved.{extruded_by, depth_on, origin, IsAcross, PointsLieAcross, IsMoved, SolidsMove}
 use Rattle.sb_prism.proofs.TurnedAcross.{sum-none, sum-swapped, twice, farther-is, near_depth, far_depth}
-use Rattle.sb_prism.proofs.ProfilesAreFlat.{IsFlat, AreFlat, profile_is_flat}
+use Rattle.sb_prism.proofs.Outlines.ProfilesAreFlat.{IsFlat, AreFlat, profile_is_flat}
 
 -- ---- the frame of a position is turned by quarters
 

@@ -17,13 +17,13 @@ use Rattle.sb_place.specs.Sight.{IsSeen, absent_at, broken_at, is_other}
 use Rattle.sb_place.specs.Positions.{is_length, IsSpacePosition, IsDirection}
 use Rattle.sb_prism.specs.declared.faults.Faults.{Faults}
 use Rattle.sb_solid.specs.declared.spot.Spot.{Spot}
-use Rattle.sb_prism.specs.declared.outline.Outline.{Outline}
-use Rattle.sb_prism.specs.declared.body.Body.{Body}
+use Rattle.sb_prism.specs.declared.sections.outline.Outline.{Outline}
+use Rattle.sb_prism.specs.declared.items.body.Body.{Body}
 use Rattle.sb_prism.specs.declared.kept.Extrusion.{Extrusion}
 use Rattle.sb_prism.specs.declared.kept.Kept.{Kept}
-use Rattle.sb_prism.specs.declared.heading.Heading.{Heading}
+use Rattle.sb_prism.specs.declared.items.heading.Heading.{Heading}
 use Rattle.sb_schema.specs.declared.entities.shapes.ExtrudedAreaSolid.{ExtrudedAreaSolid}
-use Rattle.sb_prism.specs.declared.contour.Contour.{Contour}
+use Rattle.sb_prism.specs.declared.sections.contour.Contour.{Contour}
 use Rattle.sb_prism.specs.declared.measure.Measure.{Measure}
 use Rattle.sb_model.specs.declared.frame.Frame.{Frame}
 use Rattle.sb_place.specs.Kept.{local_of}

@@ -2,7 +2,7 @@
 ghost use Rattle.std.specs.Prelude.{◌≡◌};
 ghost use Rattle.sb_prism.specs.Kept as spec;
 
-use crate::indices::is_negative;
+use crate::sections::indices::is_negative;
 use sb_fixed::{nanometres, rounding_is_one_number};
 use sb_fraction::Unit;
 

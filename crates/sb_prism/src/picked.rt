@@ -6,7 +6,7 @@ ghost use Rattle.std.specs.BTreeMap.{get};
 ghost use Rattle.sb_prism.specs.Kept.{spot_in, no_spot};
 ghost use Rattle.sb_prism.specs.Picked as spec;
 
-use crate::indices::place;
+use crate::sections::indices::place;
 use crate::spot::{origin, spot_of_pair};
 use sb_fraction::Unit;
 use sb_list::Text;

@@ -7,8 +7,8 @@ ghost use Rattle.sb_prism.specs.Prisms.{IsPrismOf};
 ghost use Rattle.sb_prism.specs.Sound as sound;
 
 use crate::error::PrismError;
+use crate::items::shapes::shape_at;
 use crate::kept::Extrusion;
-use crate::shapes::shape_at;
 use sb_fraction::Unit;
 use sb_model::{Frame, Prism, Turn};
 use sb_solid::{Judged, SolidError, judge};

@@ -5,7 +5,7 @@ use Rattle.std.specs.Option.{option_map_or}
 use Rattle.theory_lists.specs.Members.{Stands}
 use Rattle.sb_schema.specs.Table.{is_one_of}
 use Rattle.sb_profile.specs.declared.defects.Code.{Code}
-use Rattle.sb_profile.specs.declared.places.Place.{Place}
+use Rattle.sb_profile.specs.declared.following.places.Place.{Place}
 use Rattle.sb_profile.specs.declared.defects.Code.TheVariants as code
 use Rattle.sb_profile.specs.Entities.{Entity}
 use Rattle.sb_profile.specs.Entities.Entity.{building}

@@ -4,8 +4,8 @@ use Rattle.std.specs.Option.{option_map_or}
 use Rattle.std.specs.List.{find}
 use Rattle.std.specs.Str.{bytes_eq}
 use Rattle.theory_lists.specs.Members.{Stands}
-use Rattle.sb_profile.specs.declared.places.Place.{Place}
-use Rattle.sb_profile.specs.declared.places.Place.TheVariants as place
+use Rattle.sb_profile.specs.declared.following.places.Place.{Place}
+use Rattle.sb_profile.specs.declared.following.places.Place.TheVariants as place
 use Rattle.sb_profile.specs.Entities.{Entity, roots, wanted_at}
 use Rattle.sb_profile.specs.Entities.Entity.{building, local_placement, axis2_placement_3d, axis2_placement_2d, product_definition_shape, shape_representation, extruded_area_solid, rectangle_profile_def, arbitrary_closed_profile_def, arbitrary_profile_def_with_voids, polyline, indexed_poly_curve, material_layer, material_layer_set, material_layer_set_usage}
 use Rattle.sb_profile.specs.Contents.{Contents, has_keyword}

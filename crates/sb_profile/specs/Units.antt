@@ -3,7 +3,7 @@ use Rattle.std.specs.Prelude.{ℕ, Bool, ◌&&◌, ◌==◌, List, [], ◌∷◌
 use Rattle.sb_fraction.specs.declared.unit.Unit as unit
 use Rattle.sb_fraction.specs.declared.unit.Unit.TheVariants as units
 use Rattle.sb_step.specs.declared.parameters.param.Param.{Param}
-use Rattle.sb_step.specs.Forms.{reference_in, enumeration_in, is_null_in}
+use Rattle.sb_step.specs.Cursors.Forms.{reference_in, enumeration_in, is_null_in}
 use Rattle.sb_schema.specs.Forms.{items_in}
 use Rattle.sb_schema.specs.Table.{is_one_of}
 use Rattle.sb_profile.specs.Contents.{Contents}

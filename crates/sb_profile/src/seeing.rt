@@ -2,15 +2,15 @@
 ghost use Rattle.std.specs.Prelude.{◌≡◌, find, OnOk};
 ghost use Rattle.std.specs.Ordering.{nat_cmp};
 ghost use Rattle.std.specs.BTreeSet.{contains};
-ghost use Rattle.sb_profile.specs.declared.places.Place.TheVariants as place;
+ghost use Rattle.sb_profile.specs.declared.following.places.Place.TheVariants as place;
 ghost use Rattle.sb_profile.specs.Contents.{Contents, Says};
 ghost use Rattle.sb_profile.specs.Following.{from};
 ghost use Rattle.sb_profile.specs.Steps.Sights.{seen_of};
 ghost use Rattle.sb_profile.specs.Steps.Found.{Leads, Finds, AreBodies, shape_fields, shape_leads};
 
-use crate::found::{Found, lead_each, lead_to, note, see, see_only};
-use crate::kinds::is_one_of;
-use crate::places::Place;
+use crate::following::found::{Found, lead_each, lead_to, note, see, see_only};
+use crate::following::places::Place;
+use crate::reading::kinds::is_one_of;
 use crate::sights::{Sight, look};
 use sb_schema::{
     ArbitraryClosedProfileDef, ArbitraryProfileDefWithVoids, Axis2Placement2d, Axis2Placement3d,

@@ -8,7 +8,7 @@ ghost use Rattle.sb_profile.specs.Following.{Lead};
 ghost use Rattle.sb_profile.specs.Steps.Found.{Leads};
 ghost use Rattle.sb_profile.specs.Steps.Sights.{sight_of, Shows};
 
-use crate::found::Found;
+use crate::following::found::Found;
 use sb_schema::ViewError;
 use sb_step::StepFile;
 use std::alloc::{AllocError, Global};

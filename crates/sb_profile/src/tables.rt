@@ -5,9 +5,9 @@ ghost use Rattle.sb_profile.specs.Steps.Kinds.{AreSorted};
 ghost use Rattle.sb_profile.specs.Steps.Links.{lowered};
 ghost use Rattle.sb_profile.specs.Steps.Read.{AreTables, unfit_roots};
 
-use crate::kinds::Kinds;
-use crate::links::{Links, fills, materials, types, voids};
-use crate::products::{Shaped, numbers_of, products, spaces, unfit_among, voided};
+use crate::reading::kinds::Kinds;
+use crate::reading::links::{Links, fills, materials, types, voids};
+use crate::reading::products::{Shaped, numbers_of, products, spaces, unfit_among, voided};
 use sb_schema::{Building, OpeningFilling};
 use sb_step::StepFile;
 use std::alloc::{AllocError, Global};

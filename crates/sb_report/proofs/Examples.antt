@@ -15,16 +15,16 @@ use Rattle.sb_fraction.specs.declared.direction.Line.{Line}
 use Rattle.sb_fraction.specs.declared.point.Point.{Point}
 use Rattle.sb_fraction.specs.declared.unit.Unit.TheVariants.{Millimetre}
 use Rattle.sb_model.specs.declared.boundary.Boundary.{Boundary}
-use Rattle.sb_model.specs.declared.face.FaceKind.TheVariants as kind
-use Rattle.sb_model.specs.declared.face.Side.TheVariants.{OnLine}
+use Rattle.sb_model.specs.declared.faces.face.FaceKind.TheVariants as kind
+use Rattle.sb_model.specs.declared.faces.face.Side.TheVariants.{OnLine}
 use Rattle.sb_model.specs.declared.layers.Layering.TheVariants.{Single}
-use Rattle.sb_model.specs.declared.patch.Patch.{Patch}
+use Rattle.sb_model.specs.declared.patches.patch.Patch.{Patch}
 use Rattle.sb_model.specs.declared.products.Element.{Element}
 use Rattle.sb_model.specs.declared.products.Space.{Space}
 use Rattle.sb_model.specs.declared.walk.End.TheVariants as end
 use Rattle.sb_model.specs.Building.{Building, building}
-use Rattle.sb_model.specs.Corners.{corners_of, level_corner}
-use Rattle.sb_model.specs.Sides.{is_patch}
+use Rattle.sb_model.specs.Surfaces.Corners.{corners_of, level_corner}
+use Rattle.sb_model.specs.Surfaces.Sides.{is_patch}
 use Rattle.sb_model.specs.Solids.{Upright, upright, is_upright}
 use Rattle.sb_fraction.specs.Spots.{vector}
 use Rattle.sb_report.specs.Strings.{fraction_text, material_text}

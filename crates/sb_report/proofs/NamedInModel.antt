@@ -8,7 +8,7 @@ use Rattle.std.proofs.lemmas.Option.{get_or_from_slice_get, slice_get_within}
 use Rattle.std.specs.List.{list_all}
 use Rattle.sb_model.specs.declared.boundary.Boundary.{Boundary}
 use Rattle.sb_model.specs.Building.{Building}
-use Rattle.sb_model.specs.Faces.{is_face_of}
+use Rattle.sb_model.specs.Surfaces.Faces.{is_face_of}
 use Rattle.sb_model.specs.ListOfModel.{is_boundary_of, is_list_of}
 
 -- a test that all items pass is passed by the item at each place

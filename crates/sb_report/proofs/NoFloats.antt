@@ -6,13 +6,13 @@ use Rattle.serde_json.specs.Data.{Data}
 use Rattle.serde_json.specs.View.{items_of}
 use Rattle.serde_json.specs.Written.{has_float, items_have_float}
 use Rattle.sb_model.specs.declared.boundary.Boundary.{Boundary}
-use Rattle.sb_model.specs.declared.corner.Corners.{Corners}
-use Rattle.sb_model.specs.declared.corner.Corners.TheVariants.{Three, Four}
+use Rattle.sb_model.specs.declared.patches.corner.Corners.{Corners}
+use Rattle.sb_model.specs.declared.patches.corner.Corners.TheVariants.{Three, Four}
 use Rattle.sb_model.specs.declared.walk.Item.{Item}
 use Rattle.sb_fraction.specs.Spots.{Vector, inner}
 use Rattle.sb_model.specs.Building.{Building}
-use Rattle.sb_model.specs.Corners.{corners_of}
-use Rattle.sb_model.specs.Facings.{normal_of}
+use Rattle.sb_model.specs.Surfaces.Corners.{corners_of}
+use Rattle.sb_model.specs.Surfaces.Facings.{normal_of}
 use Rattle.sb_report.specs.Entries.{count, signed, count_or_null, corners_data, normal_data}
 use Rattle.sb_report.specs.Entries.{unit_data, target, item_data, boundary_data}
 use Rattle.sb_report.specs.Report.{entries_from, report_data}

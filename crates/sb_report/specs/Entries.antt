@@ -7,17 +7,17 @@ use Rattle.serde_json.specs.Find.{of_integer}
 use Rattle.serde_json.specs.View.{items_of}
 use Rattle.theory_numbers.specs.Fractions.{Ratio}
 use Rattle.sb_model.specs.declared.boundary.Boundary.{Boundary}
-use Rattle.sb_model.specs.declared.corner.Corner.{Corner}
-use Rattle.sb_model.specs.declared.corner.Corners.{Corners}
-use Rattle.sb_model.specs.declared.corner.Corners.TheVariants.{Three, Four}
+use Rattle.sb_model.specs.declared.patches.corner.Corner.{Corner}
+use Rattle.sb_model.specs.declared.patches.corner.Corners.{Corners}
+use Rattle.sb_model.specs.declared.patches.corner.Corners.TheVariants.{Three, Four}
 use Rattle.sb_model.specs.declared.walk.End.{End}
 use Rattle.sb_model.specs.declared.walk.End.TheVariants as end
 use Rattle.sb_model.specs.declared.walk.Item.{Item}
 use Rattle.sb_fraction.specs.Spots.{Vector, inner}
 use Rattle.sb_model.specs.Building.{Building, material_of}
-use Rattle.sb_model.specs.Corners.{corners_of}
+use Rattle.sb_model.specs.Surfaces.Corners.{corners_of}
 use Rattle.sb_report.specs.Strings.{fraction_text, material_text, face_name, end_name}
-use Rattle.sb_model.specs.Facings.{normal_of}
+use Rattle.sb_model.specs.Surfaces.Facings.{normal_of}
 
 -- a number without a sign
 abbrev pub count : ℕ → Data

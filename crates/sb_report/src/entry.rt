@@ -3,8 +3,8 @@
 ghost use Rattle.std.specs.Prelude.{◌≡◌, ◌||◌, IfOk, OnOk, Some, IsTrue, codes};
 ghost use Rattle.serde_json.specs.Data.{string, put as with};
 ghost use Rattle.serde_json.specs.View.{view, members_view};
-ghost use Rattle.sb_model.specs.Corners.{corners_of};
-ghost use Rattle.sb_model.specs.Faces.{is_face_of};
+ghost use Rattle.sb_model.specs.Surfaces.Corners.{corners_of};
+ghost use Rattle.sb_model.specs.Surfaces.Faces.{is_face_of};
 ghost use Rattle.sb_report.specs.Strings.{face_name, end_name};
 ghost use Rattle.sb_model.specs.Building.{is_level_axis, is_upright_axis};
 ghost use Rattle.sb_model.specs.Labels.{axis_vector};

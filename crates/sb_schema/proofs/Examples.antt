@@ -4,7 +4,7 @@ use Rattle.std.specs.Prelude.{codes}
 use Rattle.sb_step.specs.declared.parameters.param.Param.{Param}
 use Rattle.sb_step.specs.declared.parameters.param.Param.TheVariants as param
 use Rattle.sb_step.specs.declared.parameters.param.Param.TheViews.{outs-Int, outs-Reference}
-use Rattle.sb_step.specs.Forms.{reference_in, number_in, integer_in}
+use Rattle.sb_step.specs.Cursors.Forms.{reference_in, number_in, integer_in}
 use Rattle.sb_schema.specs.Forms.{value, items_of, list_of, each, pair_in, typed_list_in, only_if, are_two, are_two_or_three, with_first}
 use Rattle.sb_schema.specs.Forms.Form.{reference, reference_or_none, number, string, string_or_none, enumeration, references, coordinates, pairs, typed_lists_or_none}
 use Rattle.sb_schema.specs.Rows as rows

@@ -6,10 +6,10 @@ use Rattle.sb_step.specs.declared.parameters.param.Param.TheViews.{out-Param, ro
 use Rattle.std.proofs.lemmas.Option.{same_Some}
 use Rattle.sb_step.specs.declared.parameters.param.Param.TheOpen as opened
 use Rattle.sb_step.specs.declared.parameters.param.Param.TheOpen.{Param-F}
-use Rattle.sb_step.specs.Forms.{IsList, IsTyped}
+use Rattle.sb_step.specs.Cursors.Forms.{IsList, IsTyped}
 use Rattle.sb_schema.specs.declared.lists.TypedList.{TypedList}
 use Rattle.sb_schema.specs.Forms.{items_of, items_in, each, with_first, typed_list_of, typed_list_in, list_of, only_if, are_two}
-use Rattle.sb_step.specs.Forms.{integer_in}
+use Rattle.sb_step.specs.Cursors.Forms.{integer_in}
 use Rattle.std.proofs.lemmas.Bool.Decides.{nat_tests}
 
 -- what has items is a list of them

@@ -2,7 +2,7 @@
 use Rattle.std.specs.Prelude.{ℕ, ◌==◌, ◌||◌, Bool, List, [], ◌∷◌, Option, Some, None, length, option_map, option_and_then, if◌then◌else◌}
 use Rattle.sb_step.specs.declared.parameters.param.Param.{Param}
 use Rattle.sb_step.specs.declared.parameters.param.Param.TheVariants as param
-use Rattle.sb_step.specs.Forms.{reference_in, reference_or_none_in, number_in, integer_in, enumeration_in, string_in}
+use Rattle.sb_step.specs.Cursors.Forms.{reference_in, reference_or_none_in, number_in, integer_in, enumeration_in, string_in}
 use Rattle.sb_step.specs.declared.parameters.param.Param.TheViews.{out-Param}
 use Rattle.sb_step.specs.declared.parameters.param.Param.TheOpen as opened
 use Rattle.sb_step.specs.declared.parameters.param.Param.TheOpen.{Param-F}

@@ -1,6 +1,6 @@
 // Lists whose items are gone over one by one, and kept in the text alone.
 ghost use Rattle.std.specs.Prelude.{◌≡◌, ℕ, [], ◌∷◌, drop, slice_get, option_map, is_some};
-ghost use Rattle.sb_step.specs.Forms.{reference_in, number_in};
+ghost use Rattle.sb_step.specs.Cursors.Forms.{reference_in, number_in};
 ghost use Rattle.sb_schema.specs.Forms.{each, pair_in, only_if, are_two};
 
 use crate::lists::items;
@@ -16,7 +16,7 @@ pub struct LentReferences<'a> {
 
 impl<'a> Model for LentReferences<'a> {
     ghost use Rattle.std.specs.Prelude.{◌≡◌, ℕ, List, [], true, is_some, unwrap_or};
-    ghost use Rattle.sb_step.specs.Forms.{reference_in};
+    ghost use Rattle.sb_step.specs.Cursors.Forms.{reference_in};
     ghost use Rattle.sb_schema.specs.Forms.{each};
 
     ghost Value = { List ℕ };

@@ -1,7 +1,7 @@
 // Lists whose items are all of one form.
 ghost use Rattle.std.specs.Prelude.{◌≡◌, List, Option, drop, slice_get, option_copied, IfOk, OnOk};
 ghost use Rattle.sb_step.specs.declared.parameters.param.Param.{Param};
-ghost use Rattle.sb_step.specs.Forms.{reference_in, number_in, integer_in};
+ghost use Rattle.sb_step.specs.Cursors.Forms.{reference_in, number_in, integer_in};
 ghost use Rattle.sb_schema.specs.Forms.{items_in, each, list_of, pair_in, typed_list_in, only_if, are_two, are_two_or_three};
 
 use sb_list::{Listed, Text};

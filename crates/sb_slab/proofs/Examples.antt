@@ -14,7 +14,7 @@ use Rattle.theory_numbers.specs.Arrows.{Arrow, arrow, cross, dot}
 use Rattle.theory_numbers.specs.Divisors.{greatest_divisor, divisor_within}
 use Rattle.theory_numbers.specs.Fractions.{Ratio, whole}
 use Rattle.theory_numbers.specs.Rationals.{rational, IsBelow, IsSame}
-use Rattle.theory_numbers.proofs.Clear.{positive_between}
+use Rattle.theory_numbers.proofs.Fractions.Clear.{positive_between}
 use Rattle.theory_plane.specs.Sides.{clearance, clearance_at}
 use Rattle.sb_fraction.specs.declared.direction.Direction.{Direction}
 use Rattle.sb_fraction.specs.Lines.{flat, line_over, span_along}

@@ -13,7 +13,7 @@ use Rattle.theory_numbers.specs.Arrows.{Arrow}
 use Rattle.theory_plane.specs.Sides.{LineSide, IsLineSide}
 use Rattle.theory_plane.specs.Leads.{leads, order_past}
 use Rattle.theory_plane.proofs.LeadsIsAnOrder.{leads_one_way, leads_chain}
-use Rattle.theory_parity.proofs.BelowFlips.{reaching_is_line}
+use Rattle.theory_parity.proofs.Rays.BelowFlips.{reaching_is_line}
 use Rattle.sb_fraction.specs.Edges.{edge_of}
 use Rattle.sb_fraction.specs.Lines.{arrow_along}
 use Rattle.sb_fraction.specs.Numbers.{number}

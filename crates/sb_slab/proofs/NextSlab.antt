@@ -19,7 +19,7 @@ use Rattle.theory_numbers.specs.Arrows.{Arrow}
 use Rattle.theory_numbers.specs.Divisors.{are_coprime}
 use Rattle.theory_numbers.specs.Fractions.{Ratio}
 use Rattle.theory_numbers.proofs.Products.{positive_product, weak_square}
-use Rattle.theory_numbers.proofs.Rationals.{at_most_refl}
+use Rattle.theory_numbers.proofs.Fractions.Rationals.{at_most_refl}
 use Rattle.theory_numbers.proofs.Shapes.{dot_eq}
 use Rattle.theory_numbers.proofs.Signs.{same_tests, less_from}
 use Rattle.theory_parity.specs.Below.{IsWay}
@@ -29,7 +29,7 @@ use Rattle.sb_fraction.specs.Lines.{arrow_along, reaches_past}
 use Rattle.sb_fraction.specs.Numbers.{number}
 use Rattle.sb_fraction.specs.Plane.{is_forward, longest_step}
 use Rattle.sb_model.specs.Building.{Building}
-use Rattle.sb_model.specs.Sides.{is_abscissa_size as is_end_size}
+use Rattle.sb_model.specs.Surfaces.Sides.{is_abscissa_size as is_end_size}
 use Rattle.sb_model.specs.PlanEdges.{PlanEdge, plan_edges}
 use Rattle.theory_lines.specs.Slabs.{AreAbscissae, AreNeighbours, IsSlab, is_spanning, places_from}
 use Rattle.theory_lines.specs.Slabs.{spanning_places, IsSlabOrder}

@@ -10,7 +10,7 @@ use Rattle.sb_fraction.specs.Bounds.{is_abscissa_size}
 use Rattle.sb_fraction.specs.Lines.{arrow_along}
 use Rattle.sb_fraction.specs.Numbers.{number}
 use Rattle.sb_model.specs.Building.{Building}
-use Rattle.sb_model.specs.Sides.{is_abscissa_size as is_end_size}
+use Rattle.sb_model.specs.Surfaces.Sides.{is_abscissa_size as is_end_size}
 use Rattle.sb_model.specs.PlanEdges.{PlanEdge, plan_edges}
 use Rattle.theory_lines.specs.Slabs.{AreAbscissae, AreNeighbours, IsSlabOrder}
 use Rattle.sb_frame.specs.Network.{Network}

@@ -15,8 +15,4 @@ pub mod Records
 -- what a parameter list says, and how it is read
 pub mod Params
 -- what a cursor over parameters stands before
-pub mod Cursor
--- how it passes over one
-pub mod Passing
--- and which form the next one has
-pub mod Forms
+pub mod Cursors

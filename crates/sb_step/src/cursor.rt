@@ -8,8 +8,8 @@ ghost use Rattle.sb_step.specs.Params.Parameters.{HasParameters};
 ghost use Rattle.sb_step.specs.Params.ParamsAnswers.{AwaitsByForm, SaysByForm, AwaitsList, ListSays};
 ghost use Rattle.std.specs.Coded.{Coded-set, coded_list};
 ghost use Rattle.sb_step.specs.contracts.parameters.param.Param as param;
-ghost use Rattle.sb_step.specs.Cursor as spec;
-ghost use Rattle.sb_step.specs.Cursor.{AreLeft, StandsAt, ListBehind, Left, Left-prop, LeftAreUnique, LeftAreUnique-prop};
+ghost use Rattle.sb_step.specs.Cursors.Cursor as spec;
+ghost use Rattle.sb_step.specs.Cursors.Cursor.{AreLeft, StandsAt, ListBehind, Left, Left-prop, LeftAreUnique, LeftAreUnique-prop};
 
 use crate::kinds::is_close;
 use crate::parameters::reading::next;
@@ -39,7 +39,7 @@ pub struct Cursor<'a> {
 impl<'a> Model for Cursor<'a> {
     ghost use Rattle.std.specs.Prelude.{List};
     ghost use Rattle.sb_step.specs.declared.parameters.param.Param.{Param};
-    ghost use Rattle.sb_step.specs.Cursor.{AreLeft};
+    ghost use Rattle.sb_step.specs.Cursors.Cursor.{AreLeft};
     ghost use Rattle.std.specs.Coded.{coded_list};
     ghost use Rattle.sb_step.specs.contracts.parameters.param.Param as param;
 

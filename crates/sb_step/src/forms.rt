@@ -1,15 +1,15 @@
 // The next parameter, by its form.
 ghost use Rattle.std.specs.Prelude.{◌≡◌, ◌↔◌, List, None, drop, slice_get, IfSome};
 ghost use Rattle.sb_step.specs.declared.parameters.param.Param.{Param};
-ghost use Rattle.sb_step.specs.Cursor.{StandsAt};
+ghost use Rattle.sb_step.specs.Cursors.Cursor.{StandsAt};
 ghost use Rattle.std.specs.Option.{option_copied};
-ghost use Rattle.sb_step.specs.Forms.{reference_in, reference_or_none_in, number_in, IsList, IsTyped};
+ghost use Rattle.sb_step.specs.Cursors.Forms.{reference_in, reference_or_none_in, number_in, IsList, IsTyped};
 ghost use Rattle.std.specs.Prelude.{ℕ, slice_range, IsTrue};
 ghost use Rattle.sb_step.specs.KindTests.{is_keyword as is_keyword_of};
-ghost use Rattle.sb_step.specs.Forms.{enumeration_in, string_in, enumeration_text, is_string as is_string_of};
-ghost use Rattle.sb_step.specs.Forms.{is_null_in, is_dollar as is_dollar_of, integer_in};
+ghost use Rattle.sb_step.specs.Cursors.Forms.{enumeration_in, string_in, enumeration_text, is_string as is_string_of};
+ghost use Rattle.sb_step.specs.Cursors.Forms.{is_null_in, is_dollar as is_dollar_of, integer_in};
 ghost use Rattle.std.specs.Prelude.{◌≤◌, length, IfOk, OnOk, OnErr};
-ghost use Rattle.sb_step.specs.Forms.{name_of, name_or_none_of, number_text, integer_text};
+ghost use Rattle.sb_step.specs.Cursors.Forms.{name_of, name_or_none_of, number_text, integer_text};
 
 use crate::cursor::{Cursor, inside};
 use crate::kinds::{is_keyword, is_open};

@@ -3,7 +3,7 @@ ghost use Rattle.std.specs.Prelude.{◌≡◌, ◌≤◌, List};
 ghost use Rattle.sb_step.specs.Lexemes.{Lexeme, lexeme_at};
 ghost use Rattle.sb_step.specs.Params.Parameters.{IsParameter, AreFurther};
 ghost use Rattle.sb_step.specs.Params.Readers.{Awaits, Behind};
-ghost use Rattle.sb_step.specs.Passing.{StillOpen, Opens, HasClosed, PassesOver, Leaves, depth_behind as behind_kind};
+ghost use Rattle.sb_step.specs.Cursors.Passing.{StillOpen, Opens, HasClosed, PassesOver, Leaves, depth_behind as behind_kind};
 
 use crate::kinds::{is_close, is_comma, is_keyword, is_open};
 use crate::parameters::reading::next;

@@ -8,11 +8,11 @@ use Rattle.theory_lists.specs.Members.{Stands, AllOfTwo}
 use Rattle.theory_lists.proofs.Members.{all_stands, stands_at}
 use Rattle.theory_numbers.specs.Arrows.{Arrow}
 use Rattle.theory_numbers.specs.Rationals.{IsRational, IsBelow, IsAtMost, IsSame, mediant}
-use Rattle.theory_numbers.proofs.Rationals.{number_cases, below_clash, at_most_from_below}
-use Rattle.theory_numbers.proofs.Rationals.{mediant_between, mediant-IsRational}
+use Rattle.theory_numbers.proofs.Fractions.Rationals.{number_cases, below_clash, at_most_from_below}
+use Rattle.theory_numbers.proofs.Fractions.Rationals.{mediant_between, mediant-IsRational}
 use Rattle.theory_plane.specs.Sides.{IsLineSide, clearance_at}
 use Rattle.theory_plane.proofs.Clearance.{higher_is}
-use Rattle.theory_plans.proofs.EdgesOfPlans.{is_proper_edge}
+use Rattle.theory_plans.proofs.Edges.EdgesOfPlans.{is_proper_edge}
 use Rattle.sb_fraction.specs.Edges.{are_collinear}
 use Rattle.sb_fraction.specs.Lines.{line_over, reaches_past}
 use Rattle.sb_model.specs.Building.{Building, is_building}

@@ -16,7 +16,7 @@ use Rattle.sb_fraction.specs.Spots.{Vector}
 use Rattle.sb_model.specs.declared.products.Space.{Space}
 use Rattle.sb_model.specs.declared.products.Element.{Element}
 use Rattle.sb_model.specs.Building.{Building, is_building}
-use Rattle.sb_model.specs.Faces.{space_numbered}
+use Rattle.sb_model.specs.Surfaces.Faces.{space_numbered}
 use Rattle.sb_model.specs.Walks.{element_numbered}
 use Rattle.sb_model.specs.PlanEdges.{PlanEdge}
 use Rattle.theory_models.proofs.NumbersApart.{own_numbers}
@@ -26,7 +26,7 @@ use Rattle.sb_frame.specs.Rising.{IsRisingOf}
 use Rattle.sb_walk.specs.Present.{ArePresent}
 use Rattle.sb_walk.specs.Behind.{prism_ends, space_ends, element_ends, ends_at, ends_of}
 use Rattle.sb_walk.specs.WalksInGaps.{positions_after}
-use Rattle.sb_walk.proofs.LabelsOfPresent.{found_there}
+use Rattle.sb_walk.proofs.Reading.LabelsOfPresent.{found_there}
 
 -- ---- rising positions behind a beginning
 

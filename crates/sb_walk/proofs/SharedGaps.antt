@@ -14,7 +14,7 @@ use Rattle.theory_lists.proofs.Members.{all_stands, all_that_stand, all_follow}
 use Rattle.theory_lists.proofs.Parity.{differ-false, differ_assoc}
 use Rattle.theory_numbers.specs.Arrows.{Arrow, dot}
 use Rattle.theory_numbers.specs.Rationals.{IsRational, mediant}
-use Rattle.theory_numbers.proofs.Rationals.{mediant_between, mediant-IsRational, at_most_from_below}
+use Rattle.theory_numbers.proofs.Fractions.Rationals.{mediant_between, mediant-IsRational, at_most_from_below}
 use Rattle.theory_numbers.proofs.Signs.{less_from, test_less}
 use Rattle.theory_plane.specs.Sides.{clearance}
 use Rattle.theory_plane.proofs.Clearance.{meeting_is}
@@ -30,7 +30,7 @@ use Rattle.theory_lines.specs.Slabs.{AreOnOneLine, IsSlab, IsSlabOrder, spanning
 use Rattle.theory_lines.proofs.SlabOrderIsOne.{SpansAt, spans_at}
 use Rattle.theory_gaps.specs.Gaps.{with_one, edges_at, edges_before, is_present, IsRealGap, OverlapInGap}
 use Rattle.theory_gaps.proofs.EdgesAtANumber.{line_if_same, collinear_if_same, same_if_collinear}
-use Rattle.theory_gaps.proofs.OverlapInGaps.{has_overlap_in_gaps}
+use Rattle.theory_gaps.proofs.Gaps.OverlapInGaps.{has_overlap_in_gaps}
 use Rattle.theory_gaps.proofs.RowsOfSlabs.{order_is_row}
 use Rattle.sb_frame.specs.Directions.{along_x}
 use Rattle.sb_walk.specs.Overlaps.{HaveCommonPoint}

@@ -8,7 +8,7 @@ use Rattle.std.proofs.lemmas.Option.{same_Some, none-some}
 use Rattle.theory_lists.specs.Members.{Stands}
 use Rattle.sb_model.specs.declared.products.Space.{Space}
 use Rattle.sb_model.specs.Building.{Building}
-use Rattle.sb_model.specs.Faces.{space_numbered}
+use Rattle.sb_model.specs.Surfaces.Faces.{space_numbered}
 
 -- what is found stands in the list and passes the test
 found_in : {X : Type 0} (test : X → Bool) (xs : List X) (x : X) → find test xs ≡ Some x

@@ -6,12 +6,12 @@ use Rattle.sb_fraction.specs.Spots.{Spot, IsSpot}
 use Rattle.sb_model.specs.declared.boundary.Cell.{Cell}
 use Rattle.sb_model.specs.declared.products.Space.{Space}
 use Rattle.sb_model.specs.Building.{Building}
-use Rattle.sb_model.specs.Faces.{is_in_plane, is_of_face, space_numbered}
-use Rattle.sb_model.specs.FineCells.{IsFineCell, IsLineOf}
-use Rattle.sb_model.specs.Patches.{is_in_patch}
-use Rattle.sb_model.specs.PlainPoints.{is_plain}
+use Rattle.sb_model.specs.Surfaces.Faces.{is_in_plane, is_of_face, space_numbered}
+use Rattle.sb_model.specs.Surfaces.FineCells.{IsFineCell, IsLineOf}
+use Rattle.sb_model.specs.Surfaces.Patches.{is_in_patch}
+use Rattle.sb_model.specs.Surfaces.PlainPoints.{is_plain}
 use Rattle.sb_model.specs.PlanEdges.{PlanEdge}
-use Rattle.sb_model.specs.Sides.{line_of}
+use Rattle.sb_model.specs.Surfaces.Sides.{line_of}
 use Rattle.sb_model.specs.Walks.{IsWalk}
 use Rattle.sb_frame.specs.declared.slab.Slab.{Slab}
 use Rattle.sb_walk.specs.declared.way.Way.{Way}

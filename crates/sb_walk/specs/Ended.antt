@@ -3,8 +3,8 @@
 use Rattle.std.specs.Prelude.{◌*◌, ℤ, pos, ◌-ℤ◌, unsigned_abs, List, Option, Some, None, if◌then◌else◌}
 use Rattle.theory_numbers.specs.Fractions.{whole}
 use Rattle.theory_numbers.specs.Rationals.{rational}
-use Rattle.sb_model.specs.declared.label.Label.{Label}
-use Rattle.sb_model.specs.declared.label.Label.TheVariants as label
+use Rattle.sb_model.specs.declared.labels.label.Label.{Label}
+use Rattle.sb_model.specs.declared.labels.label.Label.TheVariants as label
 use Rattle.sb_model.specs.declared.products.Element.{Element}
 use Rattle.sb_model.specs.declared.walk.End.{End}
 use Rattle.sb_model.specs.declared.walk.End.TheVariants as end

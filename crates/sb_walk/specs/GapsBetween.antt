@@ -3,10 +3,10 @@
 use Rattle.std.specs.Prelude.{◌≡◌, ℕ, zero, suc, Bool, List, Some, slice_get}
 use Rattle.theory_numbers.specs.Fractions.{Ratio}
 use Rattle.sb_fraction.specs.declared.direction.Line.{Line}
-use Rattle.sb_model.specs.declared.face.FaceKind.TheVariants as kind
-use Rattle.sb_model.specs.declared.face.Side.TheVariants.{OnLine}
+use Rattle.sb_model.specs.declared.faces.face.FaceKind.TheVariants as kind
+use Rattle.sb_model.specs.declared.faces.face.Side.TheVariants.{OnLine}
 use Rattle.sb_model.specs.PlanEdges.{PlanEdge}
-use Rattle.sb_model.specs.Sides.{is_patch}
+use Rattle.sb_model.specs.Surfaces.Sides.{is_patch}
 
 -- gap j of a row of edges lies between e and f: e is the last before it, and f the first behind it
 abbrev pub IsBetween : List PlanEdge → ℕ → PlanEdge → PlanEdge → Type 0

@@ -2,15 +2,15 @@
 
 use Rattle.std.specs.Prelude.{◌≡◌, Bool, true, false, Some}
 use Rattle.sb_fraction.specs.Spots.{Spot, IsSpot, Vector}
-use Rattle.sb_model.specs.declared.face.FaceKind.{FaceKind}
-use Rattle.sb_model.specs.declared.face.FaceKind.TheVariants as kind
-use Rattle.sb_model.specs.declared.patch.Patch.{Patch}
+use Rattle.sb_model.specs.declared.faces.face.FaceKind.{FaceKind}
+use Rattle.sb_model.specs.declared.faces.face.FaceKind.TheVariants as kind
+use Rattle.sb_model.specs.declared.patches.patch.Patch.{Patch}
 use Rattle.sb_model.specs.declared.products.Space.{Space}
 use Rattle.sb_model.specs.Building.{Building}
-use Rattle.sb_model.specs.Faces.{Surface, surface_of, space_numbered}
-use Rattle.sb_model.specs.FineCells.{IsFineCell}
-use Rattle.sb_model.specs.Patches.{is_in_patch}
-use Rattle.sb_model.specs.PlainPoints.{is_plain}
+use Rattle.sb_model.specs.Surfaces.Faces.{Surface, surface_of, space_numbered}
+use Rattle.sb_model.specs.Surfaces.FineCells.{IsFineCell}
+use Rattle.sb_model.specs.Surfaces.Patches.{is_in_patch}
+use Rattle.sb_model.specs.Surfaces.PlainPoints.{is_plain}
 
 -- Bottom and Top
 abbrev pub is_level : FaceKind → Bool

@@ -3,13 +3,13 @@
 use Rattle.std.specs.Prelude.{◌≡◌, ℕ, ℤ, true, List, [], ◌∷◌, int_lt, if◌then◌else◌}
 use Rattle.sb_fraction.specs.Numbers.{number}
 use Rattle.sb_fraction.specs.Spots.{Spot, IsSpot, Vector}
-use Rattle.sb_model.specs.declared.face.FaceKind.{FaceKind}
-use Rattle.sb_model.specs.declared.face.FaceKind.TheVariants as kind
+use Rattle.sb_model.specs.declared.faces.face.FaceKind.{FaceKind}
+use Rattle.sb_model.specs.declared.faces.face.FaceKind.TheVariants as kind
 use Rattle.sb_model.specs.declared.products.Space.{Space}
 use Rattle.sb_model.specs.declared.walk.Walk.{Walk}
 use Rattle.sb_model.specs.Building.{Building}
-use Rattle.sb_model.specs.Faces.{Surface, bottom_of, top_of}
-use Rattle.sb_model.specs.PlainPoints.{is_plain}
+use Rattle.sb_model.specs.Surfaces.Faces.{Surface, bottom_of, top_of}
+use Rattle.sb_model.specs.Surfaces.PlainPoints.{is_plain}
 use Rattle.sb_model.specs.Solids.{Upright}
 use Rattle.sb_model.specs.Walks.{Course, IsWalk}
 use Rattle.theory_gaps.specs.Borders.{exit_along}

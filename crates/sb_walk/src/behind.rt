@@ -2,7 +2,7 @@
 
 ghost use Rattle.std.specs.Prelude.{◌≡◌, IsTrue};
 ghost use Rattle.std.specs.List.{find};
-ghost use Rattle.sb_model.specs.Faces.{space_numbered};
+ghost use Rattle.sb_model.specs.Surfaces.Faces.{space_numbered};
 ghost use Rattle.sb_model.specs.Solids.{is_height};
 ghost use Rattle.sb_model.specs.Walks.{element_numbered};
 ghost use Rattle.theory_gaps.specs.Borders.{open_behind as is_open_behind};
@@ -74,7 +74,7 @@ fn element_reaches_on(model: &Model, number: u32, way: Way, z: i32) -> bool
 }
 
 /// The earth or the air.
-#[tactic(auto, using(crate::proofs::HeightsFit::heights))]
+#[tactic(auto, using(crate::proofs::Ranges::HeightsFit::heights))]
 fn open_behind(model: &Model, way: Way, z: i32) -> Label
     ensures { result ≡ is_open_behind (normal_of way) model.now.ground_height z }
 {

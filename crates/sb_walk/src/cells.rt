@@ -4,7 +4,7 @@ ghost use Rattle.std.specs.Prelude.{◌≡◌, ◌&&◌, false, IfOk, IsTrue};
 ghost use Rattle.sb_fraction.specs.Edges.{are_collinear};
 ghost use Rattle.sb_fraction.specs.Lines.{arrow_along};
 ghost use Rattle.sb_model.specs.PlanEdges.{plan_edges};
-ghost use Rattle.sb_model.specs.Sides.{is_abscissa_size};
+ghost use Rattle.sb_model.specs.Surfaces.Sides.{is_abscissa_size};
 ghost use Rattle.theory_gaps.specs.Gaps.{edges_at, edges_before};
 ghost use Rattle.sb_frame.specs.Directions.{along_x};
 ghost use Rattle.sb_frame.specs.Network.{plan_edge_of};

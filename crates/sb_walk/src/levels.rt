@@ -78,7 +78,7 @@ pub(crate) fn walk_of_space(
 }
 
 /// The position of the ground.
-#[tactic(auto, using(crate::proofs::HeightsFit::heights))]
+#[tactic(auto, using(crate::proofs::Ranges::HeightsFit::heights))]
 pub(crate) fn ground_position(model: &Model, way: Way) -> i32
     ensures value { result ≡ ground_along (normal_of way) model.now.ground_height }
     ensures is_building { IsTrue (is_building model.now) }

@@ -5,7 +5,7 @@ ghost use Rattle.sb_fraction.specs.Directions.{direction_of, offset_of};
 ghost use Rattle.sb_fraction.specs.Edges.{edge_of, is_in_range};
 ghost use Rattle.sb_fraction.specs.Lines.{arrow_along, flat};
 ghost use Rattle.sb_fraction.specs.Plane.{is_plan_point, greatest_coordinate, longest_step};
-ghost use Rattle.sb_model.specs.Sides.{greatest_offset};
+ghost use Rattle.sb_model.specs.Surfaces.Sides.{greatest_offset};
 
 use sb_fraction::{Direction, Line, Point, Segment};
 use sb_points::heading_of;
@@ -25,7 +25,7 @@ pub(crate) fn line_through(s: &Segment) -> Line
 }
 
 /// The offset of the line of this direction through a plan point.
-#[tactic(auto, using(crate::proofs::OffsetsFit::offsets))]
+#[tactic(auto, using(crate::proofs::Ranges::OffsetsFit::offsets))]
 fn offset(a: Point, d: Direction) -> i64
     requires { IsTrue (is_plan_point a) }
     ensures value { result ≡ (a.y *ℤ d.x) -ℤ (a.x *ℤ d.y) }
@@ -35,7 +35,7 @@ fn offset(a: Point, d: Direction) -> i64
 }
 
 /// A coordinate times a number of a direction.
-#[tactic(auto, using(crate::proofs::OffsetsFit::offsets))]
+#[tactic(auto, using(crate::proofs::Ranges::OffsetsFit::offsets))]
 fn part(a: i32, step: i32) -> i64
     requires coordinate_in { unsigned_abs a ≤ greatest_coordinate }
     requires step_in { unsigned_abs step ≤ longest_step }

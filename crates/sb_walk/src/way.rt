@@ -19,7 +19,7 @@ pub enum Way {
 
 impl Way {
     /// The position at which a prism is entered.
-    #[tactic(auto, using(crate::proofs::HeightsFit::heights))]
+    #[tactic(auto, using(crate::proofs::Ranges::HeightsFit::heights))]
     pub(crate) fn entry(self, prism: &Prism) -> i32
         ensures { result ≡ entry_along (normal_of self) prism.now }
     {
@@ -30,7 +30,7 @@ impl Way {
     }
 
     /// The position at which it is left.
-    #[tactic(auto, using(crate::proofs::HeightsFit::heights))]
+    #[tactic(auto, using(crate::proofs::Ranges::HeightsFit::heights))]
     pub(crate) fn exit(self, prism: &Prism) -> i32
         ensures { result ≡ exit_along (normal_of self) prism.now }
     {

@@ -10,7 +10,7 @@ use Rattle.sb_model.specs.declared.products.Opening.{Opening}
 use Rattle.sb_model.specs.Building.{Building, is_opening, opening_numbered, is_element, element_numbered}
 use Rattle.sb_model.specs.declared.products.Space.{Space}
 use Rattle.sb_model.specs.Building.{is_filling, filling_numbered, is_space}
-use Rattle.sb_model.specs.Faces.{space_numbered}
+use Rattle.sb_model.specs.Surfaces.Faces.{space_numbered}
 
 found_or : {X : Type 0} (b : Bool) (x : X) (rest : Option X) (any : Bool) → is_some rest ≡ any
     → is_some (if b then Some x else rest) ≡ (b || any)

@@ -8,11 +8,11 @@ use Rattle.theory_numbers.specs.Fractions.{Ratio, reduced, whole}
 use Rattle.theory_plane.specs.Sides.{LineSide, line, level, clearance}
 use Rattle.theory_plane.specs.Regions.{Region, is_region}
 use Rattle.sb_fraction.specs.Plane.{is_direction}
-use Rattle.sb_model.specs.declared.face.FaceKind.{FaceKind}
-use Rattle.sb_model.specs.declared.face.FaceKind.TheVariants as kind
-use Rattle.sb_model.specs.declared.face.Side.{Side}
-use Rattle.sb_model.specs.declared.face.Side.TheVariants.{Height}
-use Rattle.sb_model.specs.Sides.{line_of, arrow_of, is_side_of, is_abscissa_size, is_patch}
+use Rattle.sb_model.specs.declared.faces.face.FaceKind.{FaceKind}
+use Rattle.sb_model.specs.declared.faces.face.FaceKind.TheVariants as kind
+use Rattle.sb_model.specs.declared.faces.face.Side.{Side}
+use Rattle.sb_model.specs.declared.faces.face.Side.TheVariants.{Height}
+use Rattle.sb_model.specs.Surfaces.Sides.{line_of, arrow_of, is_side_of, is_abscissa_size, is_patch}
 
 -- a direction
 pub along_x_is : IsTrue (is_direction (pos 1) (pos 0))

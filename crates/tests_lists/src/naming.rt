@@ -4,7 +4,7 @@
 ghost use Rattle.std.specs.Prelude.{◌≡◌, ◌&&◌, Some};
 ghost use Rattle.std.specs.List.{list_all};
 ghost use Rattle.sb_model.specs.Building.{is_space, is_element, is_opening, is_filling};
-ghost use Rattle.sb_model.specs.Faces.{is_face_of, has_face};
+ghost use Rattle.sb_model.specs.Surfaces.Faces.{is_face_of, has_face};
 ghost use Rattle.sb_model.specs.ListOfModel.{is_list_of, is_boundary_of, is_end_of, is_key_of, is_id_in};
 
 use sb_model::{Boundaries, Boundary, End, Face, FaceKind, Item, Model, Space};

@@ -3,7 +3,7 @@
 ghost use Rattle.std.specs.Prelude.{◌≡◌, ◌<◌, pos, true};
 ghost use Rattle.theory_numbers.specs.Fractions.{whole as whole_number};
 ghost use Rattle.theory_plane.specs.Sides.{line};
-ghost use Rattle.sb_model.specs.Sides.{line_of, is_side_of};
+ghost use Rattle.sb_model.specs.Surfaces.Sides.{line_of, is_side_of};
 
 use sb_fraction::{Direction, Fraction, Line};
 use sb_model::{Face, FaceKind, Patch, Side};

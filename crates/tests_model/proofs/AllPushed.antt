@@ -6,7 +6,7 @@ use Rattle.std.proofs.lemmas.List.Folds.{list_all-append}
 use Rattle.std.proofs.Common.{ℤ, pos, ◌≤◌, unsigned_abs, nat_le, le_trans, lit≤}
 use Rattle.std.proofs.lemmas.Bool.{and_from, le-leb}
 use Rattle.theory_numbers.specs.Fractions.{Ratio, reduced}
-use Rattle.theory_numbers.proofs.LowestTerms.{reduced-one}
+use Rattle.theory_numbers.proofs.Fractions.LowestTerms.{reduced-one}
 use Rattle.sb_fraction.specs.Bounds.{is_abscissa_size, greatest_abscissa}
 
 -- all still pass

@@ -1,7 +1,7 @@
 ghost use Rattle.std.specs.Prelude.{◌<ℤ◌, pos, IsTrue};
 ghost use Rattle.sb_fraction.specs.Bounds.{is_crossing_size};
 ghost use Rattle.sb_fraction.specs.Spots.{spot_of};
-ghost use Rattle.sb_model.specs.Faces.{is_face_of};
+ghost use Rattle.sb_model.specs.Surfaces.Faces.{is_face_of};
 
 use crate::{cube, height, left_of_crossing, names_face, right_of_crossing, slanted_side, wedge};
 use sb_fraction::{Fraction, HPoint};

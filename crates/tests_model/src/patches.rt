@@ -2,8 +2,8 @@
 
 ghost use Rattle.std.specs.Prelude.{◌≡◌, pos, negsuc, true};
 ghost use Rattle.theory_plane.specs.Sides.{line};
-ghost use Rattle.sb_model.specs.Sides.{line_of, is_side_of};
-ghost use Rattle.sb_model.specs.Faces.{is_face_of};
+ghost use Rattle.sb_model.specs.Surfaces.Sides.{line_of, is_side_of};
+ghost use Rattle.sb_model.specs.Surfaces.Faces.{is_face_of};
 
 use sb_fraction::{Direction, Fraction, Line};
 use sb_model::{Face, FaceKind, Model, Patch, Side};

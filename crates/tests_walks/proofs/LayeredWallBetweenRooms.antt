@@ -7,8 +7,8 @@ use Rattle.std.proofs.lemmas.Int.{ints}
 use Rattle.std.proofs.lemmas.Bool.{lt-ltb, le-ltb, and_from, and_left, and_right}
 use Rattle.theory_numbers.specs.Divisors.{greatest_divisor, divisor_within}
 use Rattle.theory_numbers.specs.Fractions.{reduced, whole}
-use Rattle.theory_numbers.proofs.LowestTerms.{lowest_is_reduced}
-use Rattle.theory_numbers.proofs.Reduced.{whole_is_reduced}
+use Rattle.theory_numbers.proofs.Fractions.LowestTerms.{lowest_is_reduced}
+use Rattle.theory_numbers.proofs.Fractions.Reduced.{whole_is_reduced}
 use Rattle.theory_numbers.specs.Arrows.{Arrow, arrow, cross, dot}
 use Rattle.theory_numbers.specs.Reduced.{IsReduced}
 use Rattle.theory_numbers.proofs.Signs.{test_less, test_not_less, test_at_most}
@@ -16,8 +16,8 @@ use Rattle.theory_numbers.specs.Rationals.{rational}
 use Rattle.theory_cuttings.specs.Cuttings.{Break}
 use Rattle.theory_cuttings.specs.Changes.{break_at}
 use Rattle.theory_cuttings.specs.Passages.{ray_start}
-use Rattle.sb_model.specs.declared.label.Label.{Label}
-use Rattle.sb_model.specs.declared.label.Label.TheVariants as label
+use Rattle.sb_model.specs.declared.labels.label.Label.{Label}
+use Rattle.sb_model.specs.declared.labels.label.Label.TheVariants as label
 use Rattle.sb_model.specs.declared.walk.End.TheVariants as end
 use Rattle.sb_model.specs.declared.walk.Item.{Item}
 use Rattle.sb_model.specs.declared.walk.Walk.{Walk}

@@ -11,9 +11,9 @@ use Rattle.theory_numbers.specs.Arrows.{Arrow, cross}
 use Rattle.theory_numbers.specs.Rationals.{IsRational, IsBelow, IsAtMost}
 use Rattle.theory_numbers.specs.Rationals.{is_below, is_at_most}
 use Rattle.theory_numbers.proofs.Signs.{test_less, test_not_less, test_at_most, test_not_at_most}
-use Rattle.theory_numbers.proofs.Arrows.{cross-turn}
-use Rattle.theory_numbers.proofs.Rationals.{at_most_trans, at_most_refl, at_most_from_below}
-use Rattle.theory_numbers.proofs.Rationals.{at_most_below_trans, below_at_most_trans}
+use Rattle.theory_numbers.proofs.Vectors.Arrows.{cross-turn}
+use Rattle.theory_numbers.proofs.Fractions.Rationals.{at_most_trans, at_most_refl, at_most_from_below}
+use Rattle.theory_numbers.proofs.Fractions.Rationals.{at_most_below_trans, below_at_most_trans}
 use Rattle.theory_cuttings.specs.Ends.{IsEnd, IsAfter}
 use Rattle.theory_cuttings.specs.Cuttings.{IsCutting, HasNoOddPoint}
 use Rattle.theory_cuttings.specs.Columns.{is_odd_below, is_odd_up_to, Rise, IsOneOf}

@@ -6,9 +6,9 @@ use Rattle.std.proofs.lemmas.Int.{ints}
 use Rattle.std.specs.List.{AllByRecursion}
 use Rattle.theory_numbers.specs.Arrows.{Arrow}
 use Rattle.theory_numbers.specs.Rationals.{IsRational, IsBelow, IsAtMost, IsSame}
-use Rattle.theory_numbers.proofs.Arrows.{cross-turn}
-use Rattle.theory_numbers.proofs.Rationals.{below_or_not, number_cases, below_at_most_trans}
-use Rattle.theory_numbers.proofs.Rationals.{at_most_below_trans, at_most_from_below}
+use Rattle.theory_numbers.proofs.Vectors.Arrows.{cross-turn}
+use Rattle.theory_numbers.proofs.Fractions.Rationals.{below_or_not, number_cases, below_at_most_trans}
+use Rattle.theory_numbers.proofs.Fractions.Rationals.{at_most_below_trans, at_most_from_below}
 use Rattle.theory_cuttings.specs.Ends.{IsEnd, IsOpen, IsAfter, IsBefore}
 use Rattle.theory_cuttings.specs.Cuttings.{Break, IsAlike, IsFraction, HasLabel, IsCutting, AreDifferent}
 use Rattle.theory_cuttings.specs.Cuttings.{IsReducedCutting, HasNoOddPoint}

@@ -7,10 +7,10 @@ use Rattle.theory_numbers.specs.Arrows.{Arrow, arrow, cross, mirror}
 use Rattle.theory_numbers.specs.Rationals.{IsRational, IsBelow, IsAtMost, mediant, rational}
 use Rattle.theory_numbers.proofs.Shapes.{var, plus, minus, times, equal, cross_by}
 use Rattle.theory_numbers.proofs.Products.{positive_product}
-use Rattle.theory_numbers.proofs.Arrows.{cross-mirror, mirror-cross, cross-mirror_comm}
-use Rattle.theory_numbers.proofs.Rationals.{below_trans, below_or_not, at_most_below_trans}
-use Rattle.theory_numbers.proofs.Rationals.{below_at_most_trans}
-use Rattle.theory_numbers.proofs.Rationals.{mediant-IsRational, mediant_between}
+use Rattle.theory_numbers.proofs.Vectors.Arrows.{cross-mirror, mirror-cross, cross-mirror_comm}
+use Rattle.theory_numbers.proofs.Fractions.Rationals.{below_trans, below_or_not, at_most_below_trans}
+use Rattle.theory_numbers.proofs.Fractions.Rationals.{below_at_most_trans}
+use Rattle.theory_numbers.proofs.Fractions.Rationals.{mediant-IsRational, mediant_between}
 use Rattle.theory_cuttings.specs.Ends.{IsEnd, IsOpen, IsAfter, IsBefore, IsFrom, IsUpTo}
 use Rattle.theory_cuttings.specs.Ends.{mirror_end}
 use Rattle.theory_cuttings.specs.Cuttings.{IsFraction}

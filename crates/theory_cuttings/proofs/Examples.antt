@@ -12,13 +12,13 @@ use Rattle.std.proofs.Common.{◌-ℤ◌, ◌*ℤ◌}
 use Rattle.theory_numbers.proofs.Shapes.{cross_eq}
 use Rattle.theory_numbers.proofs.Ring.{zero-mul}
 use Rattle.theory_numbers.proofs.Products.{zero_of_positive}
-use Rattle.theory_numbers.proofs.Rationals.{same_sym}
+use Rattle.theory_numbers.proofs.Fractions.Rationals.{same_sym}
 use Rattle.std.specs.Ordering.{int_eq}
 use Rattle.theory_numbers.specs.Arrows.{Arrow, cross}
 use Rattle.theory_numbers.specs.Rationals.{IsRational, IsBelow, IsSame, rational, is_below}
 use Rattle.theory_numbers.proofs.Signs.{test_less, test_not_less}
-use Rattle.theory_numbers.proofs.Arrows.{cross-turn}
-use Rattle.theory_numbers.proofs.Reduced.{whole_is_reduced}
+use Rattle.theory_numbers.proofs.Vectors.Arrows.{cross-turn}
+use Rattle.theory_numbers.proofs.Fractions.Reduced.{whole_is_reduced}
 use Rattle.theory_cuttings.specs.Cuttings.{Break, IsAlike, IsCutting, AreDifferent, IsFraction}
 use Rattle.theory_cuttings.specs.Cuttings.{IsReducedCutting, HasNoOddPoint}
 use Rattle.theory_cuttings.specs.Columns.{is_odd_below, is_odd_up_to, column_of}

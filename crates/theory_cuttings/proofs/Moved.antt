@@ -3,7 +3,7 @@
 use Rattle.std.proofs.Common.{◌≡◌, sym, arith, Option, Some, None, ℤ, neg_ℤ, List, [], ◌∷◌}
 use Rattle.theory_numbers.specs.Arrows.{Arrow, cross}
 use Rattle.theory_numbers.proofs.Shapes.{var, plus, times, negated, equal, cross_by, cross_is}
-use Rattle.theory_numbers.proofs.LowestTerms.{moved_is_reduced}
+use Rattle.theory_numbers.proofs.Fractions.LowestTerms.{moved_is_reduced}
 use Rattle.theory_cuttings.specs.Ends.{IsOpen, IsAfter, IsBefore}
 use Rattle.theory_cuttings.specs.Cuttings.{Break, IsFraction, HasLabel, IsCutting}
 use Rattle.theory_cuttings.specs.Cuttings.{IsReducedCutting, AreDifferent}

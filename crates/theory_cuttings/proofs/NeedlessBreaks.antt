@@ -4,7 +4,7 @@ use Rattle.std.proofs.Common.{◌≡◌, refl, sym, ◌∙◌, inl, inr, ◌⊎�
 use Rattle.std.proofs.Common.{Option, Some, List, [], ◌∷◌, Decides}
 use Rattle.theory_numbers.specs.Arrows.{Arrow}
 use Rattle.theory_numbers.specs.Rationals.{IsRational, IsBelow, IsSame}
-use Rattle.theory_numbers.proofs.Rationals.{number_cases}
+use Rattle.theory_numbers.proofs.Fractions.Rationals.{number_cases}
 use Rattle.theory_cuttings.specs.Ends.{IsEnd, IsAfter}
 use Rattle.theory_cuttings.specs.Cuttings.{Break, HasLabel, IsAlike, IsCutting}
 use Rattle.theory_cuttings.specs.Cuttings.{IsReducedCutting, HasNoOddPoint}

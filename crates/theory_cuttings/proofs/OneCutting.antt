@@ -3,13 +3,13 @@ use Rattle.std.proofs.Common.{◌≡◌, refl, sym, ◌∙◌, inl, inr, ◌⊎�
 use Rattle.std.proofs.Common.{Option, Some, List, [], ◌∷◌}
 use Rattle.theory_numbers.specs.Arrows.{Arrow}
 use Rattle.theory_numbers.specs.Rationals.{IsRational, IsBelow, IsSame}
-use Rattle.theory_numbers.proofs.Rationals.{number_cases}
+use Rattle.theory_numbers.proofs.Fractions.Rationals.{number_cases}
 use Rattle.theory_cuttings.specs.Ends.{IsEnd, IsOpen, IsAfter, IsBefore}
 use Rattle.theory_cuttings.specs.Cuttings.{Break, HasLabel, IsCutting, AreDifferent}
 use Rattle.theory_cuttings.specs.Laws.{HasOneCutting}
 use Rattle.theory_cuttings.specs.Changes.{break_at}
 use Rattle.theory_cuttings.proofs.Ends.{IsBetween, after_trans, before_trans}
-use Rattle.theory_numbers.proofs.Reduced.{fraction_unique}
+use Rattle.theory_numbers.proofs.Fractions.Reduced.{fraction_unique}
 use Rattle.theory_cuttings.proofs.Ends.{below_two_ends}
 
 -- where the first piece ends

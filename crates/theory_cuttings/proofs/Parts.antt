@@ -5,7 +5,7 @@ use Rattle.std.proofs.lemmas.Int.{ints}
 use Rattle.theory_numbers.specs.Arrows.{Arrow, cross}
 use Rattle.theory_numbers.specs.Rationals.{IsRational, IsBelow, IsAtMost, is_below}
 use Rattle.theory_numbers.proofs.Signs.{less_from, not_less_from}
-use Rattle.theory_numbers.proofs.Arrows.{cross-turn}
+use Rattle.theory_numbers.proofs.Vectors.Arrows.{cross-turn}
 use Rattle.theory_cuttings.specs.Ends.{IsEnd, IsAfter, IsBefore, IsFrom, IsUpTo}
 use Rattle.theory_cuttings.specs.Cuttings.{Break, HasLabel, IsCutting, IsReducedCutting}
 use Rattle.theory_cuttings.specs.Cuttings.{AreDifferent, IsFraction}

@@ -12,7 +12,7 @@ use Rattle.theory_patches.specs.Sheets.{IsMarkedAt}
 use Rattle.theory_joining.specs.Cells.{is_one_run, raised, lay_under, runs_of}
 use Rattle.theory_joining.proofs.RunsMerge.{one_run_from}
 use Rattle.theory_joining.proofs.RunsStayApart.{all_laid}
-use Rattle.sb_model.specs.declared.face.Face.{Face}
+use Rattle.sb_model.specs.declared.faces.face.Face.{Face}
 use Rattle.sb_model.specs.Boundaries.Order.{rank_of}
 use Rattle.theory_faces.specs.Strips.{Mark, Strip, is_same_face, is_same_mark, is_same_number}
 use Rattle.theory_faces.specs.Strips.{have_same_ends, lay, runs_over}

@@ -6,7 +6,7 @@ use Rattle.std.specs.List.{AllByRecursion}
 use Rattle.std.proofs.lemmas.List.Sorted.{IsPermutation-sym}
 use Rattle.theory_numbers.specs.Arrows.{Arrow}
 use Rattle.theory_numbers.specs.Rationals.{IsRational, IsBelow, IsSame}
-use Rattle.theory_numbers.proofs.Rationals.{number_cases, same_sym, at_most_below_trans}
+use Rattle.theory_numbers.proofs.Fractions.Rationals.{number_cases, same_sym, at_most_below_trans}
 use Rattle.theory_plane.specs.Sides.{LineSide, clearance_at}
 use Rattle.theory_plane.specs.Points.{FacePoint, IsFacePoint, abscissa_of}
 use Rattle.theory_plane.specs.Regions.{Region, is_inside}

@@ -32,30 +32,30 @@ use Rattle.theory_joining.specs.Put.{carried_on}
 use Rattle.theory_joining.proofs.GoesOn.{GoesOn}
 use Rattle.theory_joining.proofs.RunsMerge.{AreOneRun}
 use Rattle.theory_plans.specs.LoopEdges.{edges_of}
-use Rattle.theory_plans.proofs.EdgesOfPlans.{is_proper_edge}
+use Rattle.theory_plans.proofs.Edges.EdgesOfPlans.{is_proper_edge}
 use Rattle.theory_plans.specs.Inside.{is_in_plan}
-use Rattle.theory_plans.proofs.EdgesOfPlans.{plan_edges_are_proper}
-use Rattle.theory_plans.proofs.StepsOfEdges.{step_is}
-use Rattle.theory_parity.proofs.RegionIsFourHalves.{region_inside_throughout_off_sides}
+use Rattle.theory_plans.proofs.Edges.EdgesOfPlans.{plan_edges_are_proper}
+use Rattle.theory_plans.proofs.Edges.StepsOfEdges.{step_is}
+use Rattle.theory_parity.proofs.Regions.RegionIsFourHalves.{region_inside_throughout_off_sides}
 use Rattle.sb_fraction.specs.Spots.{Spot, IsSpot, Vector, times_w, reading, opposite}
 use Rattle.sb_fraction.specs.Edges.{Edge}
 use Rattle.sb_fraction.specs.Directions.{axis_z, direction_of}
 use Rattle.sb_fraction.specs.Lines.{in_frame}
 use Rattle.sb_model.specs.declared.boundary.Cell.{Cell}
-use Rattle.sb_model.specs.declared.face.Face.{Face}
-use Rattle.sb_model.specs.declared.face.FaceKind.{FaceKind}
-use Rattle.sb_model.specs.declared.face.FaceKind.TheVariants as kind
+use Rattle.sb_model.specs.declared.faces.face.Face.{Face}
+use Rattle.sb_model.specs.declared.faces.face.FaceKind.{FaceKind}
+use Rattle.sb_model.specs.declared.faces.face.FaceKind.TheVariants as kind
 use Rattle.sb_model.specs.declared.products.Space.{Space}
 use Rattle.sb_model.specs.declared.walk.Walk.{Walk}
 use Rattle.sb_model.specs.Solids.{Upright}
 use Rattle.sb_model.specs.Building.{Building, is_building}
 use Rattle.sb_model.specs.PlanEdges.{is_abscissa}
-use Rattle.sb_model.specs.Faces.{Surface, surface_of, space_numbered, side_of, side_over, edge_numbered}
-use Rattle.sb_model.specs.Faces.{on_face, is_in_plane, is_of_face, is_of_side}
-use Rattle.sb_model.specs.Faces.{bottom_of, top_of}
-use Rattle.sb_model.specs.PlainPoints.{is_plain}
-use Rattle.sb_model.specs.Patches.{region_of, is_in_patch, surface_at, surface_in}
-use Rattle.sb_model.specs.FineCells.{IsFineCell, IsPieceOf, IsPieceOver, way_x}
+use Rattle.sb_model.specs.Surfaces.Faces.{Surface, surface_of, space_numbered, side_of, side_over, edge_numbered}
+use Rattle.sb_model.specs.Surfaces.Faces.{on_face, is_in_plane, is_of_face, is_of_side}
+use Rattle.sb_model.specs.Surfaces.Faces.{bottom_of, top_of}
+use Rattle.sb_model.specs.Surfaces.PlainPoints.{is_plain}
+use Rattle.sb_model.specs.Surfaces.Patches.{region_of, is_in_patch, surface_at, surface_in}
+use Rattle.sb_model.specs.Surfaces.FineCells.{IsFineCell, IsPieceOf, IsPieceOver, way_x}
 use Rattle.sb_model.specs.Boundaries.Trimmed.{AreTrimmed}
 use Rattle.theory_models.proofs.NumbersApart.{own_numbers}
 use Rattle.theory_models.proofs.EdgesOfProducts.{plan_of_solid}

@@ -5,16 +5,16 @@ use Rattle.std.proofs.lemmas.Bool.{and_parts, and_from, false≢true}
 use Rattle.std.proofs.lemmas.Bool.Decides.{Decides-int_eq, Decides-eqb}
 use Rattle.theory_numbers.specs.Fractions.{Ratio}
 use Rattle.theory_joining.specs.Laws.{TellsEqual}
-use Rattle.sb_model.specs.declared.face.Face.{Face}
-use Rattle.sb_model.specs.declared.face.FaceKind.{FaceKind}
-use Rattle.sb_model.specs.declared.face.FaceKind.TheVariants as kind
+use Rattle.sb_model.specs.declared.faces.face.Face.{Face}
+use Rattle.sb_model.specs.declared.faces.face.FaceKind.{FaceKind}
+use Rattle.sb_model.specs.declared.faces.face.FaceKind.TheVariants as kind
 use Rattle.sb_model.specs.declared.walk.End.{End}
 use Rattle.sb_model.specs.declared.walk.End.TheVariants as end
 use Rattle.sb_model.specs.declared.walk.Item.{Item}
 use Rattle.sb_model.specs.declared.walk.Walk.{Walk}
 use Rattle.sb_fraction.specs.Numbers.{ratio}
 use Rattle.sb_model.specs.Walks.{item}
-use Rattle.sb_model.specs.Patches.{is_same_kind}
+use Rattle.sb_model.specs.Surfaces.Patches.{is_same_kind}
 use Rattle.theory_faces.specs.Strips.{Mark, is_same_ratio, is_same_item, are_same_items}
 use Rattle.theory_faces.specs.Strips.{is_same_end, is_same_walk, is_same_face, is_same_mark}
 

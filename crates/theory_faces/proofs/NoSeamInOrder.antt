@@ -14,8 +14,8 @@ use Rattle.std.proofs.lemmas.Map.Lookups.{exact_unsigned, exact_signed}
 use Rattle.theory_numbers.specs.Arrows.{Arrow, cross}
 use Rattle.theory_numbers.specs.Rationals.{IsRational, IsBelow, IsAtMost, IsSame}
 use Rattle.theory_numbers.specs.Tests.{is_positive}
-use Rattle.theory_numbers.proofs.Rationals.{below_or_not, at_most_below_trans, below_irrefl}
-use Rattle.theory_numbers.proofs.Rationals.{below_at_most_trans, below_trans}
+use Rattle.theory_numbers.proofs.Fractions.Rationals.{below_or_not, at_most_below_trans, below_irrefl}
+use Rattle.theory_numbers.proofs.Fractions.Rationals.{below_at_most_trans, below_trans}
 use Rattle.theory_numbers.proofs.Signs.{test_less}
 use Rattle.theory_plane.specs.Sides.{LineSide, clearance_at}
 use Rattle.theory_plane.specs.Regions.{have_same_sides, is_seam}
@@ -28,9 +28,9 @@ use Rattle.theory_patches.proofs.NoneBetween.{at_most_from_same}
 use Rattle.theory_joining.specs.Put.{ends_where_begins, goes_on}
 use Rattle.theory_joining.proofs.GoesOn.{one_sides_from}
 use Rattle.sb_fraction.specs.Numbers.{order_of}
-use Rattle.sb_model.specs.declared.face.Face.{Face}
-use Rattle.sb_model.specs.declared.face.FaceKind.{FaceKind}
-use Rattle.sb_model.specs.declared.face.FaceKind.TheVariants as kind
+use Rattle.sb_model.specs.declared.faces.face.Face.{Face}
+use Rattle.sb_model.specs.declared.faces.face.FaceKind.{FaceKind}
+use Rattle.sb_model.specs.declared.faces.face.FaceKind.TheVariants as kind
 use Rattle.sb_model.specs.Boundaries.Order.{rank_of}
 use Rattle.theory_faces.specs.Strips.{Strip, is_same_mark}
 use Rattle.theory_faces.specs.Chains.{order_of_sides, order_of_keys, order_of_runs}

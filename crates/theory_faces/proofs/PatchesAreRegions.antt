@@ -7,21 +7,21 @@ use Rattle.std.proofs.lemmas.Bool.{and_parts, eqb-true}
 use Rattle.theory_numbers.specs.Divisors.{are_coprime}
 use Rattle.theory_numbers.specs.Fractions.{Ratio, is_lowest}
 use Rattle.theory_numbers.specs.Reduced.{IsReduced}
-use Rattle.theory_numbers.proofs.GreatestDivisor.{greatest_divisor_is}
-use Rattle.theory_numbers.proofs.LowestTerms.{lowest_is_reduced}
-use Rattle.theory_numbers.proofs.Reduced.{whole_is_reduced}
+use Rattle.theory_numbers.proofs.Fractions.GreatestDivisor.{greatest_divisor_is}
+use Rattle.theory_numbers.proofs.Fractions.LowestTerms.{lowest_is_reduced}
+use Rattle.theory_numbers.proofs.Fractions.Reduced.{whole_is_reduced}
 use Rattle.theory_plane.specs.Sides.{IsLineSide, IsReducedSide}
 use Rattle.theory_plane.specs.Regions.{is_region}
 use Rattle.theory_plane.proofs.Regions.{region_from}
 use Rattle.theory_patches.specs.Marked.{IsPatch}
 use Rattle.sb_fraction.specs.Bounds.{is_fraction, is_in_bounds}
 use Rattle.sb_fraction.specs.Plane.{is_forward, longest_step}
-use Rattle.sb_model.specs.declared.face.Side.{Side}
-use Rattle.sb_model.specs.declared.face.Side.TheVariants.{OnLine, Height}
-use Rattle.sb_model.specs.declared.patch.Patch.{Patch}
-use Rattle.sb_model.specs.Sides.{line_of, is_abscissa_size, is_side_of, greatest_abscissa_num}
-use Rattle.sb_model.specs.Sides.{greatest_abscissa_den}
-use Rattle.sb_model.specs.Patches.{region_of}
+use Rattle.sb_model.specs.declared.faces.face.Side.{Side}
+use Rattle.sb_model.specs.declared.faces.face.Side.TheVariants.{OnLine, Height}
+use Rattle.sb_model.specs.declared.patches.patch.Patch.{Patch}
+use Rattle.sb_model.specs.Surfaces.Sides.{line_of, is_abscissa_size, is_side_of, greatest_abscissa_num}
+use Rattle.sb_model.specs.Surfaces.Sides.{greatest_abscissa_den}
+use Rattle.sb_model.specs.Surfaces.Patches.{region_of}
 
 size_is_reduced : (u : Ratio) → is_abscissa_size u ≡ true → IsReduced u.num u.den
 size_is_reduced u size =

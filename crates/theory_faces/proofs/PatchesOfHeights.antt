@@ -7,15 +7,15 @@ use Rattle.std.proofs.lemmas.Bool.{and_from, and_left, not_from_false, leb-true,
 use Rattle.theory_numbers.specs.Arrows.{cross, dot}
 use Rattle.theory_numbers.specs.Fractions.{Ratio, whole}
 use Rattle.theory_numbers.specs.Rationals.{is_below}
-use Rattle.theory_numbers.proofs.GreatestDivisor.{coprime-one}
+use Rattle.theory_numbers.proofs.Fractions.GreatestDivisor.{coprime-one}
 use Rattle.theory_numbers.proofs.Signs.{test_less}
 use Rattle.theory_plane.specs.Sides.{level, clearance, clearance_at}
 use Rattle.sb_fraction.specs.Bounds.{greatest_num}
 use Rattle.sb_fraction.specs.Plane.{is_coordinate, greatest_coordinate}
-use Rattle.sb_model.specs.declared.face.FaceKind.TheVariants as kind
-use Rattle.sb_model.specs.declared.face.Side.TheVariants.{Height}
-use Rattle.sb_model.specs.Sides.{is_abscissa_size, is_patch, arrow_of}
-use Rattle.sb_model.specs.Sides.{greatest_abscissa_num}
+use Rattle.sb_model.specs.declared.faces.face.FaceKind.TheVariants as kind
+use Rattle.sb_model.specs.declared.faces.face.Side.TheVariants.{Height}
+use Rattle.sb_model.specs.Surfaces.Sides.{is_abscissa_size, is_patch, arrow_of}
+use Rattle.sb_model.specs.Surfaces.Sides.{greatest_abscissa_num}
 
 at_most_trans : (n a b : ℕ) → nat_le n a ≡ true → a ≤ b → nat_le n b ≡ true
 at_most_trans n a b left right = le-leb n b (omega (arith, leb-true n a left))

@@ -18,16 +18,16 @@ use Rattle.theory_plane.specs.Points.{abscissa_of, is_on_side}
 use Rattle.theory_plane.specs.Regions.{is_inside}
 use Rattle.theory_patches.specs.Sheets.{IsOffCuts}
 use Rattle.theory_plans.specs.Inside.{is_in_plan}
-use Rattle.theory_parity.proofs.RegionIsFourHalves.{region_inside_throughout_off_sides}
+use Rattle.theory_parity.proofs.Regions.RegionIsFourHalves.{region_inside_throughout_off_sides}
 use Rattle.sb_fraction.specs.Spots.{Spot, IsSpot, spot, opposite, times_w}
-use Rattle.sb_model.specs.declared.face.FaceKind.TheVariants as kind
-use Rattle.sb_model.specs.declared.patch.Patch.{Patch}
+use Rattle.sb_model.specs.declared.faces.face.FaceKind.TheVariants as kind
+use Rattle.sb_model.specs.declared.patches.patch.Patch.{Patch}
 use Rattle.sb_model.specs.declared.products.Space.{Space}
 use Rattle.sb_model.specs.PlanEdges.{is_abscissa}
-use Rattle.sb_model.specs.Faces.{Surface, surface_of, is_in_plane, is_of_face, on_face}
-use Rattle.sb_model.specs.PlainPoints.{is_off_cuts}
-use Rattle.sb_model.specs.Patches.{region_of, is_in_patch}
-use Rattle.sb_model.specs.FineCells.{way_x}
+use Rattle.sb_model.specs.Surfaces.Faces.{Surface, surface_of, is_in_plane, is_of_face, on_face}
+use Rattle.sb_model.specs.Surfaces.PlainPoints.{is_off_cuts}
+use Rattle.sb_model.specs.Surfaces.Patches.{region_of, is_in_patch}
+use Rattle.sb_model.specs.Surfaces.FineCells.{way_x}
 use Rattle.theory_models.proofs.AbscissaeListed.{no_abscissa_is_none, none_is_no_abscissa}
 use Rattle.theory_models.proofs.EdgesOfProducts.{plan_of_solid}
 use Rattle.theory_faces.specs.Laws.{HasOneTrimmed, HasLevelRegionInside}

@@ -7,13 +7,13 @@ use Rattle.theory_lists.specs.OneOf.{ExactlyOne}
 use Rattle.theory_numbers.specs.Rationals.{IsAtMost}
 use Rattle.sb_fraction.specs.Spots.{Spot, IsSpot, Vector}
 use Rattle.sb_model.specs.declared.boundary.Cell.{Cell}
-use Rattle.sb_model.specs.declared.face.FaceKind.{FaceKind}
+use Rattle.sb_model.specs.declared.faces.face.FaceKind.{FaceKind}
 use Rattle.sb_model.specs.declared.products.Space.{Space}
 use Rattle.sb_model.specs.Building.{Building}
-use Rattle.sb_model.specs.Faces.{Surface, surface_of, is_in_plane, is_of_face}
-use Rattle.sb_model.specs.PlainPoints.{is_plain}
-use Rattle.sb_model.specs.Patches.{region_of, is_in_patch}
-use Rattle.sb_model.specs.FineCells.{IsFineCell}
+use Rattle.sb_model.specs.Surfaces.Faces.{Surface, surface_of, is_in_plane, is_of_face}
+use Rattle.sb_model.specs.Surfaces.PlainPoints.{is_plain}
+use Rattle.sb_model.specs.Surfaces.Patches.{region_of, is_in_patch}
+use Rattle.sb_model.specs.Surfaces.FineCells.{IsFineCell}
 use Rattle.sb_model.specs.Boundaries.Order.{IsBefore}
 use Rattle.sb_model.specs.Boundaries.Trimmed.{AreTrimmed}
 use Rattle.theory_faces.specs.Strips.{is_same_face}

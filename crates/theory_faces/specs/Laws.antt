@@ -9,16 +9,16 @@ use Rattle.theory_patches.specs.Sheets.{IsOffCuts}
 use Rattle.theory_patches.specs.Trimmed.{AreApart, HaveNoSeam}
 use Rattle.sb_fraction.specs.Spots.{Spot, IsSpot, Vector}
 use Rattle.sb_model.specs.declared.boundary.Cell.{Cell}
-use Rattle.sb_model.specs.declared.face.FaceKind.{FaceKind}
-use Rattle.sb_model.specs.declared.face.FaceKind.TheVariants as kind
-use Rattle.sb_model.specs.declared.patch.Patch.{Patch}
+use Rattle.sb_model.specs.declared.faces.face.FaceKind.{FaceKind}
+use Rattle.sb_model.specs.declared.faces.face.FaceKind.TheVariants as kind
+use Rattle.sb_model.specs.declared.patches.patch.Patch.{Patch}
 use Rattle.sb_model.specs.declared.products.Space.{Space}
 use Rattle.sb_model.specs.Solids.{Upright}
 use Rattle.sb_model.specs.Building.{Building, is_building}
-use Rattle.sb_model.specs.FineCells.{AreNeighbours}
-use Rattle.sb_model.specs.Faces.{Surface, surface_of, is_in_plane, is_of_face, on_face}
-use Rattle.sb_model.specs.PlainPoints.{is_plain}
-use Rattle.sb_model.specs.Patches.{region_of, is_in_patch, surface_at}
+use Rattle.sb_model.specs.Surfaces.FineCells.{AreNeighbours}
+use Rattle.sb_model.specs.Surfaces.Faces.{Surface, surface_of, is_in_plane, is_of_face, on_face}
+use Rattle.sb_model.specs.Surfaces.PlainPoints.{is_plain}
+use Rattle.sb_model.specs.Surfaces.Patches.{region_of, is_in_patch, surface_at}
 use Rattle.sb_model.specs.Boundaries.Trimmed.{AreTrimmed}
 use Rattle.theory_faces.specs.Sheets.{sheet_along, sheet_over, IsOverSlab}
 use Rattle.theory_faces.specs.Strips.{Strip, strips_of, runs_of_calls}

@@ -9,12 +9,12 @@ use Rattle.theory_patches.specs.Sheets.{Sheet}
 use Rattle.sb_fraction.specs.Spots.{Spot, Vector}
 use Rattle.sb_fraction.specs.Directions.{axis_x}
 use Rattle.sb_fraction.specs.Lines.{line_over}
-use Rattle.sb_model.specs.declared.face.FaceKind.{FaceKind}
-use Rattle.sb_model.specs.declared.face.FaceKind.TheVariants as kind
+use Rattle.sb_model.specs.declared.faces.face.FaceKind.{FaceKind}
+use Rattle.sb_model.specs.declared.faces.face.FaceKind.TheVariants as kind
 use Rattle.sb_model.specs.Building.{Building}
 use Rattle.sb_model.specs.PlanEdges.{Product, PlanEdge, plan_edges, products_of}
-use Rattle.sb_model.specs.Faces.{Surface, on_face}
-use Rattle.sb_model.specs.FineCells.{way_x, is_across_slab}
+use Rattle.sb_model.specs.Surfaces.Faces.{Surface, on_face}
+use Rattle.sb_model.specs.Surfaces.FineCells.{way_x, is_across_slab}
 use Rattle.theory_models.specs.Abscissae.{abscissae_of}
 
 -- the lines of the plan edges that span a slab of (1, 0)

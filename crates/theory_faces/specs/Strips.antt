@@ -9,12 +9,12 @@ use Rattle.theory_plane.specs.Regions.{Region}
 use Rattle.theory_patches.specs.Marked.{MarkedPatch}
 use Rattle.theory_joining.specs.Cells.{is_one_run, raised}
 use Rattle.sb_model.specs.declared.boundary.Cell.{Cell}
-use Rattle.sb_model.specs.declared.face.Face.{Face}
+use Rattle.sb_model.specs.declared.faces.face.Face.{Face}
 use Rattle.sb_model.specs.declared.walk.End.{End}
 use Rattle.sb_model.specs.declared.walk.End.TheVariants as end
 use Rattle.sb_model.specs.declared.walk.Item.{Item}
 use Rattle.sb_model.specs.declared.walk.Walk.{Walk}
-use Rattle.sb_model.specs.Patches.{region_of, is_same_kind}
+use Rattle.sb_model.specs.Surfaces.Patches.{region_of, is_same_kind}
 
 -- ---- marks
 

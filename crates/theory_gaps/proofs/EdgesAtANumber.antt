@@ -13,9 +13,9 @@ use Rattle.theory_lists.proofs.Members.{any_stands}
 use Rattle.theory_numbers.specs.Arrows.{Arrow, arrow, opposite, cross, dot}
 use Rattle.theory_numbers.specs.Tests.{is_positive}
 use Rattle.theory_numbers.specs.Rationals.{IsRational, IsSame, IsZeroForm, value_at, rational}
-use Rattle.theory_numbers.proofs.Arrows.{cross-opposite}
+use Rattle.theory_numbers.proofs.Vectors.Arrows.{cross-opposite}
 use Rattle.theory_numbers.proofs.Products.{zero_of_positive}
-use Rattle.theory_numbers.proofs.Rationals.{one_zero}
+use Rattle.theory_numbers.proofs.Fractions.Rationals.{one_zero}
 use Rattle.theory_numbers.proofs.Ring.{mul_comm, mul-zero, zero-mul}
 use Rattle.theory_numbers.proofs.Shapes.{var, num, plus, minus, times, negated, equal, cross_is, dot_is}
 use Rattle.theory_numbers.proofs.Shapes.{cross_by, dot_by, cross_eq}
@@ -33,11 +33,11 @@ use Rattle.sb_model.specs.Building.{Building}
 use Rattle.sb_model.specs.PlanEdges.{PlanEdge, plan_edges, is_abscissa}
 use Rattle.sb_model.specs.Walks.{is_across}
 use Rattle.theory_parity.specs.Below.{IsWay, value_of}
-use Rattle.theory_parity.proofs.BelowFlips.{reaching_is_line}
+use Rattle.theory_parity.proofs.Rays.BelowFlips.{reaching_is_line}
 use Rattle.theory_parity.proofs.OnLineOver.{on_line_over}
 use Rattle.theory_lines.specs.Slabs.{AreOnOneLine}
 use Rattle.theory_lines.proofs.LinesMeetAtCrossings.{crosses_or_one_line}
-use Rattle.theory_gaps.proofs.PointsOnTheRay.{frame_of}
+use Rattle.theory_gaps.proofs.Rays.PointsOnTheRay.{frame_of}
 
 -- ---- lines and points
 

@@ -22,15 +22,15 @@ use Rattle.sb_fraction.specs.Directions.{step, runs_along, direction_of, normal_
 use Rattle.sb_fraction.specs.Edges.{Edge, edge}
 use Rattle.sb_fraction.specs.Lines.{span_along}
 use Rattle.sb_fraction.specs.Spots.{Spot, spot, reading}
-use Rattle.sb_model.specs.declared.face.FaceKind.TheVariants as kind
+use Rattle.sb_model.specs.declared.faces.face.FaceKind.TheVariants as kind
 use Rattle.sb_model.specs.declared.products.Space.{Space}
 use Rattle.sb_model.specs.declared.walk.End.TheVariants as end
 use Rattle.sb_fraction.specs.declared.unit.Unit.TheVariants as unit
 use Rattle.sb_model.specs.declared.walk.Walk.{Walk}
 use Rattle.sb_model.specs.Building.{Building, is_building}
 use Rattle.sb_model.specs.Building.{building}
-use Rattle.sb_model.specs.Faces.{edge_numbered, side_over}
-use Rattle.sb_model.specs.PlainPoints.{is_plain}
+use Rattle.sb_model.specs.Surfaces.Faces.{edge_numbered, side_over}
+use Rattle.sb_model.specs.Surfaces.PlainPoints.{is_plain}
 use Rattle.sb_model.specs.PlanEdges.{plan_edges}
 use Rattle.sb_model.specs.Walks.{course_of, item, IsWalk}
 use Rattle.theory_models.proofs.ExampleModels.{plan_point, box_room, layered_wall_between_rooms}

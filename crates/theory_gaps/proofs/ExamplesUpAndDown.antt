@@ -13,14 +13,14 @@ use Rattle.theory_plane.specs.Points.{ordinate_of}
 use Rattle.theory_plane.specs.Sides.{clearance, value_on}
 use Rattle.sb_fraction.specs.Lines.{in_frame, span_along}
 use Rattle.sb_fraction.specs.Spots.{Spot, spot}
-use Rattle.sb_model.specs.declared.face.FaceKind.{FaceKind}
-use Rattle.sb_model.specs.declared.face.FaceKind.TheVariants as kind
+use Rattle.sb_model.specs.declared.faces.face.FaceKind.{FaceKind}
+use Rattle.sb_model.specs.declared.faces.face.FaceKind.TheVariants as kind
 use Rattle.sb_model.specs.declared.products.Space.{Space}
 use Rattle.sb_model.specs.declared.walk.End.TheVariants as end
 use Rattle.sb_model.specs.declared.walk.Walk.{Walk}
 use Rattle.sb_model.specs.Building.{Building, is_building}
-use Rattle.sb_model.specs.Faces.{Surface, surface_of, top_of, bottom_of}
-use Rattle.sb_model.specs.PlainPoints.{is_plain}
+use Rattle.sb_model.specs.Surfaces.Faces.{Surface, surface_of, top_of, bottom_of}
+use Rattle.sb_model.specs.Surfaces.PlainPoints.{is_plain}
 use Rattle.sb_model.specs.PlanEdges.{plan_edges}
 use Rattle.sb_model.specs.Walks.{course_of, item, IsWalk}
 use Rattle.theory_models.proofs.ExampleModels.{box_room, crossing_slabs}
@@ -33,7 +33,7 @@ use Rattle.theory_gaps.proofs.OneWalkEach.{walk_of}
 use Rattle.theory_gaps.proofs.OrdersByTests.{is_slab_of, slab_by_test, rising_numbers, is_in_order}
 use Rattle.theory_gaps.proofs.OrdersByTests.{order_by_test}
 use Rattle.theory_gaps.proofs.RowsThatRise.{heights_above, all_ends, have_heights}
-use Rattle.theory_gaps.proofs.ThroughGaps.{has_walk_up_and_down}
+use Rattle.theory_gaps.proofs.Gaps.ThroughGaps.{has_walk_up_and_down}
 
 -- along x
 abbrev pub along_x : Arrow

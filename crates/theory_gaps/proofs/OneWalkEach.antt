@@ -19,12 +19,12 @@ use Rattle.sb_fraction.specs.Edges.{Edge, is_on}
 use Rattle.sb_fraction.specs.Lines.{flat}
 use Rattle.sb_fraction.specs.Spots.{Spot, IsSpot, Vector, opposite, reading}
 use Rattle.theory_plans.specs.LoopEdges.{edges_of}
-use Rattle.theory_plans.proofs.EdgesOfPlans.{is_proper_edge, plan_edges_are_proper}
-use Rattle.theory_plans.proofs.StepsOfEdges.{IsStep, step_is}
-use Rattle.sb_model.specs.declared.face.FaceKind.{FaceKind}
-use Rattle.sb_model.specs.declared.face.FaceKind.TheVariants as kind
-use Rattle.sb_model.specs.declared.label.Label.{Label}
-use Rattle.sb_model.specs.declared.label.Label.TheVariants as label
+use Rattle.theory_plans.proofs.Edges.EdgesOfPlans.{is_proper_edge, plan_edges_are_proper}
+use Rattle.theory_plans.proofs.Edges.StepsOfEdges.{IsStep, step_is}
+use Rattle.sb_model.specs.declared.faces.face.FaceKind.{FaceKind}
+use Rattle.sb_model.specs.declared.faces.face.FaceKind.TheVariants as kind
+use Rattle.sb_model.specs.declared.labels.label.Label.{Label}
+use Rattle.sb_model.specs.declared.labels.label.Label.TheVariants as label
 use Rattle.sb_model.specs.declared.products.Element.{Element}
 use Rattle.sb_model.specs.declared.products.Space.{Space}
 use Rattle.sb_model.specs.declared.walk.End.{End}
@@ -32,12 +32,12 @@ use Rattle.sb_model.specs.declared.walk.End.TheVariants as end
 use Rattle.sb_model.specs.declared.walk.Item.{Item}
 use Rattle.sb_model.specs.declared.walk.Walk.{Walk}
 use Rattle.sb_model.specs.Building.{Building, is_building}
-use Rattle.sb_model.specs.Faces.{Surface, surface_of, side_of, side_over, edge_numbered, bottom_of, top_of}
-use Rattle.sb_model.specs.Faces.{is_of_face, is_of_side}
+use Rattle.sb_model.specs.Surfaces.Faces.{Surface, surface_of, side_of, side_over, edge_numbered, bottom_of, top_of}
+use Rattle.sb_model.specs.Surfaces.Faces.{is_of_face, is_of_side}
 use Rattle.sb_model.specs.Labels.{label_at}
 use Rattle.sb_model.specs.Passages.{Ray, ray_from, at_depth, ArePassages}
-use Rattle.sb_model.specs.PlainPoints.{is_plain, is_off_cuts, is_off_side_cuts, is_off_level_cuts}
-use Rattle.sb_model.specs.PlainPoints.{is_on_plan_edge}
+use Rattle.sb_model.specs.Surfaces.PlainPoints.{is_plain, is_off_cuts, is_off_side_cuts, is_off_level_cuts}
+use Rattle.sb_model.specs.Surfaces.PlainPoints.{is_on_plan_edge}
 use Rattle.sb_model.specs.PlanEdges.{plan_edges, is_abscissa}
 use Rattle.sb_model.specs.Solids.{Upright, is_between_heights}
 use Rattle.sb_model.specs.Walks.{Course, course_of, element_numbered, IsWalkOf}
@@ -48,20 +48,20 @@ use Rattle.theory_sight.specs.Reading.{FarEnd, square, slanted, never, Stretch, 
 use Rattle.theory_sight.specs.Reading.{behind, read_element, read_stretch, read}
 use Rattle.theory_gaps.specs.Borders.{stretches_over, stretches_through}
 use Rattle.theory_gaps.specs.Laws.{HaveOnePassages, HasOneWalk}
-use Rattle.theory_gaps.proofs.PointsOnTheRay.{frame_of, abscissa}
-use Rattle.theory_gaps.proofs.RaysOfFaces.{normal_of, normal_is, normal_is_some, side_starts}
-use Rattle.theory_gaps.proofs.RaysOfFaces.{side_has_no_abscissa}
+use Rattle.theory_gaps.proofs.Rays.PointsOnTheRay.{frame_of, abscissa}
+use Rattle.theory_gaps.proofs.Rays.RaysOfFaces.{normal_of, normal_is, normal_is_some, side_starts}
+use Rattle.theory_gaps.proofs.Rays.RaysOfFaces.{side_has_no_abscissa}
 use Rattle.theory_gaps.proofs.RowsThatRise.{passed_of, row_of, is_row, below_of, are_below, all_ends}
 use Rattle.theory_gaps.proofs.RowsThatRise.{heights_above, have_heights}
-use Rattle.theory_gaps.proofs.WalkAlongTheNormal.{passages_along, walk_along}
-use Rattle.theory_gaps.proofs.WalkAlongTheNormal.{column_along}
-use Rattle.theory_gaps.proofs.WalkUpAndDown.{upright_normal, passages_through, walk_through}
-use Rattle.theory_gaps.proofs.WalkUpAndDown.{column_through}
+use Rattle.theory_gaps.proofs.Rays.WalkAlongTheNormal.{passages_along, walk_along}
+use Rattle.theory_gaps.proofs.Rays.WalkAlongTheNormal.{column_along}
+use Rattle.theory_gaps.proofs.Rays.WalkUpAndDown.{upright_normal, passages_through, walk_through}
+use Rattle.theory_gaps.proofs.Rays.WalkUpAndDown.{column_through}
 use Rattle.std.specs.List.{list_all}
 use Rattle.theory_numbers.specs.Arrows.{arrow}
 use Rattle.theory_numbers.specs.Arrows.{dot}
 use Rattle.theory_numbers.proofs.Ring.{neg-mul}
-use Rattle.theory_gaps.proofs.RaysWithBorders.{HasColumn}
+use Rattle.theory_gaps.proofs.Rays.RaysWithBorders.{HasColumn}
 use Rattle.theory_sight.specs.Crossings.{StartsAt}
 
 -- ---- a course that is read is that of a walk

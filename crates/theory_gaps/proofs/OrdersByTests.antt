@@ -17,8 +17,8 @@ use Rattle.theory_lists.proofs.Members.{two_follow}
 use Rattle.theory_numbers.specs.Arrows.{Arrow, cross}
 use Rattle.theory_numbers.specs.Tests.{is_positive}
 use Rattle.theory_numbers.specs.Rationals.{IsRational, IsBelow, IsSame, is_below, is_at_most}
-use Rattle.theory_numbers.proofs.Arrows.{cross-turn}
-use Rattle.theory_numbers.proofs.Rationals.{below_at_most_trans, at_most_below_trans}
+use Rattle.theory_numbers.proofs.Vectors.Arrows.{cross-turn}
+use Rattle.theory_numbers.proofs.Fractions.Rationals.{below_at_most_trans, at_most_below_trans}
 use Rattle.theory_numbers.proofs.Signs.{less_from, at_most_from}
 use Rattle.theory_plane.specs.Leads.{leads}
 use Rattle.sb_fraction.specs.Lines.{flat, line_over}

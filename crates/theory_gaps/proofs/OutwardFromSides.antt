@@ -13,7 +13,7 @@ use Rattle.theory_lists.proofs.Members.{stands_at}
 use Rattle.theory_lists.proofs.Parity.{differ-opposite}
 use Rattle.theory_numbers.specs.Arrows.{Arrow, arrow, opposite, mirror, cross, dot}
 use Rattle.theory_numbers.specs.Rationals.{IsBelow, IsAtMost, IsSame, rational}
-use Rattle.theory_numbers.proofs.Rationals.{at_most_from_below}
+use Rattle.theory_numbers.proofs.Fractions.Rationals.{at_most_from_below}
 use Rattle.theory_numbers.proofs.Shapes.{var, num, plus, times, negated, equal, dot_by}
 use Rattle.sb_fraction.specs.Directions.{step, runs_along, direction_of, normal_over}
 use Rattle.sb_fraction.specs.Edges.{Edge, span_of, is_on}
@@ -26,14 +26,14 @@ use Rattle.sb_fraction.specs.Spots.{Spot, IsSpot, reading}
 use Rattle.sb_fraction.specs.Spots.{Vector}
 use Rattle.sb_fraction.specs.Spots.{vector}
 use Rattle.theory_plans.specs.LoopEdges.{edges_of}
-use Rattle.theory_plans.proofs.StepsOfEdges.{IsStep, step_is, direction_along, direction_against}
-use Rattle.theory_plans.proofs.StepsOfEdges.{direction_is_level}
-use Rattle.sb_model.specs.declared.face.FaceKind.TheVariants as kind
+use Rattle.theory_plans.proofs.Edges.StepsOfEdges.{IsStep, step_is, direction_along, direction_against}
+use Rattle.theory_plans.proofs.Edges.StepsOfEdges.{direction_is_level}
+use Rattle.sb_model.specs.declared.faces.face.FaceKind.TheVariants as kind
 use Rattle.sb_model.specs.declared.walk.Walk.{Walk}
 use Rattle.sb_model.specs.Building.{Building, is_building}
-use Rattle.sb_model.specs.Faces.{side_over}
-use Rattle.sb_model.specs.Faces.{is_of_face}
-use Rattle.sb_model.specs.Faces.{is_of_side}
+use Rattle.sb_model.specs.Surfaces.Faces.{side_over}
+use Rattle.sb_model.specs.Surfaces.Faces.{is_of_face}
+use Rattle.sb_model.specs.Surfaces.Faces.{is_of_side}
 use Rattle.sb_model.specs.Passages.{ray_from}
 use Rattle.sb_model.specs.PlanEdges.{PlanEdge, plan_edges, is_abscissa}
 use Rattle.sb_model.specs.PlanEdges.{products_of}
@@ -47,11 +47,11 @@ use Rattle.theory_gaps.specs.Borders.{stretches_beyond, outward_order, stretches
 use Rattle.theory_gaps.specs.Laws.{way_along, HasWalkAlongNormal}
 use Rattle.theory_gaps.proofs.EdgesAtANumber.{value_is_position}
 use Rattle.theory_gaps.proofs.EdgesAtANumber.{no_end_over}
-use Rattle.theory_gaps.proofs.LabelsAlongTheNormal.{plan_edge}
-use Rattle.theory_gaps.proofs.LabelsAlongTheNormal.{edge_stands}
-use Rattle.theory_gaps.proofs.PointsOnTheRay.{frame_of, abscissa, unit_is}
-use Rattle.theory_gaps.proofs.RaysOfFaces.{normal_of, normal_is, normal_is_some, side_starts}
-use Rattle.theory_gaps.proofs.RaysOfFaces.{side_has_no_abscissa}
+use Rattle.theory_gaps.proofs.Rays.LabelsAlongTheNormal.{plan_edge}
+use Rattle.theory_gaps.proofs.Rays.LabelsAlongTheNormal.{edge_stands}
+use Rattle.theory_gaps.proofs.Rays.PointsOnTheRay.{frame_of, abscissa, unit_is}
+use Rattle.theory_gaps.proofs.Rays.RaysOfFaces.{normal_of, normal_is, normal_is_some, side_starts}
+use Rattle.theory_gaps.proofs.Rays.RaysOfFaces.{side_has_no_abscissa}
 use Rattle.theory_gaps.proofs.RowsOfSlabs.{IsRowOver, order_is_row, row_turned}
 use Rattle.theory_gaps.proofs.RowsOfSlabs.{edges_at-reverse}
 use Rattle.theory_gaps.proofs.RowsOfSlabs.{spanning_stands}
@@ -59,17 +59,17 @@ use Rattle.theory_gaps.proofs.RowsOfSlabs.{stands-reverse}
 use Rattle.theory_gaps.proofs.OneWalkEach.{not_true}
 use Rattle.theory_gaps.proofs.OneWalkEach.{proper_there}
 use Rattle.theory_lines.proofs.EdgesOverASlab.{reaching_spans}
-use Rattle.theory_plans.proofs.EdgesOfPlans.{plan_edges_are_proper}
+use Rattle.theory_plans.proofs.Edges.EdgesOfPlans.{plan_edges_are_proper}
 use Rattle.theory_models.proofs.EdgesOfProducts.{plan_of_solid}
 use Rattle.theory_models.proofs.NumbersApart.{of_space}
 use Rattle.theory_models.proofs.NumbersApart.{space_stands}
-use Rattle.sb_model.specs.PlainPoints.{is_off_cuts}
-use Rattle.sb_model.specs.PlainPoints.{is_off_side_cuts}
+use Rattle.sb_model.specs.Surfaces.PlainPoints.{is_off_cuts}
+use Rattle.sb_model.specs.Surfaces.PlainPoints.{is_off_side_cuts}
 use Rattle.sb_model.specs.Solids.{is_between_heights}
 use Rattle.theory_plans.specs.Rays.{is_left_of}
-use Rattle.theory_parity.proofs.InsideByBelow.{beyond_is_left}
-use Rattle.theory_parity.proofs.InsideByBelow.{beyond_by_turn}
-use Rattle.theory_numbers.proofs.Lengths.{parted}
+use Rattle.theory_parity.proofs.Rays.InsideByBelow.{beyond_is_left}
+use Rattle.theory_parity.proofs.Rays.InsideByBelow.{beyond_by_turn}
+use Rattle.theory_numbers.proofs.Vectors.Lengths.{parted}
 use Rattle.theory_numbers.proofs.Signs.{at_most_from}
 use Rattle.theory_gaps.proofs.PartedAtALine.{walk_beyond}
 use Rattle.theory_sight.specs.Crossings.{StartsAt}

@@ -12,9 +12,9 @@ use Rattle.theory_lists.proofs.Members.{all_stands, all_that_stand, any_stands, 
 use Rattle.theory_lists.proofs.Parity.{differ_assoc, differ_comm}
 use Rattle.theory_numbers.specs.Arrows.{Arrow}
 use Rattle.theory_numbers.specs.Rationals.{IsRational, IsBelow, IsAtMost, IsSame, rational}
-use Rattle.theory_numbers.proofs.Arrows.{cross-self, cross-turn}
-use Rattle.theory_numbers.proofs.Rationals.{at_most_trans, number_cases, same_trans}
-use Rattle.theory_numbers.proofs.Rationals.{same_sym, below_clash}
+use Rattle.theory_numbers.proofs.Vectors.Arrows.{cross-self, cross-turn}
+use Rattle.theory_numbers.proofs.Fractions.Rationals.{at_most_trans, number_cases, same_trans}
+use Rattle.theory_numbers.proofs.Fractions.Rationals.{same_sym, below_clash}
 use Rattle.theory_plane.proofs.Clearance.{value_on-IsRational}
 use Rattle.sb_fraction.specs.Edges.{are_collinear}
 use Rattle.sb_fraction.specs.Lines.{flat, line_over, reaches_past}
@@ -25,14 +25,14 @@ use Rattle.sb_model.specs.Passages.{ray_from}
 use Rattle.sb_model.specs.PlanEdges.{PlanEdge, plan_edges, is_abscissa}
 use Rattle.sb_model.specs.Walks.{course_of, IsWalkOf}
 use Rattle.theory_parity.specs.Below.{IsWay, value_of}
-use Rattle.theory_parity.proofs.BelowFlips.{reaching_is_line}
+use Rattle.theory_parity.proofs.Rays.BelowFlips.{reaching_is_line}
 use Rattle.theory_sight.specs.Reading.{read}
 use Rattle.theory_gaps.specs.Borders.{stretches_over, stretches_beyond}
 use Rattle.theory_gaps.proofs.EdgesAtANumber.{collinear_if_same, same_if_collinear}
-use Rattle.theory_gaps.proofs.LabelsAlongTheNormal.{IsRow}
-use Rattle.theory_gaps.proofs.PointsOnTheRay.{frame_of, abscissa}
+use Rattle.theory_gaps.proofs.Rays.LabelsAlongTheNormal.{IsRow}
+use Rattle.theory_gaps.proofs.Rays.PointsOnTheRay.{frame_of, abscissa}
 use Rattle.theory_gaps.proofs.RowsOfSlabs.{IsRowOver}
-use Rattle.theory_gaps.proofs.WalkAlongTheNormal.{walk_along}
+use Rattle.theory_gaps.proofs.Rays.WalkAlongTheNormal.{walk_along}
 use Rattle.theory_sight.specs.Crossings.{StartsAt}
 
 -- ---- a row is parted at the line of an edge

@@ -23,13 +23,13 @@ use Rattle.theory_lists.proofs.Parity.{differ_comm}
 use Rattle.theory_numbers.specs.Arrows.{Arrow, arrow, opposite, mirror, cross, dot}
 use Rattle.theory_numbers.specs.Tests.{is_positive}
 use Rattle.theory_numbers.specs.Rationals.{IsRational, IsBelow, IsAtMost, rational}
-use Rattle.theory_numbers.proofs.Arrows.{cross-mirror}
-use Rattle.theory_numbers.proofs.Arrows.{opposite-dot}
-use Rattle.theory_numbers.proofs.Arrows.{dot-opposite}
-use Rattle.theory_numbers.proofs.Arrows.{opposite-cross}
-use Rattle.theory_numbers.proofs.Arrows.{cross-opposite}
-use Rattle.theory_numbers.proofs.Arrows.{same_arrow}
-use Rattle.theory_numbers.proofs.Rationals.{at_most_from_below}
+use Rattle.theory_numbers.proofs.Vectors.Arrows.{cross-mirror}
+use Rattle.theory_numbers.proofs.Vectors.Arrows.{opposite-dot}
+use Rattle.theory_numbers.proofs.Vectors.Arrows.{dot-opposite}
+use Rattle.theory_numbers.proofs.Vectors.Arrows.{opposite-cross}
+use Rattle.theory_numbers.proofs.Vectors.Arrows.{cross-opposite}
+use Rattle.theory_numbers.proofs.Vectors.Arrows.{same_arrow}
+use Rattle.theory_numbers.proofs.Fractions.Rationals.{at_most_from_below}
 use Rattle.theory_plane.specs.Sides.{value_on}
 use Rattle.theory_plane.specs.Sides.{line}
 use Rattle.theory_plane.specs.Sides.{IsLineSide}
@@ -69,7 +69,7 @@ use Rattle.theory_numbers.proofs.Shapes.{equal}
 use Rattle.theory_numbers.proofs.Shapes.{cross_by}
 use Rattle.std.specs.Ordering.{int_eq}
 use Rattle.std.proofs.lemmas.Bool.Decides.{Decides-int_eq}
-use Rattle.theory_parity.proofs.BelowFlips.{reaching_is_line}
+use Rattle.theory_parity.proofs.Rays.BelowFlips.{reaching_is_line}
 use Rattle.theory_gaps.proofs.EdgesAtANumber.{no_end_over}
 use Rattle.std.proofs.lemmas.List.Sorted.{IsPermutation-sym}
 

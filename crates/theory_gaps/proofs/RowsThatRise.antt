@@ -14,8 +14,8 @@ use Rattle.theory_lists.proofs.Members.{all_that_stand}
 use Rattle.theory_lists.proofs.Parity.{differ_assoc, differ_comm}
 use Rattle.theory_numbers.specs.Arrows.{Arrow, cross}
 use Rattle.theory_numbers.specs.Rationals.{IsRational, IsBelow, IsAtMost, is_at_most, rational}
-use Rattle.theory_numbers.proofs.Arrows.{cross-turn}
-use Rattle.theory_numbers.proofs.Rationals.{at_most_trans}
+use Rattle.theory_numbers.proofs.Vectors.Arrows.{cross-turn}
+use Rattle.theory_numbers.proofs.Fractions.Rationals.{at_most_trans}
 use Rattle.theory_numbers.proofs.Signs.{at_most_from, not_at_most_from, less_from, not_less_from}
 use Rattle.theory_numbers.proofs.Signs.{test_less}
 use Rattle.theory_plane.proofs.Clearance.{value_on-IsRational}
@@ -26,10 +26,10 @@ use Rattle.sb_model.specs.declared.products.Element.{Element}
 use Rattle.sb_model.specs.Building.{Building}
 use Rattle.sb_model.specs.PlanEdges.{PlanEdge, plan_edges}
 use Rattle.theory_parity.specs.Below.{value_of, is_below_at}
-use Rattle.theory_parity.proofs.BelowFlips.{reaching_is_line}
+use Rattle.theory_parity.proofs.Rays.BelowFlips.{reaching_is_line}
 use Rattle.theory_gaps.specs.Borders.{entry_along, exit_along, ground_along, IsCounted, HaveHeights}
-use Rattle.theory_gaps.proofs.LabelsAlongTheNormal.{IsRow}
-use Rattle.theory_gaps.proofs.WalkUpAndDown.{AreBelow}
+use Rattle.theory_gaps.proofs.Rays.LabelsAlongTheNormal.{IsRow}
+use Rattle.theory_gaps.proofs.Rays.WalkUpAndDown.{AreBelow}
 
 -- ---- edges over a number
 

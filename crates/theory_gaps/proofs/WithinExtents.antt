@@ -14,7 +14,7 @@ use Rattle.theory_lists.proofs.Blocks.{all-append, stands_before, stands_behind}
 use Rattle.theory_lists.proofs.Parity.{is_odd_number-none}
 use Rattle.theory_numbers.specs.Arrows.{Arrow, arrow, opposite, cross, dot}
 use Rattle.theory_numbers.specs.Rationals.{IsBelow, rational}
-use Rattle.theory_numbers.proofs.Arrows.{opposite-dot, dot-opposite}
+use Rattle.theory_numbers.proofs.Vectors.Arrows.{opposite-dot, dot-opposite}
 use Rattle.theory_numbers.proofs.Products.{scale_less, scale_at_most, weak_square, square_of_zero}
 use Rattle.theory_numbers.proofs.Ring.{mul_comm, mul-zero, zero-mul, mul-neg, neg-mul}
 use Rattle.theory_numbers.proofs.Shapes.{var, plus, negated, times, equal, cross_eq, dot_eq}
@@ -30,8 +30,8 @@ use Rattle.sb_model.specs.Labels.{readings_in, readings_of, least_of, greatest_o
 use Rattle.sb_model.specs.Labels.{low_along, high_along}
 use Rattle.sb_model.specs.Solids.{Upright, is_in_solid, is_between_heights}
 use Rattle.theory_parity.specs.Below.{IsWay, abscissa_in, is_below_at}
-use Rattle.theory_parity.proofs.InsideByBelow.{inside_by_below}
-use Rattle.theory_sight.proofs.BandsOfPrisms.{low_end_of, high_end_of}
+use Rattle.theory_parity.proofs.Rays.InsideByBelow.{inside_by_below}
+use Rattle.theory_sight.proofs.Crossings.BandsOfPrisms.{low_end_of, high_end_of}
 
 -- ---- the least and the greatest of some readings
 

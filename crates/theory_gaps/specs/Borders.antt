@@ -6,8 +6,8 @@ use Rattle.theory_lists.specs.Members.{Stands, AllOfTwo}
 use Rattle.sb_fraction.specs.Spots.{Spot, Vector}
 use Rattle.sb_fraction.specs.Edges.{Edge, are_collinear}
 use Rattle.sb_fraction.specs.Crossings.{abscissa_at}
-use Rattle.sb_model.specs.declared.label.Label.{Label}
-use Rattle.sb_model.specs.declared.label.Label.TheVariants as label
+use Rattle.sb_model.specs.declared.labels.label.Label.{Label}
+use Rattle.sb_model.specs.declared.labels.label.Label.TheVariants as label
 use Rattle.sb_model.specs.declared.products.Space.{Space}
 use Rattle.sb_model.specs.declared.products.Element.{Element}
 use Rattle.sb_model.specs.Building.{Building}

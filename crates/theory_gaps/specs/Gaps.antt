@@ -9,7 +9,7 @@ use Rattle.std.specs.List.{AllByRecursion}
 use Rattle.theory_lists.specs.Parity.{is_odd_number}
 use Rattle.sb_fraction.specs.Spots.{Spot}
 use Rattle.sb_fraction.specs.Spots.{IsSpot}
-use Rattle.sb_model.specs.declared.label.Label.{Label}
+use Rattle.sb_model.specs.declared.labels.label.Label.{Label}
 use Rattle.sb_model.specs.Building.{Building}
 use Rattle.sb_model.specs.Labels.{open_label}
 use Rattle.sb_model.specs.PlanEdges.{PlanEdge, plan_edges}

@@ -16,15 +16,15 @@ use Rattle.sb_fraction.specs.Edges.{is_on}
 use Rattle.sb_fraction.specs.Spots.{Spot, IsSpot, reading}
 use Rattle.sb_fraction.specs.Spots.{Vector}
 use Rattle.sb_fraction.specs.Spots.{inner}
-use Rattle.sb_model.specs.declared.face.FaceKind.{FaceKind}
-use Rattle.sb_model.specs.declared.face.FaceKind.TheVariants as kind
-use Rattle.sb_model.specs.declared.label.Label.{Label}
+use Rattle.sb_model.specs.declared.faces.face.FaceKind.{FaceKind}
+use Rattle.sb_model.specs.declared.faces.face.FaceKind.TheVariants as kind
+use Rattle.sb_model.specs.declared.labels.label.Label.{Label}
 use Rattle.sb_model.specs.declared.products.Space.{Space}
 use Rattle.sb_model.specs.declared.walk.Walk.{Walk}
 use Rattle.sb_model.specs.Building.{Building, is_building}
-use Rattle.sb_model.specs.Faces.{Surface, surface_of, side_over, edge_numbered}
+use Rattle.sb_model.specs.Surfaces.Faces.{Surface, surface_of, side_over, edge_numbered}
 use Rattle.sb_model.specs.Passages.{ray_from, ArePassages}
-use Rattle.sb_model.specs.PlainPoints.{is_plain}
+use Rattle.sb_model.specs.Surfaces.PlainPoints.{is_plain}
 use Rattle.sb_model.specs.PlanEdges.{plan_edges}
 use Rattle.sb_model.specs.PlanEdges.{Product}
 use Rattle.sb_model.specs.PlanEdges.{products_of}

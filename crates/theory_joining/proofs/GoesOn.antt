@@ -4,9 +4,9 @@ use Rattle.std.proofs.lemmas.Bool.{and_parts}
 use Rattle.std.specs.Cmp.{signed_Decides}
 use Rattle.theory_numbers.specs.Arrows.{Arrow, cross}
 use Rattle.theory_numbers.specs.Rationals.{IsRational, IsBelow, IsAtMost, IsSame, mediant}
-use Rattle.theory_numbers.proofs.Rationals.{below_or_not, between_from_low, below_trans}
-use Rattle.theory_numbers.proofs.Rationals.{below_at_most_trans, at_most_below_trans, at_most_refl}
-use Rattle.theory_numbers.proofs.Rationals.{at_most_from_below, mediant-IsRational, mediant_between}
+use Rattle.theory_numbers.proofs.Fractions.Rationals.{below_or_not, between_from_low, below_trans}
+use Rattle.theory_numbers.proofs.Fractions.Rationals.{below_at_most_trans, at_most_below_trans, at_most_refl}
+use Rattle.theory_numbers.proofs.Fractions.Rationals.{at_most_from_below, mediant-IsRational, mediant_between}
 use Rattle.theory_plane.specs.Sides.{clearance, clearance_at, is_same_side}
 use Rattle.theory_plane.specs.Regions.{Region, have_same_sides}
 use Rattle.theory_plane.proofs.SameSide.{same_side_decides}

@@ -4,7 +4,7 @@ use Rattle.std.proofs.Common.{List, [], ◌∷◌}
 use Rattle.std.specs.List.{AllByRecursion}
 use Rattle.theory_numbers.specs.Arrows.{Arrow}
 use Rattle.theory_numbers.specs.Rationals.{IsRational, IsBelow}
-use Rattle.theory_numbers.proofs.Rationals.{below_trans, below_irrefl}
+use Rattle.theory_numbers.proofs.Fractions.Rationals.{below_trans, below_irrefl}
 use Rattle.theory_plane.specs.Points.{FacePoint, IsFacePoint, abscissa_of}
 use Rattle.theory_lists.specs.Members.{Stands}
 use Rattle.theory_lists.proofs.Members.{all_stands}

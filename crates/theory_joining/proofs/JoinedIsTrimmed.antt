@@ -6,7 +6,7 @@ use Rattle.std.specs.List.{AllByRecursion}
 use Rattle.theory_numbers.specs.Arrows.{Arrow}
 use Rattle.theory_numbers.specs.Rationals.{IsBelow, IsAtMost, IsSame}
 use Rattle.theory_numbers.proofs.Signs.{at_most_from}
-use Rattle.theory_numbers.proofs.Rationals.{number_cases, same_sym, below_clash}
+use Rattle.theory_numbers.proofs.Fractions.Rationals.{number_cases, same_sym, below_clash}
 use Rattle.theory_plane.specs.Sides.{clearance_at}
 use Rattle.theory_plane.specs.Points.{FacePoint}
 use Rattle.theory_plane.specs.Regions.{Region, IsInClosure, is_reached, reaches_under}

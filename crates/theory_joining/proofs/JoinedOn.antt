@@ -6,8 +6,8 @@ use Rattle.std.proofs.Common.{[], ◌∷◌}
 use Rattle.std.proofs.lemmas.List.Sorted.{IsPermutation-refl}
 use Rattle.theory_numbers.specs.Arrows.{Arrow}
 use Rattle.theory_numbers.specs.Rationals.{IsRational, IsBelow, IsSame}
-use Rattle.theory_numbers.proofs.Rationals.{number_cases, below_clash}
-use Rattle.theory_numbers.proofs.Rationals.{below_at_most_trans, at_most_trans, at_most_from_below}
+use Rattle.theory_numbers.proofs.Fractions.Rationals.{number_cases, below_clash}
+use Rattle.theory_numbers.proofs.Fractions.Rationals.{below_at_most_trans, at_most_trans, at_most_from_below}
 use Rattle.theory_plane.specs.Points.{FacePoint, IsFacePoint, abscissa_of}
 use Rattle.theory_plane.specs.Regions.{Region}
 use Rattle.theory_lists.specs.Members.{Stands}

@@ -3,7 +3,7 @@
 use Rattle.std.proofs.Common.{◌↔◌, List, []}
 use Rattle.theory_numbers.specs.Arrows.{Arrow}
 use Rattle.theory_numbers.specs.Rationals.{IsRational, IsBelow}
-use Rattle.theory_numbers.proofs.Rationals.{below_at_most_trans}
+use Rattle.theory_numbers.proofs.Fractions.Rationals.{below_at_most_trans}
 use Rattle.theory_plane.specs.Points.{FacePoint, IsFacePoint, abscissa_of}
 use Rattle.theory_lists.proofs.Members.{all_stands}
 use Rattle.theory_patches.specs.Marked.{MarkedPatch}

@@ -7,8 +7,8 @@ use Rattle.std.specs.List.{AllByRecursion}
 use Rattle.theory_numbers.specs.Arrows.{cross}
 use Rattle.theory_numbers.specs.Rationals.{IsBelow, IsSame, is_below}
 use Rattle.theory_numbers.proofs.Signs.{test_less, less_from}
-use Rattle.theory_numbers.proofs.Rationals.{below_trans, number_cases, same_sym, same_trans}
-use Rattle.theory_numbers.proofs.Rationals.{at_most_below_trans}
+use Rattle.theory_numbers.proofs.Fractions.Rationals.{below_trans, number_cases, same_sym, same_trans}
+use Rattle.theory_numbers.proofs.Fractions.Rationals.{at_most_below_trans}
 use Rattle.theory_plane.specs.Points.{FacePoint, IsFacePoint, abscissa_of, is_above_side}
 use Rattle.theory_plane.specs.Points.{is_under_side}
 use Rattle.theory_plane.specs.Regions.{Region, is_inside, is_spanned}

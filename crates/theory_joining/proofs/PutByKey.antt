@@ -8,10 +8,10 @@ use Rattle.std.specs.List.{AllByRecursion}
 use Rattle.theory_numbers.specs.Arrows.{Arrow}
 use Rattle.theory_numbers.specs.Rationals.{IsRational, IsBelow, IsAtMost, IsSame}
 use Rattle.theory_numbers.specs.Intervals.{another}
-use Rattle.theory_numbers.proofs.Avoid.{another_is, IsAnother}
-use Rattle.theory_numbers.proofs.Rationals.{below_or_not, at_most_below_trans}
-use Rattle.theory_numbers.proofs.Rationals.{below_at_most_trans, at_most_refl, at_most_from_below}
-use Rattle.theory_numbers.proofs.Rationals.{same_sym, same_trans}
+use Rattle.theory_numbers.proofs.Fractions.Avoid.{another_is, IsAnother}
+use Rattle.theory_numbers.proofs.Fractions.Rationals.{below_or_not, at_most_below_trans}
+use Rattle.theory_numbers.proofs.Fractions.Rationals.{below_at_most_trans, at_most_refl, at_most_from_below}
+use Rattle.theory_numbers.proofs.Fractions.Rationals.{same_sym, same_trans}
 use Rattle.theory_plane.specs.Sides.{clearance_at}
 use Rattle.theory_plane.proofs.Regions.{open_between}
 use Rattle.theory_lists.specs.Members.{AllOfTwo}

@@ -10,8 +10,8 @@ use Rattle.std.specs.List.{AllByRecursion}
 use Rattle.theory_numbers.specs.Arrows.{Arrow, cross}
 use Rattle.theory_numbers.specs.Rationals.{IsRational, IsBelow, IsAtMost, IsSame}
 use Rattle.theory_numbers.specs.Tests.{is_positive}
-use Rattle.theory_numbers.proofs.Rationals.{number_cases, same_sym, same_trans}
-use Rattle.theory_numbers.proofs.Rationals.{below_at_most_trans, at_most_below_trans, at_most_refl}
+use Rattle.theory_numbers.proofs.Fractions.Rationals.{number_cases, same_sym, same_trans}
+use Rattle.theory_numbers.proofs.Fractions.Rationals.{below_at_most_trans, at_most_below_trans, at_most_refl}
 use Rattle.theory_plane.specs.Sides.{clearance_at}
 use Rattle.theory_plane.specs.Regions.{Region, have_same_sides, is_seam}
 use Rattle.theory_lists.specs.Members.{Stands, AllOfTwo}

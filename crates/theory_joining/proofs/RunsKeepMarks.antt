@@ -5,7 +5,7 @@ use Rattle.std.proofs.lemmas.Bool.{and_parts, and_from}
 use Rattle.std.specs.List.{AllByRecursion}
 use Rattle.theory_numbers.specs.Arrows.{Arrow}
 use Rattle.theory_numbers.specs.Rationals.{IsRational, IsBelow, IsSame}
-use Rattle.theory_numbers.proofs.Rationals.{below_trans, number_cases, same_sym}
+use Rattle.theory_numbers.proofs.Fractions.Rationals.{below_trans, number_cases, same_sym}
 use Rattle.theory_plane.specs.Sides.{LineSide, IsLineSide, value_on}
 use Rattle.theory_plane.specs.Points.{FacePoint, IsFacePoint, abscissa_of, ordinate_of}
 use Rattle.theory_plane.specs.Points.{is_above_side, is_under_side, is_on_side}

@@ -14,9 +14,9 @@ use Rattle.theory_lists.specs.Parity.{differ}
 use Rattle.theory_lists.proofs.Members.{any_stands}
 use Rattle.theory_numbers.specs.Arrows.{Arrow, cross}
 use Rattle.theory_numbers.specs.Rationals.{IsRational, IsBelow, IsAtMost, is_at_most}
-use Rattle.theory_numbers.proofs.Arrows.{cross-self, cross-turn}
-use Rattle.theory_numbers.proofs.Rationals.{at_most_trans, below_at_most_trans, below_or_not}
-use Rattle.theory_numbers.proofs.Rationals.{at_most_below_trans}
+use Rattle.theory_numbers.proofs.Vectors.Arrows.{cross-self, cross-turn}
+use Rattle.theory_numbers.proofs.Fractions.Rationals.{at_most_trans, below_at_most_trans, below_or_not}
+use Rattle.theory_numbers.proofs.Fractions.Rationals.{at_most_below_trans}
 use Rattle.theory_numbers.proofs.Signs.{less_from, not_less_from, test_less, test_not_less}
 use Rattle.theory_numbers.proofs.Signs.{test_at_most, at_most_from, test_not_equal}
 use Rattle.sb_fraction.specs.declared.point.Point.{Point}

@@ -17,7 +17,7 @@ use Rattle.theory_lines.proofs.NeighboursInAList.{neighbours_in_list}
 use Rattle.theory_lists.proofs.InAnyOrder.{stands_permuted}
 use Rattle.theory_numbers.specs.Arrows.{Arrow, arrow, cross, dot}
 use Rattle.theory_numbers.specs.Rationals.{rational, IsRational, IsBelow, IsSame}
-use Rattle.theory_numbers.proofs.Clear.{positive_between}
+use Rattle.theory_numbers.proofs.Fractions.Clear.{positive_between}
 use Rattle.theory_plane.specs.Sides.{clearance, clearance_at}
 use Rattle.sb_fraction.specs.Edges.{edge}
 use Rattle.sb_fraction.specs.Lines.{flat, line_over, span_along}

@@ -11,16 +11,16 @@ use Rattle.std.proofs.lemmas.Bool.Decides.{Decides-int_eq}
 use Rattle.theory_numbers.specs.Tests.{is_positive}
 use Rattle.theory_numbers.specs.Arrows.{Arrow, arrow, cross, dot, opposite, scale}
 use Rattle.theory_numbers.specs.Rationals.{rational, IsRational, IsZeroForm, IsSame}
-use Rattle.theory_numbers.proofs.Arrows.{cross-self, cross-turn, cross-scale, opposite-cross}
-use Rattle.theory_numbers.proofs.Arrows.{cross-opposite}
-use Rattle.theory_numbers.proofs.Lengths.{opposite_ways}
+use Rattle.theory_numbers.proofs.Vectors.Arrows.{cross-self, cross-turn, cross-scale, opposite-cross}
+use Rattle.theory_numbers.proofs.Vectors.Arrows.{cross-opposite}
+use Rattle.theory_numbers.proofs.Vectors.Lengths.{opposite_ways}
 use Rattle.theory_numbers.proofs.Multiples.{zero_of_multiple}
 use Rattle.theory_numbers.proofs.Products.{zero_of_positive}
 use Rattle.theory_numbers.proofs.Ring.{mul-zero, mul-neg, neg-mul, mul_comm}
 use Rattle.theory_numbers.proofs.Shapes.{var, num, plus, minus, times, equal, dot_by, dot_eq}
 use Rattle.theory_numbers.proofs.Signs.{equal_or_not, test_less, test_not_less, test_not_equal}
 use Rattle.theory_numbers.proofs.Signs.{at_most_from}
-use Rattle.theory_numbers.proofs.ThreeTerms.{cycle_x, cycle_y, frame_cross}
+use Rattle.theory_numbers.proofs.Vectors.ThreeTerms.{cycle_x, cycle_y, frame_cross}
 use Rattle.theory_plane.specs.Sides.{clearance, clearance_at}
 use Rattle.theory_plane.proofs.Clearance.{value_on-IsRational, meeting_is}
 use Rattle.sb_fraction.specs.Spots.{Spot, spot, IsSpot, reading}
@@ -31,9 +31,9 @@ use Rattle.sb_fraction.specs.Lines.{place, flat, span_along, line_over, reaches_
 use Rattle.theory_plans.specs.Alike.{AreAlike, SeesNoFactor}
 use Rattle.theory_plans.proofs.PointsAlike.{same_of_alike, within_sees_no_factor}
 use Rattle.theory_parity.specs.Below.{IsWay, spot_in, value_of}
-use Rattle.theory_parity.proofs.BelowByValue.{spot_in_is, abscissa_of_spot}
-use Rattle.theory_parity.proofs.BelowFlips.{reaching_is_line}
-use Rattle.theory_parity.proofs.InsideByBelow.{turn_by_span}
+use Rattle.theory_parity.proofs.Rays.BelowByValue.{spot_in_is, abscissa_of_spot}
+use Rattle.theory_parity.proofs.Rays.BelowFlips.{reaching_is_line}
+use Rattle.theory_parity.proofs.Rays.InsideByBelow.{turn_by_span}
 use Rattle.theory_parity.proofs.InsideByValues.{on_is_through, no_end_there}
 use Rattle.theory_models.proofs.LabelsAlike.{times-scaled}
 

@@ -8,9 +8,9 @@ use Rattle.theory_lists.specs.Members.{Stands, AllOfTwo}
 use Rattle.theory_lists.proofs.Members.{all_stands}
 use Rattle.theory_numbers.specs.Arrows.{Arrow}
 use Rattle.theory_numbers.specs.Rationals.{IsRational, IsBelow, IsAtMost, IsSame}
-use Rattle.theory_numbers.proofs.Arrows.{cross-turn}
-use Rattle.theory_numbers.proofs.Rationals.{at_most_trans, at_most_refl, at_most_from_below}
-use Rattle.theory_numbers.proofs.Rationals.{below_clash}
+use Rattle.theory_numbers.proofs.Vectors.Arrows.{cross-turn}
+use Rattle.theory_numbers.proofs.Fractions.Rationals.{at_most_trans, at_most_refl, at_most_from_below}
+use Rattle.theory_numbers.proofs.Fractions.Rationals.{below_clash}
 use Rattle.sb_fraction.specs.Lines.{flat}
 use Rattle.sb_model.specs.Building.{Building}
 use Rattle.sb_model.specs.PlanEdges.{is_abscissa}

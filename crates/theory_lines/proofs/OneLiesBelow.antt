@@ -12,11 +12,11 @@ use Rattle.theory_numbers.specs.Arrows.{Arrow, cross}
 use Rattle.theory_numbers.specs.Rationals.{IsRational, IsBelow, IsAtMost, IsSame, IsForm, value_at}
 use Rattle.theory_numbers.specs.Rationals.{mediant}
 use Rattle.theory_numbers.specs.Intervals.{Keeps}
-use Rattle.theory_numbers.proofs.Clear.{positive_at_ends}
+use Rattle.theory_numbers.proofs.Fractions.Clear.{positive_at_ends}
 use Rattle.theory_numbers.proofs.Products.{weak_product, weak_factor}
-use Rattle.theory_numbers.proofs.Rationals.{at_most_below_trans, at_most_refl, at_most_from_below}
-use Rattle.theory_numbers.proofs.Rationals.{mediant_between, mediant-IsRational, number_cases}
-use Rattle.theory_numbers.proofs.Rationals.{below_clash, same_sym}
+use Rattle.theory_numbers.proofs.Fractions.Rationals.{at_most_below_trans, at_most_refl, at_most_from_below}
+use Rattle.theory_numbers.proofs.Fractions.Rationals.{mediant_between, mediant-IsRational, number_cases}
+use Rattle.theory_numbers.proofs.Fractions.Rationals.{below_clash, same_sym}
 use Rattle.theory_numbers.proofs.Ring.{zero-mul}
 use Rattle.theory_numbers.proofs.Shapes.{var, plus, times, equal, cross_is, dot_is}
 use Rattle.theory_plane.specs.Sides.{IsLineSide, clearance, clearance_at}
@@ -31,7 +31,7 @@ use Rattle.sb_fraction.specs.Lines.{flat, line_over}
 use Rattle.sb_model.specs.Building.{Building}
 use Rattle.sb_model.specs.PlanEdges.{PlanEdge, plan_edges}
 use Rattle.theory_parity.specs.Below.{IsWay, value_of}
-use Rattle.theory_parity.proofs.BelowFlips.{reaching_is_line}
+use Rattle.theory_parity.proofs.Rays.BelowFlips.{reaching_is_line}
 use Rattle.theory_lines.specs.Slabs.{IsSlab, is_spanning, IsUnder, AreOnOneLine}
 use Rattle.theory_lines.proofs.EdgesOverASlab.{spanning_reaches, spanning_ends_nowhere}
 use Rattle.theory_lines.proofs.LinesMeetAtCrossings.{crosses_or_one_line}

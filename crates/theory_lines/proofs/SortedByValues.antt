@@ -10,7 +10,7 @@ use Rattle.theory_lists.proofs.Members.{two_follow}
 use Rattle.theory_lists.proofs.InAnyOrder.{stands_permuted}
 use Rattle.theory_numbers.specs.Arrows.{Arrow, cross}
 use Rattle.theory_numbers.specs.Rationals.{IsRational, IsBelow, IsAtMost, is_below, is_at_most}
-use Rattle.theory_numbers.proofs.Rationals.{at_most_trans, at_most_below_trans, at_most_from_below}
+use Rattle.theory_numbers.proofs.Fractions.Rationals.{at_most_trans, at_most_below_trans, at_most_from_below}
 use Rattle.theory_numbers.proofs.Signs.{less_from, test_less, at_most_from, test_at_most}
 use Rattle.theory_plane.specs.Sides.{clearance_at}
 use Rattle.theory_plane.proofs.Clearance.{value_on-IsRational, at_least_is}

@@ -10,9 +10,9 @@ use Rattle.sb_fraction.specs.Edges.{Edge}
 use Rattle.theory_plans.specs.LoopEdges.{edges_of}
 use Rattle.theory_plans.specs.Plans.{is_same_point, is_consecutive, do_touch, is_of_each_two}
 use Rattle.theory_plans.specs.Plans.{corners_in, are_apart}
-use Rattle.theory_plans.proofs.EdgesOfPlans.{same_point}
+use Rattle.theory_plans.proofs.Edges.EdgesOfPlans.{same_point}
 use Rattle.theory_plans.proofs.TouchingEdges.{each_two_pass, common_point_touches}
-use Rattle.theory_parity.proofs.TurnedIsApart.{AreNear, pass_each_two}
+use Rattle.theory_parity.proofs.SolidOnTheLeft.TurnedIsApart.{AreNear, pass_each_two}
 use Rattle.theory_loops.specs.Orders.{MeetConsecutively}
 use Rattle.theory_loops.proofs.LeastFirst.{same_as_itself}
 use Rattle.theory_loops.proofs.TouchingHavePoint.{touch_is}

@@ -9,7 +9,7 @@ use Rattle.theory_lists.proofs.Parity.{differ-false, differ-self}
 use Rattle.theory_numbers.specs.Arrows.{Arrow, arrow, cross}
 use Rattle.theory_numbers.proofs.Shapes.{var, negated, minus, plus, times, equal, cross_by}
 use Rattle.theory_numbers.proofs.SignTables.{hit_of}
-use Rattle.theory_numbers.proofs.ThreeTerms.{three_terms}
+use Rattle.theory_numbers.proofs.Vectors.ThreeTerms.{three_terms}
 use Rattle.theory_numbers.specs.Tests.{is_positive}
 use Rattle.theory_numbers.proofs.Signs.{same_less, less_from, not_less_from}
 use Rattle.theory_numbers.proofs.Products.{positive_factor, negative_factor, positive_product, negative_product}
@@ -19,7 +19,7 @@ use Rattle.sb_fraction.specs.Edges.{edge, seen_from}
 use Rattle.theory_plans.specs.Loops.{bend}
 use Rattle.theory_plans.specs.Rays.{is_left_of, is_struck}
 use Rattle.theory_plans.specs.Inside.{is_crossed}
-use Rattle.theory_parity.proofs.InsideByBelow.{crossed_is_struck}
+use Rattle.theory_parity.proofs.Rays.InsideByBelow.{crossed_is_struck}
 
 -- ---- three points on one line, as seen from a fourth
 

@@ -16,7 +16,7 @@ use Rattle.sb_fraction.specs.Edges.{Edge, edge}
 use Rattle.theory_plans.specs.LoopEdges.{edges_back, edges_of_loop}
 use Rattle.theory_plans.specs.Loops.{bend, is_bent}
 use Rattle.theory_plans.specs.Plans.{is_same_point}
-use Rattle.theory_parity.proofs.TurnedLoops.{way-more}
+use Rattle.theory_parity.proofs.SolidOnTheLeft.TurnedLoops.{way-more}
 use Rattle.theory_loops.specs.Normal.{first_of, last_of, drop_between, drop_first, dropped_times}
 use Rattle.theory_loops.specs.Normal.{dropped, least_of, read_from, from_least, normal_loop}
 

@@ -15,7 +15,7 @@ use Rattle.theory_numbers.proofs.Signs.{less_from, test_less, order_cases}
 use Rattle.sb_fraction.specs.declared.point.Point.{Point}
 use Rattle.theory_plans.specs.Loops.{comes_before, is_least_first}
 use Rattle.theory_plans.specs.Plans.{is_same_point, is_of_each_two}
-use Rattle.theory_plans.proofs.EdgesOfPlans.{same_point}
+use Rattle.theory_plans.proofs.Edges.EdgesOfPlans.{same_point}
 use Rattle.theory_loops.specs.Normal.{first_of, least_of, read_from, from_least}
 use Rattle.theory_loops.proofs.DropsKeep.{from_least_keeps}
 

@@ -13,11 +13,7 @@ pub mod SamePlan
 pub mod PlanComesOut
 pub mod PlansStay
 -- any order
-pub mod SameLoop
-pub mod TwoDropsMeet
-pub mod AnyOrder
-pub mod LeftInAnyOrder
-pub mod ApartFromAny
+pub mod Orders
 -- touching
 pub mod TouchingHavePoint
 pub mod ApartInWords

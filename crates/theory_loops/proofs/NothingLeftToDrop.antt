@@ -8,7 +8,7 @@ use Rattle.std.proofs.lemmas.Bool.{and_parts, and_from, false≢true}
 use Rattle.sb_fraction.specs.declared.point.Point.{Point}
 use Rattle.theory_numbers.proofs.Shapes.{var, num, minus, times, equal}
 use Rattle.theory_plans.specs.Loops.{bend, is_bent, are_bent, is_bent_loop}
-use Rattle.theory_plans.proofs.EdgesOfPlans.{bent_is_not_0}
+use Rattle.theory_plans.proofs.Edges.EdgesOfPlans.{bent_is_not_0}
 use Rattle.theory_loops.specs.Normal.{first_of, last_of, drop_between, drop_first, dropped_times}
 use Rattle.theory_loops.specs.Normal.{dropped}
 

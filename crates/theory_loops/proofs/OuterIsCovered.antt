@@ -8,18 +8,18 @@ use Rattle.std.proofs.lemmas.Int.{ints}
 use Rattle.std.proofs.lemmas.Bool.{and_parts, false_from_ne_true}
 use Rattle.std.proofs.lemmas.Bool.Decides.{Decides-int_eq}
 use Rattle.theory_numbers.specs.Arrows.{cross, dot}
-use Rattle.theory_numbers.proofs.Arrows.{cross-turn}
+use Rattle.theory_numbers.proofs.Vectors.Arrows.{cross-turn}
 use Rattle.theory_numbers.proofs.Shapes.{var, minus, times, equal, cross_eq, dot_eq}
 use Rattle.theory_numbers.proofs.Signs.{at_most_from, above_or_not}
 use Rattle.theory_numbers.proofs.Products.{zero_of_positive, weak_negative_product}
 use Rattle.theory_numbers.proofs.Products.{weak_negative_factor}
-use Rattle.theory_numbers.proofs.Lengths.{no_length, seen_by}
-use Rattle.theory_numbers.proofs.ThreeTerms.{frame_dot}
+use Rattle.theory_numbers.proofs.Vectors.Lengths.{no_length, seen_by}
+use Rattle.theory_numbers.proofs.Vectors.ThreeTerms.{frame_dot}
 use Rattle.sb_fraction.specs.declared.point.Point.{Point}
 use Rattle.sb_fraction.specs.Spots.{Spot}
 use Rattle.sb_fraction.specs.Edges.{edge, seen_from, turn_at, reach_at, is_on}
 use Rattle.theory_plans.specs.Loops.{bend}
-use Rattle.theory_parity.proofs.AnyRay.{off_edge}
+use Rattle.theory_parity.proofs.Rays.AnyRay.{off_edge}
 use Rattle.theory_loops.proofs.DropPoint.{turns_add}
 
 module _ (p : Spot) (a b c : Point) (level : bend a b c ≡ pos 0)

@@ -11,7 +11,7 @@ use Rattle.theory_plans.specs.LoopEdges.{edges_of}
 use Rattle.theory_plans.specs.Loops.{is_loop, are_loops}
 use Rattle.theory_plans.specs.Plans.{is_same_point, is_of_each_two, corners_in, are_apart, is_plan}
 use Rattle.theory_plans.specs.Plans.{do_touch, is_consecutive}
-use Rattle.theory_parity.proofs.TurnedIsPlan.{put_left_is_plan}
+use Rattle.theory_parity.proofs.SolidOnTheLeft.TurnedIsPlan.{put_left_is_plan}
 use Rattle.theory_loops.specs.Normal.{normal_loop}
 use Rattle.theory_loops.specs.Answers.{normal_loops, keeps_few, are_flat, are_knotted, plan_of}
 use Rattle.theory_loops.proofs.NormalIsLoop.{normal_is_loop}

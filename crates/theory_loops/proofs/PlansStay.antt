@@ -11,9 +11,9 @@ use Rattle.theory_plans.specs.LoopEdges.{edges_of}
 use Rattle.theory_plans.specs.Loops.{is_bent, are_bent, is_bent_loop, comes_before, is_least_first}
 use Rattle.theory_plans.specs.Loops.{is_loop}
 use Rattle.theory_plans.specs.Plans.{are_apart, is_plan}
-use Rattle.theory_plans.proofs.EdgesOfPlans.{loop_is, plan_is}
+use Rattle.theory_plans.proofs.Edges.EdgesOfPlans.{loop_is, plan_is}
 use Rattle.theory_parity.specs.Sides.{put_left}
-use Rattle.theory_parity.proofs.TurnedLoops.{put_left_once}
+use Rattle.theory_parity.proofs.SolidOnTheLeft.TurnedLoops.{put_left_once}
 use Rattle.theory_loops.specs.Normal.{first_of, last_of, drop_between, drop_first, dropped}
 use Rattle.theory_loops.specs.Normal.{least_of, read_from, from_least, normal_loop}
 use Rattle.theory_loops.specs.Answers.{normal_loops, keeps_few, are_flat, are_knotted, plan_of}

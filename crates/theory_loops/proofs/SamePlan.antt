@@ -16,9 +16,9 @@ use Rattle.sb_fraction.specs.Edges.{Edge, is_on}
 use Rattle.theory_plans.specs.LoopEdges.{edges_of_loop, edges_of}
 use Rattle.theory_plans.specs.Inside.{is_crossed, is_in_plan}
 use Rattle.theory_parity.specs.Sides.{turned_edge, turned_loop, is_left_at_first, put_left}
-use Rattle.theory_parity.proofs.InsideByBelow.{crossed_is_struck}
-use Rattle.theory_parity.proofs.TurnedLoops.{struck-turned, odd_where_put, turned_edges}
-use Rattle.theory_parity.proofs.TurnedIsApart.{on-turned}
+use Rattle.theory_parity.proofs.Rays.InsideByBelow.{crossed_is_struck}
+use Rattle.theory_parity.proofs.SolidOnTheLeft.TurnedLoops.{struck-turned, odd_where_put, turned_edges}
+use Rattle.theory_parity.proofs.SolidOnTheLeft.TurnedIsApart.{on-turned}
 use Rattle.theory_loops.specs.Normal.{normal_loop}
 use Rattle.theory_loops.specs.Answers.{normal_loops, plan_of}
 use Rattle.theory_loops.proofs.DropPoint.{crossed-drop}

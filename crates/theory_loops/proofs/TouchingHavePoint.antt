@@ -7,13 +7,13 @@ use Rattle.std.proofs.lemmas.Int.{ints}
 use Rattle.std.proofs.lemmas.Bool.{and_from, and_parts, or_cases}
 use Rattle.std.proofs.lemmas.Bool.Decides.{Decides-int_eq}
 use Rattle.theory_numbers.specs.Arrows.{Arrow, arrow, cross, dot, scale}
-use Rattle.theory_numbers.proofs.Arrows.{cross-self, scale-cross, cross-scale, scale-dot, dot-scale}
-use Rattle.theory_numbers.proofs.Arrows.{same_arrow}
+use Rattle.theory_numbers.proofs.Vectors.Arrows.{cross-self, scale-cross, cross-scale, scale-dot, dot-scale}
+use Rattle.theory_numbers.proofs.Vectors.Arrows.{same_arrow}
 use Rattle.theory_numbers.proofs.Ring.{mul-zero}
 use Rattle.theory_numbers.proofs.Shapes.{var, num, negated, plus, minus, times, equal, cross_by}
 use Rattle.theory_numbers.proofs.Signs.{less_from, test_at_most, above_or_not}
 use Rattle.theory_numbers.proofs.Products.{weak_negative_product, weak_square}
-use Rattle.theory_numbers.proofs.Lengths.{weak_length}
+use Rattle.theory_numbers.proofs.Vectors.Lengths.{weak_length}
 use Rattle.sb_fraction.specs.declared.point.Point.{Point}
 use Rattle.sb_fraction.specs.Spots.{Spot, IsSpot, spot, spot_at}
 use Rattle.sb_fraction.specs.Edges.{Edge, edge, seen_from, turn_at, reach_at, is_on}

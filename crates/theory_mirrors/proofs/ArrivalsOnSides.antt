@@ -16,7 +16,7 @@ use Rattle.theory_numbers.specs.Rationals.{IsRational, IsSame, rational}
 use Rattle.theory_numbers.specs.Tests.{is_positive}
 use Rattle.theory_numbers.proofs.Multiples.{equality_of_multiples}
 use Rattle.theory_numbers.proofs.Products.{positive_product, positive_factor, zero_of_positive}
-use Rattle.theory_numbers.proofs.Rationals.{same_sym, same_trans}
+use Rattle.theory_numbers.proofs.Fractions.Rationals.{same_sym, same_trans}
 use Rattle.theory_numbers.proofs.Ring.{mul_comm}
 use Rattle.theory_numbers.proofs.Shapes.{var, num, plus, minus, times, negated, equal, cross_eq, dot_by}
 use Rattle.theory_numbers.proofs.Signs.{less_from, test_not_less}
@@ -29,14 +29,14 @@ use Rattle.sb_fraction.specs.Edges.{Edge, span_of, is_on}
 use Rattle.sb_fraction.specs.Lines.{flat, line_over, reaches_past}
 use Rattle.sb_fraction.specs.Spots.{Spot, IsSpot, vector, inner, opposite, times_w, reading}
 use Rattle.theory_plans.specs.LoopEdges.{edges_of}
-use Rattle.theory_plans.proofs.EdgesOfPlans.{plan_edges_are_proper}
-use Rattle.theory_plans.proofs.StepsOfEdges.{IsStep, step_is, direction_along, direction_against}
-use Rattle.sb_model.specs.declared.face.FaceKind.TheVariants as kind
+use Rattle.theory_plans.proofs.Edges.EdgesOfPlans.{plan_edges_are_proper}
+use Rattle.theory_plans.proofs.Edges.StepsOfEdges.{IsStep, step_is, direction_along, direction_against}
+use Rattle.sb_model.specs.declared.faces.face.FaceKind.TheVariants as kind
 use Rattle.sb_model.specs.declared.products.Space.{Space}
 use Rattle.sb_model.specs.Building.{Building, is_building}
-use Rattle.sb_model.specs.Faces.{side_over, side_of, is_of_side}
+use Rattle.sb_model.specs.Surfaces.Faces.{side_over, side_of, is_of_side}
 use Rattle.sb_model.specs.Passages.{ray_from, at_depth}
-use Rattle.sb_model.specs.PlainPoints.{is_at_height, is_at_ground, is_off_side_cuts, is_plain}
+use Rattle.sb_model.specs.Surfaces.PlainPoints.{is_at_height, is_at_ground, is_off_side_cuts, is_plain}
 use Rattle.sb_model.specs.PlanEdges.{PlanEdge, Product, plan_edges, products_of, is_abscissa}
 use Rattle.sb_model.specs.Solids.{is_between_heights}
 use Rattle.sb_model.specs.Walks.{is_across, is_square}
@@ -44,20 +44,20 @@ use Rattle.theory_models.proofs.EdgesOfProducts.{plan_of_solid}
 use Rattle.theory_models.proofs.LabelsAlike.{abscissa_sees_no_factor}
 use Rattle.theory_models.proofs.NumbersApart.{of_space, space_stands}
 use Rattle.theory_parity.specs.Below.{IsWay, value_of, is_through}
-use Rattle.theory_parity.proofs.BelowFlips.{reaching_is_line}
+use Rattle.theory_parity.proofs.Rays.BelowFlips.{reaching_is_line}
 use Rattle.theory_sight.specs.Reading.{square, slanted, IsFarEnd}
 use Rattle.theory_gaps.proofs.EdgesAtANumber.{no_end_over, value_is_position}
-use Rattle.theory_gaps.proofs.LabelsAlongTheNormal.{IsRow, plan_edge, edge_stands, ray_is_way, depth_of}
+use Rattle.theory_gaps.proofs.Rays.LabelsAlongTheNormal.{IsRow, plan_edge, edge_stands, ray_is_way, depth_of}
 use Rattle.theory_gaps.proofs.OneWalkEach.{proper_there}
 use Rattle.theory_gaps.proofs.OutwardFromSides.{reaches_if_on}
-use Rattle.theory_gaps.proofs.PointsOnTheRay.{frame_of, abscissa, height_at}
-use Rattle.theory_gaps.proofs.RaysOfFaces.{abscissa_turned}
+use Rattle.theory_gaps.proofs.Rays.PointsOnTheRay.{frame_of, abscissa, height_at}
+use Rattle.theory_gaps.proofs.Rays.RaysOfFaces.{abscissa_turned}
 use Rattle.theory_gaps.proofs.RowsOfSlabs.{place_of}
-use Rattle.theory_gaps.proofs.WalkAlongTheNormal.{lowest_terms, ends_so}
-use Rattle.theory_mirrors.proofs.SpacesAlongARay.{BeginsAt}
-use Rattle.theory_mirrors.proofs.SpacesOnLevelRays.{sees_spaces, ends_at_start, FacesBack, faces_back}
+use Rattle.theory_gaps.proofs.Rays.WalkAlongTheNormal.{lowest_terms, ends_so}
+use Rattle.theory_mirrors.proofs.RaysOfFaces.SpacesAlongARay.{BeginsAt}
+use Rattle.theory_mirrors.proofs.RaysOfFaces.SpacesOnLevelRays.{sees_spaces, ends_at_start, FacesBack, faces_back}
 use Rattle.theory_mirrors.proofs.StepsOpposed.{opposed_steps}
-use Rattle.theory_mirrors.proofs.WaysFromFaces.{ArrivesAt, SeesFromFace}
+use Rattle.theory_mirrors.proofs.RaysOfFaces.WaysFromFaces.{ArrivesAt, SeesFromFace}
 use Rattle.theory_sight.specs.Crossings.{StartsAt}
 
 -- a multiple of a step along another's frame

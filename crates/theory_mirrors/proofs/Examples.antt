@@ -14,13 +14,13 @@ use Rattle.sb_fraction.specs.Directions.{axis_x, step, runs_along, direction_of,
 use Rattle.sb_fraction.specs.Edges.{edge}
 use Rattle.sb_fraction.specs.Lines.{span_along}
 use Rattle.sb_fraction.specs.Spots.{inner}
-use Rattle.sb_model.specs.declared.face.FaceKind.TheVariants as kind
+use Rattle.sb_model.specs.declared.faces.face.FaceKind.TheVariants as kind
 use Rattle.sb_model.specs.declared.walk.End.TheVariants as end
 use Rattle.sb_model.specs.declared.walk.Walk.{Walk}
 use Rattle.sb_model.specs.Building.{is_building}
-use Rattle.sb_model.specs.Faces.{edge_numbered, side_over, side_of}
+use Rattle.sb_model.specs.Surfaces.Faces.{edge_numbered, side_over, side_of}
 use Rattle.sb_model.specs.Labels.{low_along, high_along}
-use Rattle.sb_model.specs.PlainPoints.{is_plain}
+use Rattle.sb_model.specs.Surfaces.PlainPoints.{is_plain}
 use Rattle.sb_model.specs.PlanEdges.{plan_edges}
 use Rattle.sb_model.specs.Walks.{IsWalk}
 use Rattle.theory_models.proofs.ExampleModels.{plan_point, box_room}

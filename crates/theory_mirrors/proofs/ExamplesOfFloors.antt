@@ -12,15 +12,15 @@ use Rattle.theory_plans.specs.Rectangles.{rectangle}
 use Rattle.sb_fraction.specs.Directions.{axis_z}
 use Rattle.sb_fraction.specs.Lines.{span_along}
 use Rattle.sb_fraction.specs.Spots.{spot, inner}
-use Rattle.sb_model.specs.declared.face.FaceKind.TheVariants as kind
+use Rattle.sb_model.specs.declared.faces.face.FaceKind.TheVariants as kind
 use Rattle.sb_model.specs.declared.layers.Layering.TheVariants.{Plain}
 use Rattle.sb_model.specs.declared.products.Space.{Space}
 use Rattle.sb_model.specs.declared.walk.End.TheVariants as end
 use Rattle.sb_model.specs.declared.walk.Walk.{Walk}
 use Rattle.sb_model.specs.Building.{is_building}
-use Rattle.sb_model.specs.Faces.{top_of}
+use Rattle.sb_model.specs.Surfaces.Faces.{top_of}
 use Rattle.sb_model.specs.Labels.{low_along, high_along}
-use Rattle.sb_model.specs.PlainPoints.{is_plain}
+use Rattle.sb_model.specs.Surfaces.PlainPoints.{is_plain}
 use Rattle.sb_model.specs.PlanEdges.{plan_edges}
 use Rattle.sb_model.specs.Solids.{Upright, is_upright}
 use Rattle.sb_model.specs.Walks.{item, IsWalk}

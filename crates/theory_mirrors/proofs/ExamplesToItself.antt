@@ -11,7 +11,7 @@ use Rattle.sb_fraction.specs.Spots.{spot}
 use Rattle.sb_model.specs.declared.layers.Layering.TheVariants.{Plain}
 use Rattle.sb_model.specs.declared.walk.End.TheVariants as end
 use Rattle.sb_model.specs.declared.walk.Walk.{Walk}
-use Rattle.sb_model.specs.Faces.{side_over}
+use Rattle.sb_model.specs.Surfaces.Faces.{side_over}
 use Rattle.sb_model.specs.PlanEdges.{plan_edges}
 use Rattle.sb_model.specs.Solids.{Upright, is_upright}
 use Rattle.sb_model.specs.Walks.{item, IsWalk}

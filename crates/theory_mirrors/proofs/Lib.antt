@@ -7,17 +7,11 @@ pub mod SeenFromBehind
 -- the way back over what was passed
 pub mod WalkedBack
 -- spaces on a ray
-pub mod SpacesAlongARay
+pub mod RaysOfFaces
 -- opposite vectors
 pub mod StepsOpposed
--- level rays
-pub mod SpacesOnLevelRays
--- the way there
-pub mod WaysFromFaces
 -- there and back
 pub mod TheLaw
--- rays up and down
-pub mod SpacesOnUprightRays
 -- and on which sides they arrive
 pub mod ArrivalsOnSides
 -- the law

@@ -4,7 +4,7 @@ use Rattle.std.proofs.Common.{[], ◌∷◌, ap, ◌∙◌, subst}
 use Rattle.std.proofs.lemmas.Int.{ints}
 use Rattle.theory_lists.specs.Members.{Stands}
 use Rattle.theory_numbers.specs.Rationals.{rational}
-use Rattle.theory_numbers.proofs.Rationals.{below_trans}
+use Rattle.theory_numbers.proofs.Fractions.Rationals.{below_trans}
 use Rattle.theory_numbers.proofs.Shapes.{cross_eq}
 use Rattle.sb_fraction.specs.Spots.{Spot, IsSpot, Vector, inner, reading}
 use Rattle.sb_model.specs.declared.products.Space.{Space}

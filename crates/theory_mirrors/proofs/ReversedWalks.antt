@@ -15,34 +15,34 @@ use Rattle.sb_fraction.specs.Edges.{Edge, is_on}
 use Rattle.sb_fraction.specs.Spots.{Spot, IsSpot, reading}
 use Rattle.theory_plans.specs.Inside.{is_in_plan}
 use Rattle.theory_plans.specs.LoopEdges.{edges_of}
-use Rattle.theory_plans.proofs.EdgesOfPlans.{plan_edges_are_proper}
-use Rattle.theory_plans.proofs.StepsOfEdges.{step_is}
-use Rattle.sb_model.specs.declared.face.FaceKind.{FaceKind}
-use Rattle.sb_model.specs.declared.face.FaceKind.TheVariants as kind
+use Rattle.theory_plans.proofs.Edges.EdgesOfPlans.{plan_edges_are_proper}
+use Rattle.theory_plans.proofs.Edges.StepsOfEdges.{step_is}
+use Rattle.sb_model.specs.declared.faces.face.FaceKind.{FaceKind}
+use Rattle.sb_model.specs.declared.faces.face.FaceKind.TheVariants as kind
 use Rattle.sb_model.specs.declared.products.Space.{Space}
 use Rattle.sb_model.specs.declared.walk.End.TheVariants as end
 use Rattle.sb_model.specs.declared.walk.Walk.{Walk}
 use Rattle.sb_model.specs.Building.{Building, is_building}
-use Rattle.sb_model.specs.Faces.{Surface, surface_of, side_of, side_over, edge_numbered, bottom_of, top_of}
-use Rattle.sb_model.specs.Faces.{is_of_face, is_of_side}
+use Rattle.sb_model.specs.Surfaces.Faces.{Surface, surface_of, side_of, side_over, edge_numbered, bottom_of, top_of}
+use Rattle.sb_model.specs.Surfaces.Faces.{is_of_face, is_of_side}
 use Rattle.sb_model.specs.Passages.{ray_from}
-use Rattle.sb_model.specs.PlainPoints.{is_plain, is_off_cuts, is_off_side_cuts, is_off_level_cuts}
-use Rattle.sb_model.specs.PlainPoints.{is_on_plan_edge, is_at_height, is_at_ground}
+use Rattle.sb_model.specs.Surfaces.PlainPoints.{is_plain, is_off_cuts, is_off_side_cuts, is_off_level_cuts}
+use Rattle.sb_model.specs.Surfaces.PlainPoints.{is_on_plan_edge, is_at_height, is_at_ground}
 use Rattle.sb_model.specs.PlanEdges.{plan_edges, is_abscissa}
 use Rattle.sb_model.specs.Solids.{is_between_heights}
 use Rattle.sb_model.specs.Walks.{IsWalk}
 use Rattle.theory_models.proofs.EdgesOfProducts.{plan_of_solid}
 use Rattle.theory_parity.specs.Below.{IsWay}
 use Rattle.theory_gaps.proofs.OneWalkEach.{plain_is_read, proper_there, not_true, starts_up, starts_down}
-use Rattle.theory_gaps.proofs.PointsOnTheRay.{frame_of, abscissa}
-use Rattle.theory_gaps.proofs.RaysOfFaces.{normal_of, normal_is, normal_is_some, side_starts}
-use Rattle.theory_gaps.proofs.RaysOfFaces.{side_has_no_abscissa}
+use Rattle.theory_gaps.proofs.Rays.PointsOnTheRay.{frame_of, abscissa}
+use Rattle.theory_gaps.proofs.Rays.RaysOfFaces.{normal_of, normal_is, normal_is_some, side_starts}
+use Rattle.theory_gaps.proofs.Rays.RaysOfFaces.{side_has_no_abscissa}
 use Rattle.theory_gaps.proofs.RowsThatRise.{passed_of, row_of, is_row, below_of, are_below}
 use Rattle.theory_mirrors.specs.Laws.{HaveNoOverlap, HasWayBack, HasReversedWalks, far_point}
 use Rattle.theory_mirrors.proofs.ArrivalsOnSides.{sees_from_side}
-use Rattle.theory_mirrors.proofs.SpacesOnUprightRays.{sees_from_top, sees_from_bottom}
+use Rattle.theory_mirrors.proofs.RaysOfFaces.SpacesOnUprightRays.{sees_from_top, sees_from_bottom}
 use Rattle.theory_mirrors.proofs.TheLaw.{read_from, has_way_back}
-use Rattle.theory_mirrors.proofs.WaysFromFaces.{SeesFromFace}
+use Rattle.theory_mirrors.proofs.RaysOfFaces.WaysFromFaces.{SeesFromFace}
 use Rattle.theory_sight.specs.Crossings.{StartsAt}
 
 level_is_way : IsWay (arrow (pos 1) (pos 0))

@@ -17,13 +17,13 @@ use Rattle.sb_fraction.specs.Edges.{Edge}
 use Rattle.sb_fraction.specs.Plane.{is_forward, longest_step}
 use Rattle.sb_fraction.specs.Spots.{Spot, Vector, vector, inner, opposite, along, reading}
 use Rattle.theory_plans.specs.LoopEdges.{edges_of}
-use Rattle.theory_plans.proofs.EdgesOfPlans.{is_proper_edge, plan_edges_are_proper}
-use Rattle.theory_plans.proofs.StepsOfEdges.{direction_is, direction_is_level, direction_along}
-use Rattle.theory_plans.proofs.StepsOfEdges.{direction_against}
-use Rattle.sb_model.specs.declared.face.FaceKind.{FaceKind}
-use Rattle.sb_model.specs.declared.face.FaceKind.TheVariants as kind
+use Rattle.theory_plans.proofs.Edges.EdgesOfPlans.{is_proper_edge, plan_edges_are_proper}
+use Rattle.theory_plans.proofs.Edges.StepsOfEdges.{direction_is, direction_is_level, direction_along}
+use Rattle.theory_plans.proofs.Edges.StepsOfEdges.{direction_against}
+use Rattle.sb_model.specs.declared.faces.face.FaceKind.{FaceKind}
+use Rattle.sb_model.specs.declared.faces.face.FaceKind.TheVariants as kind
 use Rattle.sb_model.specs.declared.products.Space.{Space}
-use Rattle.sb_model.specs.Faces.{Surface, surface_of, side_of, side_over, edge_numbered, bottom_of, top_of}
+use Rattle.sb_model.specs.Surfaces.Faces.{Surface, surface_of, side_of, side_over, edge_numbered, bottom_of, top_of}
 use Rattle.theory_models.proofs.EdgesOfProducts.{plan_of_solid}
 use Rattle.theory_gaps.proofs.OneWalkEach.{proper_there}
 use Rattle.theory_mirrors.specs.Laws.{HasPlace, HaveSamePlaces}

@@ -5,9 +5,9 @@ use Rattle.std.proofs.lemmas.Int.{ints, unsigned_abs-mul}
 use Rattle.std.proofs.lemmas.Bool.{eqb-true}
 use Rattle.std.specs.Int.{◌∣◌}
 use Rattle.theory_numbers.specs.Divisors.{are_coprime, greatest_divisor}
-use Rattle.theory_numbers.proofs.GreatestDivisor.{greatest_divisor_is}
+use Rattle.theory_numbers.proofs.Fractions.GreatestDivisor.{greatest_divisor_is}
 use Rattle.theory_numbers.proofs.Products.{weak_square, zero_product}
-use Rattle.theory_numbers.proofs.Reduced.{Coprime, same_pair}
+use Rattle.theory_numbers.proofs.Fractions.Reduced.{Coprime, same_pair}
 use Rattle.theory_numbers.proofs.Ring.{mul_comm, neg-mul, zero-mul}
 
 coprime_from : (a b : ℕ) → are_coprime a b ≡ true → Coprime a b

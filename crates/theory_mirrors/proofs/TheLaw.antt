@@ -13,34 +13,34 @@ use Rattle.theory_cuttings.specs.Changes.{break_at, label_after, breaks_after}
 use Rattle.theory_cuttings.specs.Passages.{ray_start}
 use Rattle.theory_cuttings.proofs.Ends.{IsBetween, below_two_ends}
 use Rattle.sb_fraction.specs.Spots.{Spot, IsSpot, Vector, inner, opposite, along, times_w}
-use Rattle.sb_model.specs.declared.label.Label.{Label}
-use Rattle.sb_model.specs.declared.label.Label.TheVariants as label
+use Rattle.sb_model.specs.declared.labels.label.Label.{Label}
+use Rattle.sb_model.specs.declared.labels.label.Label.TheVariants as label
 use Rattle.sb_model.specs.declared.products.Space.{Space}
 use Rattle.sb_model.specs.declared.walk.End.TheVariants as end
 use Rattle.sb_model.specs.declared.walk.Walk.{Walk}
 use Rattle.sb_model.specs.Building.{Building, is_building}
-use Rattle.sb_model.specs.Faces.{Surface}
+use Rattle.sb_model.specs.Surfaces.Faces.{Surface}
 use Rattle.sb_model.specs.Passages.{Ray, ray_from, at_depth, ArePassages}
 use Rattle.sb_model.specs.Walks.{course, course_of, is_square, IsWalkOf}
-use Rattle.sb_model.specs.PlainPoints.{is_plain}
+use Rattle.sb_model.specs.Surfaces.PlainPoints.{is_plain}
 use Rattle.theory_models.proofs.RaysAlike.{along_is_spot}
 use Rattle.theory_sight.specs.Coarse.{coarse}
 use Rattle.theory_sight.specs.Reading.{FarEnd, Stretch, stretch, Crossing, end_position, there, back, read}
 use Rattle.theory_sight.specs.Reading.{AreStretches, all_items}
-use Rattle.theory_sight.proofs.CrossingItems.{IsSeen}
-use Rattle.theory_sight.proofs.LayeredItems.{reading_at_depth}
+use Rattle.theory_sight.proofs.Crossings.CrossingItems.{IsSeen}
+use Rattle.theory_sight.proofs.Crossings.LayeredItems.{reading_at_depth}
 use Rattle.theory_sight.proofs.ReadBack.{there_and_back}
 use Rattle.theory_sight.proofs.WalkIsRead.{walk_is_read}
-use Rattle.theory_gaps.proofs.RaysWithBorders.{HasColumn}
+use Rattle.theory_gaps.proofs.Rays.RaysWithBorders.{HasColumn}
 use Rattle.theory_gaps.proofs.OneWalkEach.{IsRead, plain_is_read}
 use Rattle.theory_mirrors.specs.Laws.{HaveNoOverlap, HasWayBack, walk_back}
 use Rattle.theory_mirrors.proofs.SeenFromBehind.{back_from, cross-back, back-back, back-whole, ray_there}
 use Rattle.theory_mirrors.proofs.SeenFromBehind.{ray_back, label_back}
-use Rattle.theory_mirrors.proofs.SpacesAlongARay.{SeesSpaces, LabelBefore, label_before_start}
+use Rattle.theory_mirrors.proofs.RaysOfFaces.SpacesAlongARay.{SeesSpaces, LabelBefore, label_before_start}
 use Rattle.theory_mirrors.proofs.WalkedBack.{reduced_from, stretches_from, IsBackFrom, over_all}
 use Rattle.theory_mirrors.proofs.WalksToSpaces.{PassesTo, passes_to_space}
-use Rattle.theory_mirrors.proofs.WaysFromFaces.{ArrivesAt, SeesFromFace, IsAhead, ahead, first_label}
-use Rattle.theory_mirrors.proofs.WaysFromFaces.{stretches_are_coarse, begins_on_the_way}
+use Rattle.theory_mirrors.proofs.RaysOfFaces.WaysFromFaces.{ArrivesAt, SeesFromFace, IsAhead, ahead, first_label}
+use Rattle.theory_mirrors.proofs.RaysOfFaces.WaysFromFaces.{stretches_are_coarse, begins_on_the_way}
 use Rattle.theory_sight.specs.Crossings.{StartsAt, label_along}
 
 -- ---- a ray from a known position

@@ -10,7 +10,7 @@ use Rattle.std.proofs.lemmas.Option.{none-some}
 use Rattle.theory_lists.specs.Members.{Stands}
 use Rattle.theory_numbers.specs.Arrows.{Arrow, cross}
 use Rattle.theory_numbers.specs.Rationals.{IsRational, IsBelow, IsAtMost, is_below, rational}
-use Rattle.theory_numbers.proofs.Reduced.{whole_is_reduced}
+use Rattle.theory_numbers.proofs.Fractions.Reduced.{whole_is_reduced}
 use Rattle.theory_numbers.proofs.Shapes.{var, num, plus, minus, times, negated, equal, cross_by, cross_eq}
 use Rattle.theory_numbers.proofs.Signs.{less_or_not}
 use Rattle.theory_cuttings.specs.Cuttings.{Break, HasLabel, IsReducedCutting, AreDifferent}
@@ -19,8 +19,8 @@ use Rattle.theory_cuttings.proofs.CutTwice.{above_two_ends}
 use Rattle.theory_cuttings.proofs.Ends.{IsBetween, below_two_ends}
 use Rattle.theory_cuttings.proofs.Parts.{cut_front_is}
 use Rattle.sb_fraction.specs.Spots.{Spot, Vector, inner}
-use Rattle.sb_model.specs.declared.label.Label.{Label}
-use Rattle.sb_model.specs.declared.label.Label.TheVariants as label
+use Rattle.sb_model.specs.declared.labels.label.Label.{Label}
+use Rattle.sb_model.specs.declared.labels.label.Label.TheVariants as label
 use Rattle.sb_model.specs.declared.products.Element.{Element}
 use Rattle.sb_model.specs.Building.{Building}
 use Rattle.sb_model.specs.Labels.{low_along, high_along}
@@ -30,14 +30,14 @@ use Rattle.theory_sight.specs.Coarse.{coarse}
 use Rattle.theory_sight.specs.Reading.{square, Stretch, stretch}
 use Rattle.theory_sight.specs.Reading.{AreStretches, Crossing, end_position, AllPassed, there, back}
 use Rattle.theory_sight.specs.Reading.{is_passed_over}
-use Rattle.theory_sight.proofs.BandsOfPrisms.{low_end_of, high_end_of}
-use Rattle.theory_sight.proofs.CrossingItems.{IsSeen, element_layering}
-use Rattle.theory_sight.proofs.ElementAt.{element_is_at, coarse_element}
+use Rattle.theory_sight.proofs.Crossings.BandsOfPrisms.{low_end_of, high_end_of}
+use Rattle.theory_sight.proofs.Crossings.CrossingItems.{IsSeen, element_layering}
+use Rattle.theory_sight.proofs.Crossings.ElementAt.{element_is_at, coarse_element}
 use Rattle.theory_sight.proofs.ItemsReversed.{LiesWithin}
 use Rattle.theory_sight.proofs.ReadBack.{AllWithin}
 use Rattle.theory_mirrors.proofs.SeenFromBehind.{back_from, cross-back, back-whole, ray_there, ray_back}
 use Rattle.theory_mirrors.proofs.SeenFromBehind.{label_back, square_back}
-use Rattle.theory_numbers.proofs.Arrows.{cross-turn}
+use Rattle.theory_numbers.proofs.Vectors.Arrows.{cross-turn}
 use Rattle.theory_sight.specs.Crossings.{label_along}
 
 -- ---- a column from a number on

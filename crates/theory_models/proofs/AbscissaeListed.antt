@@ -12,7 +12,7 @@ use Rattle.std.proofs.lemmas.Bool.Decides.{Decides-int_eq}
 use Rattle.theory_lists.proofs.Blocks.{all-append}
 use Rattle.theory_numbers.specs.Arrows.{Arrow, arrow, cross}
 use Rattle.theory_numbers.specs.Rationals.{rational, IsRational, IsSame}
-use Rattle.theory_numbers.proofs.Arrows.{cross-turn}
+use Rattle.theory_numbers.proofs.Vectors.Arrows.{cross-turn}
 use Rattle.theory_numbers.proofs.Signs.{test_less, test_not_less}
 use Rattle.sb_fraction.specs.Spots.{Spot, spot, Vector, reading}
 use Rattle.sb_fraction.specs.Edges.{Edge, span_of}

@@ -12,7 +12,7 @@ use Rattle.theory_lists.proofs.Parity.{is_odd_number-append, is_odd_number-map}
 use Rattle.theory_lists.proofs.Parity.{is_odd_number-same, differ-false}
 use Rattle.sb_fraction.specs.Edges.{Edge}
 use Rattle.theory_plans.specs.LoopEdges.{edges_of}
-use Rattle.theory_plans.proofs.EdgesOfPlans.{is_proper_edge, plan_edges_are_proper}
+use Rattle.theory_plans.proofs.Edges.EdgesOfPlans.{is_proper_edge, plan_edges_are_proper}
 use Rattle.theory_plans.specs.Plans.{is_plan}
 use Rattle.sb_model.specs.Solids.{Upright, is_upright, is_height}
 use Rattle.sb_model.specs.Building.{Building, is_building}

@@ -5,7 +5,7 @@ use Rattle.theory_numbers.specs.Arrows.{cross, dot}
 use Rattle.theory_numbers.specs.Rationals.{rational}
 use Rattle.sb_fraction.specs.Spots.{Spot, spot, along, vector}
 use Rattle.sb_fraction.specs.Directions.{axis_x, axis_y}
-use Rattle.sb_model.specs.declared.label.Label.TheVariants.{Space, Element, Earth, Void}
+use Rattle.sb_model.specs.declared.labels.label.Label.TheVariants.{Space, Element, Earth, Void}
 use Rattle.sb_model.specs.declared.products.Filling.{Filling}
 use Rattle.sb_model.specs.declared.products.FillKind.TheVariants.{Window}
 use Rattle.sb_model.specs.declared.products.Opening.{Opening}

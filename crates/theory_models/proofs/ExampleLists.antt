@@ -12,21 +12,21 @@ use Rattle.theory_plane.specs.Sides.{clearance}
 use Rattle.theory_plane.specs.Points.{face_point}
 use Rattle.theory_plane.specs.Regions.{is_inside}
 use Rattle.sb_model.specs.declared.boundary.Boundary.{Boundary}
-use Rattle.sb_model.specs.declared.face.FaceKind.{FaceKind}
-use Rattle.sb_model.specs.declared.face.FaceKind.TheVariants as kind
-use Rattle.sb_model.specs.declared.face.Side.{Side}
-use Rattle.sb_model.specs.declared.face.Side.TheVariants.{OnLine, Height}
-use Rattle.sb_model.specs.declared.patch.Patch.{Patch}
+use Rattle.sb_model.specs.declared.faces.face.FaceKind.{FaceKind}
+use Rattle.sb_model.specs.declared.faces.face.FaceKind.TheVariants as kind
+use Rattle.sb_model.specs.declared.faces.face.Side.{Side}
+use Rattle.sb_model.specs.declared.faces.face.Side.TheVariants.{OnLine, Height}
+use Rattle.sb_model.specs.declared.patches.patch.Patch.{Patch}
 use Rattle.sb_model.specs.declared.walk.End.{End}
 use Rattle.sb_model.specs.declared.walk.End.TheVariants as end
 use Rattle.sb_model.specs.declared.walk.Item.{Item}
 use Rattle.sb_fraction.specs.Spots.{spot}
-use Rattle.sb_model.specs.Sides.{is_patch}
+use Rattle.sb_model.specs.Surfaces.Sides.{is_patch}
 use Rattle.sb_model.specs.Building.{Building}
-use Rattle.sb_model.specs.Faces.{bottom_of}
+use Rattle.sb_model.specs.Surfaces.Faces.{bottom_of}
 use Rattle.theory_numbers.specs.Fractions.{whole}
 use Rattle.sb_model.specs.Walks.{item}
-use Rattle.sb_model.specs.Patches.{region_of}
+use Rattle.sb_model.specs.Surfaces.Patches.{region_of}
 use Rattle.sb_model.specs.Boundaries.Covers.{Covers}
 use Rattle.sb_model.specs.Boundaries.Trimmed.{AreTopsTrimmed}
 use Rattle.sb_model.specs.Boundaries.Mirrors.{Mirrors}

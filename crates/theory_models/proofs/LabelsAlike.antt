@@ -10,7 +10,7 @@ use Rattle.std.proofs.lemmas.Int.{ints}
 use Rattle.std.proofs.Math.Path.{fun_ext}
 use Rattle.theory_numbers.specs.Arrows.{Arrow, cross, scale}
 use Rattle.theory_numbers.specs.Rationals.{rational}
-use Rattle.theory_numbers.proofs.Arrows.{scale-cross}
+use Rattle.theory_numbers.proofs.Vectors.Arrows.{scale-cross}
 use Rattle.theory_numbers.proofs.Products.{scale_at_most, unscale_at_most}
 use Rattle.theory_numbers.proofs.Shapes.{var, plus, minus, times, equal}
 use Rattle.theory_numbers.proofs.Signs.{same_tests, test_at_most, at_most_from}
@@ -23,9 +23,9 @@ use Rattle.theory_numbers.proofs.Multiples.{order_of_multiples, zero_of_multiple
 use Rattle.theory_numbers.proofs.Multiples.{equality_of_multiples}
 use Rattle.theory_plans.proofs.PointsAlike.{same_of_alike, on_sees_no_factor}
 use Rattle.theory_plans.proofs.PointsAlike.{inside_sees_no_factor}
-use Rattle.sb_model.specs.declared.face.FaceKind.{FaceKind}
-use Rattle.sb_model.specs.declared.face.FaceKind.TheVariants as kind
-use Rattle.sb_model.specs.declared.label.Label.TheVariants as label
+use Rattle.sb_model.specs.declared.faces.face.FaceKind.{FaceKind}
+use Rattle.sb_model.specs.declared.faces.face.FaceKind.TheVariants as kind
+use Rattle.sb_model.specs.declared.labels.label.Label.TheVariants as label
 use Rattle.sb_model.specs.declared.layers.Layer.{Layer}
 use Rattle.sb_model.specs.declared.layers.Layering.{Layering}
 use Rattle.sb_model.specs.declared.layers.Layering.TheVariants.{Plain, Single, Layered}
@@ -37,9 +37,9 @@ use Rattle.sb_model.specs.Labels.{label_at, space_at, element_at, open_label, el
 use Rattle.sb_model.specs.Labels.{space_label, layer_at, layer_from, lowest, axis_vector, low_along}
 use Rattle.sb_model.specs.Labels.{high_along, total_of}
 use Rattle.sb_model.specs.PlanEdges.{PlanEdge, Product, plan_edges, products_of, is_abscissa}
-use Rattle.sb_model.specs.Faces.{edge_numbered, is_of_face, is_of_side}
-use Rattle.sb_model.specs.PlainPoints.{is_on_plan_edge, is_at_height, is_plain}
-use Rattle.sb_model.specs.PlainPoints.{is_off_level_cuts, is_off_side_cuts, is_off_cuts}
+use Rattle.sb_model.specs.Surfaces.Faces.{edge_numbered, is_of_face, is_of_side}
+use Rattle.sb_model.specs.Surfaces.PlainPoints.{is_on_plan_edge, is_at_height, is_plain}
+use Rattle.sb_model.specs.Surfaces.PlainPoints.{is_off_level_cuts, is_off_side_cuts, is_off_cuts}
 
 -- ---- inside a prism
 

@@ -5,7 +5,7 @@ use Rattle.std.proofs.lemmas.Int.{ints}
 use Rattle.theory_numbers.specs.Arrows.{Arrow, cross}
 use Rattle.theory_numbers.specs.Rationals.{IsRational, IsBelow, rational}
 use Rattle.theory_numbers.proofs.Products.{positive_product}
-use Rattle.theory_numbers.proofs.Reduced.{whole_is_reduced}
+use Rattle.theory_numbers.proofs.Fractions.Reduced.{whole_is_reduced}
 use Rattle.theory_numbers.proofs.Ring.{mul_comm}
 use Rattle.theory_cuttings.specs.Ends.{IsEnd}
 use Rattle.theory_cuttings.specs.Cuttings.{Break, IsFraction}
@@ -13,14 +13,14 @@ use Rattle.theory_cuttings.specs.Changes.{break_at}
 use Rattle.theory_cuttings.specs.Passages.{ray_start}
 use Rattle.theory_cuttings.specs.Passages as cut
 use Rattle.theory_cuttings.proofs.OneCutting.{has_one_cutting, same_break}
-use Rattle.sb_model.specs.declared.label.Label.{Label}
-use Rattle.sb_model.specs.declared.label.Label.TheVariants as label
+use Rattle.sb_model.specs.declared.labels.label.Label.{Label}
+use Rattle.sb_model.specs.declared.labels.label.Label.TheVariants as label
 use Rattle.sb_model.specs.declared.walk.End.{End}
 use Rattle.sb_model.specs.declared.walk.End.TheVariants as end
 use Rattle.sb_model.specs.declared.walk.Walk.{Walk}
 use Rattle.sb_fraction.specs.Spots.{Spot, along}
 use Rattle.sb_model.specs.Building.{Building}
-use Rattle.sb_model.specs.Faces.{Surface}
+use Rattle.sb_model.specs.Surfaces.Faces.{Surface}
 use Rattle.sb_model.specs.Labels.{label_at}
 use Rattle.sb_model.specs.Passages.{Ray, ray_from, at_depth, ArePassages, passages_of, pieces_of}
 use Rattle.sb_model.specs.Passages.{before_pieces, Piece, piece, passage}

@@ -9,10 +9,10 @@ use Rattle.theory_numbers.proofs.Ring.{mul_comm}
 use Rattle.theory_plane.specs.Sides.{level}
 use Rattle.theory_plane.specs.Points.{face_point, is_above_side, is_under_side}
 use Rattle.theory_plane.specs.Regions.{is_inside}
-use Rattle.sb_model.specs.declared.patch.Patch.{Patch}
+use Rattle.sb_model.specs.declared.patches.patch.Patch.{Patch}
 use Rattle.theory_numbers.specs.Fractions.{whole}
-use Rattle.sb_model.specs.Sides.{line_of}
-use Rattle.sb_model.specs.Patches.{region_of}
+use Rattle.sb_model.specs.Surfaces.Sides.{line_of}
+use Rattle.sb_model.specs.Surfaces.Patches.{region_of}
 
 -- low < u/w < high and lower < v/w < upper
 abbrev pub is_in_window : ℤ → ℤ → ℤ → ℤ → ℤ → ℤ → ℤ → Bool

@@ -11,12 +11,12 @@ use Rattle.theory_numbers.specs.Rationals.{zero_of, value_at, form_of}
 use Rattle.theory_numbers.specs.Intervals.{changes_sign, clear_end, clear_start, another}
 use Rattle.theory_numbers.specs.Reduced.{IsReduced}
 use Rattle.theory_numbers.proofs.Shapes.{var, num, plus, times, equal}
-use Rattle.theory_numbers.proofs.ThreeTerms.{three_terms, three_terms_linear, cycle, cycle_x}
-use Rattle.theory_numbers.proofs.ThreeTerms.{cycle_y, frame_cross, frame_dot}
+use Rattle.theory_numbers.proofs.Vectors.ThreeTerms.{three_terms, three_terms_linear, cycle, cycle_x}
+use Rattle.theory_numbers.proofs.Vectors.ThreeTerms.{cycle_y, frame_cross, frame_dot}
 use Rattle.theory_numbers.proofs.Products.{scale_less, positive_factor}
-use Rattle.theory_numbers.proofs.Rationals.{between, one_zero}
-use Rattle.theory_numbers.proofs.Avoid.{IsAnother, another_is}
-use Rattle.theory_numbers.proofs.Reduced.{reduced_unique, whole_is_reduced}
+use Rattle.theory_numbers.proofs.Fractions.Rationals.{between, one_zero}
+use Rattle.theory_numbers.proofs.Fractions.Avoid.{IsAnother, another_is}
+use Rattle.theory_numbers.proofs.Fractions.Reduced.{reduced_unique, whole_is_reduced}
 use Rattle.theory_numbers.proofs.SignTables.{hit_of}
 
 -- ---- identities

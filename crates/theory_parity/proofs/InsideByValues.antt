@@ -19,8 +19,8 @@ use Rattle.theory_lists.proofs.Parity.{odd_is_any, differ-opposite, opposite_fro
 use Rattle.theory_numbers.specs.Tests.{is_positive}
 use Rattle.theory_numbers.specs.Arrows.{Arrow, cross, dot, scale}
 use Rattle.theory_numbers.specs.Rationals.{IsRational, IsBelow, rational}
-use Rattle.theory_numbers.proofs.Arrows.{scale-cross}
-use Rattle.theory_numbers.proofs.Lengths.{long_if_crossed, opposed, parted}
+use Rattle.theory_numbers.proofs.Vectors.Arrows.{scale-cross}
+use Rattle.theory_numbers.proofs.Vectors.Lengths.{long_if_crossed, opposed, parted}
 use Rattle.theory_numbers.proofs.Products.{zero_of_positive}
 use Rattle.theory_numbers.proofs.Signs.{sign_cases, same_tests, test_less, test_not_less, test_at_most}
 use Rattle.theory_numbers.proofs.Signs.{test_not_at_most, test_not_equal, at_most_from}
@@ -35,13 +35,13 @@ use Rattle.theory_plans.specs.Plans.{is_plan}
 use Rattle.theory_plans.specs.Rays.{is_left_of}
 use Rattle.theory_parity.specs.Below.{IsWay, down_from, is_below_at, spot_in, value_of}
 use Rattle.theory_parity.specs.Below.{is_lower_at, is_up_to_at, is_through, IsFree}
-use Rattle.theory_parity.proofs.InsideByBelow.{inside_by_below, beyond_by_turn, beyond_is_left}
+use Rattle.theory_parity.proofs.Rays.InsideByBelow.{inside_by_below, beyond_by_turn, beyond_is_left}
 use Rattle.theory_parity.proofs.OnLineOver.{on_line_over}
-use Rattle.theory_parity.proofs.BelowByValue.{below_by_value, spot_in_is, abscissa_of_spot, on_spot}
-use Rattle.theory_parity.proofs.BelowByValue.{reaches_past_spot}
-use Rattle.theory_parity.proofs.BelowFlips.{below_flips}
-use Rattle.theory_parity.proofs.NoEdgeInside.{IsNoEnd}
-use Rattle.theory_parity.proofs.OneEdgeThroughAPoint.{at_most_one_passes}
+use Rattle.theory_parity.proofs.Rays.BelowByValue.{below_by_value, spot_in_is, abscissa_of_spot, on_spot}
+use Rattle.theory_parity.proofs.Rays.BelowByValue.{reaches_past_spot}
+use Rattle.theory_parity.proofs.Rays.BelowFlips.{below_flips}
+use Rattle.theory_parity.proofs.Regions.NoEdgeInside.{IsNoEnd}
+use Rattle.theory_parity.proofs.Regions.OneEdgeThroughAPoint.{at_most_one_passes}
 
 -- ---- one edge
 

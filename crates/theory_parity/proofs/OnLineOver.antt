@@ -7,12 +7,12 @@ use Rattle.std.specs.Ordering.{int_eq}
 use Rattle.std.proofs.lemmas.Int.{ints}
 use Rattle.theory_numbers.specs.Tests.{is_positive}
 use Rattle.theory_numbers.specs.Arrows.{Arrow, arrow, cross, dot, opposite}
-use Rattle.theory_numbers.proofs.Arrows.{opposite-cross}
+use Rattle.theory_numbers.proofs.Vectors.Arrows.{opposite-cross}
 use Rattle.theory_numbers.proofs.Signs.{same_equal}
 use Rattle.theory_numbers.proofs.Products.{zero_of_positive}
 use Rattle.theory_numbers.proofs.Multiples.{equality_of_multiples}
 use Rattle.theory_numbers.proofs.Ring.{mul_assoc, mul-zero, neg-mul}
-use Rattle.theory_numbers.proofs.ThreeTerms.{frame_cross}
+use Rattle.theory_numbers.proofs.Vectors.ThreeTerms.{frame_cross}
 use Rattle.theory_plane.specs.Sides.{line}
 use Rattle.theory_plane.specs.Points.{is_on_side}
 use Rattle.sb_fraction.specs.declared.point.Point.{Point}
@@ -20,7 +20,7 @@ use Rattle.sb_fraction.specs.Spots.{Spot, IsSpot}
 use Rattle.sb_fraction.specs.Edges.{Edge, span_of, turn_at}
 use Rattle.sb_fraction.specs.Lines.{place, in_frame, span_along, line_over}
 use Rattle.theory_parity.specs.Below.{IsWay}
-use Rattle.theory_parity.proofs.InsideByBelow.{turn_by_span}
+use Rattle.theory_parity.proofs.Rays.InsideByBelow.{turn_by_span}
 
 -- on the line of the vector s through a, in the frame of d
 on_by_vector : (d s : Arrow) (a : Point) (p : Spot) → IsWay d

@@ -3,9 +3,9 @@ use Rattle.std.proofs.Common.{◌≡◌, sym, ◌∙◌, inl, inr, ◌⊎◌, ap
 use Rattle.std.specs.List.{AllByRecursion}
 use Rattle.theory_numbers.specs.Arrows.{Arrow}
 use Rattle.theory_numbers.specs.Rationals.{IsRational, IsBelow, IsAtMost, IsSame}
-use Rattle.theory_numbers.proofs.Rationals.{below_trans, below_irrefl, number_cases}
-use Rattle.theory_numbers.proofs.Rationals.{at_most_below_trans, below_at_most_trans}
-use Rattle.theory_numbers.proofs.Rationals.{at_most_from_below, below_clash, same_sym}
+use Rattle.theory_numbers.proofs.Fractions.Rationals.{below_trans, below_irrefl, number_cases}
+use Rattle.theory_numbers.proofs.Fractions.Rationals.{at_most_below_trans, below_at_most_trans}
+use Rattle.theory_numbers.proofs.Fractions.Rationals.{at_most_from_below, below_clash, same_sym}
 use Rattle.theory_plane.specs.Sides.{clearance_at}
 use Rattle.theory_plane.specs.Regions.{Region, IsRegion}
 use Rattle.theory_plane.proofs.Regions.{open_between}

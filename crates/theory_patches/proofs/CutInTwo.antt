@@ -7,7 +7,7 @@ use Rattle.std.proofs.lemmas.Bool.{and_parts, and_from}
 use Rattle.theory_numbers.specs.Arrows.{Arrow, cross, dot}
 use Rattle.theory_numbers.specs.Rationals.{IsBelow, IsSame, rational, is_below}
 use Rattle.theory_numbers.proofs.Signs.{test_less, less_from}
-use Rattle.theory_numbers.proofs.Rationals.{below_trans, number_cases, same_sym, same_from_at_most}
+use Rattle.theory_numbers.proofs.Fractions.Rationals.{below_trans, number_cases, same_sym, same_from_at_most}
 use Rattle.theory_plane.specs.Sides.{level, clearance}
 use Rattle.theory_plane.specs.Points.{FacePoint, IsFacePoint, abscissa_of, is_above_side}
 use Rattle.theory_plane.specs.Points.{is_under_side}

@@ -6,7 +6,7 @@ use Rattle.std.proofs.lemmas.Int.{ints}
 use Rattle.std.specs.List.{AllByRecursion}
 use Rattle.theory_numbers.specs.Arrows.{Arrow}
 use Rattle.theory_numbers.specs.Rationals.{IsRational, IsAtMost}
-use Rattle.theory_numbers.proofs.Avoid.{IsOther}
+use Rattle.theory_numbers.proofs.Fractions.Avoid.{IsOther}
 use Rattle.theory_plane.specs.Sides.{LineSide, value_on, clearance_at}
 use Rattle.theory_plane.specs.Regions.{Region, IsRegion, IsInner}
 use Rattle.theory_plane.proofs.Clearance.{value_on-IsRational, higher_is, at_least_is}

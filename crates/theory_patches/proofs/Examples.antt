@@ -8,7 +8,7 @@ use Rattle.theory_numbers.specs.Rationals.{IsRational, rational}
 use Rattle.std.proofs.lemmas.Bool.{and_parts}
 use Rattle.std.proofs.Common.{◌&&◌}
 use Rattle.theory_numbers.proofs.Signs.{at_most_from}
-use Rattle.theory_numbers.proofs.Reduced.{whole_is_reduced}
+use Rattle.theory_numbers.proofs.Fractions.Reduced.{whole_is_reduced}
 use Rattle.theory_plane.specs.Sides.{level, clearance, clearance_at}
 use Rattle.theory_plane.specs.Points.{face_point}
 use Rattle.theory_plane.specs.Regions.{is_region}

@@ -6,12 +6,12 @@ use Rattle.theory_numbers.specs.Arrows.{Arrow}
 use Rattle.theory_numbers.specs.Rationals.{IsRational, IsBelow, IsAtMost, IsSame, form_of}
 use Rattle.theory_numbers.specs.Rationals.{IsForm}
 use Rattle.theory_numbers.specs.Intervals.{AllKeep, clear_end, clear_start}
-use Rattle.theory_numbers.proofs.Arrows.{cross-self}
-use Rattle.theory_numbers.proofs.Rationals.{below_at_most_trans, at_most_below_trans, same_sym}
-use Rattle.theory_numbers.proofs.Rationals.{below_or_not}
-use Rattle.theory_numbers.proofs.Clear.{clear_to, clear_from}
-use Rattle.theory_numbers.proofs.Avoid.{IsOther, not_zero_where_kept, value-form_of}
-use Rattle.theory_numbers.proofs.Avoid.{form_of_is_form}
+use Rattle.theory_numbers.proofs.Vectors.Arrows.{cross-self}
+use Rattle.theory_numbers.proofs.Fractions.Rationals.{below_at_most_trans, at_most_below_trans, same_sym}
+use Rattle.theory_numbers.proofs.Fractions.Rationals.{below_or_not}
+use Rattle.theory_numbers.proofs.Fractions.Clear.{clear_to, clear_from}
+use Rattle.theory_numbers.proofs.Fractions.Avoid.{IsOther, not_zero_where_kept, value-form_of}
+use Rattle.theory_numbers.proofs.Fractions.Avoid.{form_of_is_form}
 use Rattle.theory_lists.specs.Members.{Stands}
 use Rattle.theory_lists.proofs.Members.{all_stands}
 

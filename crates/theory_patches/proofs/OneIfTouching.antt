@@ -11,9 +11,9 @@ use Rattle.theory_numbers.specs.Rationals.{IsRational, IsBelow, IsAtMost, IsSame
 use Rattle.theory_numbers.specs.Intervals.{another}
 use Rattle.theory_numbers.specs.Tests.{is_positive}
 use Rattle.theory_numbers.proofs.Signs.{test_less}
-use Rattle.theory_numbers.proofs.Rationals.{below_or_not, at_most_below_trans, below_at_most_trans}
-use Rattle.theory_numbers.proofs.Rationals.{at_most_refl, at_most_from_below}
-use Rattle.theory_numbers.proofs.Avoid.{another_is}
+use Rattle.theory_numbers.proofs.Fractions.Rationals.{below_or_not, at_most_below_trans, below_at_most_trans}
+use Rattle.theory_numbers.proofs.Fractions.Rationals.{at_most_refl, at_most_from_below}
+use Rattle.theory_numbers.proofs.Fractions.Avoid.{another_is}
 use Rattle.theory_plane.specs.Sides.{clearance_at, is_same_side}
 use Rattle.theory_plane.specs.Regions.{Region, IsRegion, is_seam, have_same_sides}
 use Rattle.theory_plane.proofs.SameSide.{same_side_decides}

@@ -5,10 +5,10 @@ use Rattle.std.specs.List.{AllByRecursion}
 use Rattle.theory_numbers.specs.Arrows.{Arrow}
 use Rattle.theory_numbers.specs.Rationals.{IsRational, IsBelow, IsAtMost, mediant}
 use Rattle.theory_numbers.specs.Intervals.{another}
-use Rattle.theory_numbers.proofs.Rationals.{below_trans, below_irrefl}
-use Rattle.theory_numbers.proofs.Rationals.{at_most_below_trans, below_at_most_trans}
-use Rattle.theory_numbers.proofs.Rationals.{at_most_from_below, mediant-IsRational, mediant_between}
-use Rattle.theory_numbers.proofs.Avoid.{IsOther, another_is}
+use Rattle.theory_numbers.proofs.Fractions.Rationals.{below_trans, below_irrefl}
+use Rattle.theory_numbers.proofs.Fractions.Rationals.{at_most_below_trans, below_at_most_trans}
+use Rattle.theory_numbers.proofs.Fractions.Rationals.{at_most_from_below, mediant-IsRational, mediant_between}
+use Rattle.theory_numbers.proofs.Fractions.Avoid.{IsOther, another_is}
 use Rattle.theory_lists.specs.Members.{Stands}
 use Rattle.theory_lists.proofs.Members.{all_stands}
 use Rattle.theory_patches.proofs.NoneBetween.{IsFreeBefore, IsFreeAfter, free_before}

@@ -4,9 +4,9 @@ use Rattle.std.proofs.Common.{◌≡◌, sym, ◌∙◌, subst, List, IsTrue}
 use Rattle.std.proofs.Common.{IsPermutation}
 use Rattle.theory_numbers.specs.Arrows.{Arrow}
 use Rattle.theory_numbers.specs.Rationals.{IsAtMost}
-use Rattle.theory_numbers.proofs.Reduced.{fraction_unique}
-use Rattle.theory_numbers.proofs.Rationals.{same_from_at_most, at_most_refl, at_most_trans}
-use Rattle.theory_numbers.proofs.Rationals.{at_most_below_trans, below_at_most_trans}
+use Rattle.theory_numbers.proofs.Fractions.Reduced.{fraction_unique}
+use Rattle.theory_numbers.proofs.Fractions.Rationals.{same_from_at_most, at_most_refl, at_most_trans}
+use Rattle.theory_numbers.proofs.Fractions.Rationals.{at_most_below_trans, below_at_most_trans}
 use Rattle.theory_plane.specs.Sides.{LineSide}
 use Rattle.theory_plane.specs.Points.{FacePoint}
 use Rattle.theory_plane.specs.Regions.{Region}

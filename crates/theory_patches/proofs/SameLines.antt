@@ -8,8 +8,8 @@ use Rattle.std.specs.List.{AllByRecursion}
 use Rattle.theory_numbers.specs.Arrows.{Arrow, arrow}
 use Rattle.theory_numbers.specs.Rationals.{IsRational, IsBelow, IsAtMost, IsForm, form_of}
 use Rattle.theory_numbers.specs.Intervals.{avoiding}
-use Rattle.theory_numbers.proofs.Rationals.{at_most_below_trans, below_at_most_trans}
-use Rattle.theory_numbers.proofs.Avoid.{IsOffZero, avoiding_is, value-form_of, form_of_is_form}
+use Rattle.theory_numbers.proofs.Fractions.Rationals.{at_most_below_trans, below_at_most_trans}
+use Rattle.theory_numbers.proofs.Fractions.Avoid.{IsOffZero, avoiding_is, value-form_of, form_of_is_form}
 use Rattle.theory_plane.specs.Sides.{LineSide, IsReducedSide, clearance, clearance_at, is_same_side}
 use Rattle.theory_plane.proofs.SameSide.{same_side_decides, other_side_is_form}
 use Rattle.theory_lists.specs.Members.{Stands}

@@ -6,7 +6,7 @@ use Rattle.std.proofs.lemmas.Bool.{and_from}
 use Rattle.theory_numbers.specs.Arrows.{Arrow, cross}
 use Rattle.theory_numbers.specs.Rationals.{IsRational, IsBelow, is_at_most}
 use Rattle.theory_numbers.proofs.Signs.{test_at_most}
-use Rattle.theory_numbers.proofs.Rationals.{at_most_from_below}
+use Rattle.theory_numbers.proofs.Fractions.Rationals.{at_most_from_below}
 use Rattle.theory_plane.specs.Sides.{clearance_at}
 use Rattle.theory_plane.specs.Regions.{Region, IsRegion, closures_meet, is_reached, reaches_under}
 use Rattle.theory_plane.proofs.Closures.{common_from_test}

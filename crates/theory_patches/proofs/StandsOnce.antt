@@ -3,8 +3,8 @@ use Rattle.std.proofs.Common.{◌≡◌, ap, subst, sym, arith, pos, ◌≤ℤ�
 use Rattle.std.proofs.lemmas.Int.{ints}
 use Rattle.std.specs.List.{AllByRecursion}
 use Rattle.theory_numbers.specs.Intervals.{another}
-use Rattle.theory_numbers.proofs.Rationals.{at_most_from_below, at_most_refl}
-use Rattle.theory_numbers.proofs.Avoid.{another_is}
+use Rattle.theory_numbers.proofs.Fractions.Rationals.{at_most_from_below, at_most_refl}
+use Rattle.theory_numbers.proofs.Fractions.Avoid.{another_is}
 use Rattle.theory_plane.specs.Sides.{value_on, clearance_at}
 use Rattle.theory_plane.specs.Regions.{Region, IsRegion, IsInClosure}
 use Rattle.theory_plane.proofs.Clearance.{value_on-IsRational, at_least_is}

@@ -9,7 +9,7 @@ use Rattle.theory_numbers.proofs.Shapes.{var, num, plus, minus, negated, times, 
 use Rattle.theory_numbers.proofs.Shapes.{dot_by}
 use Rattle.theory_numbers.proofs.Products.{positive_product, weak_product, positive_factor}
 use Rattle.theory_numbers.proofs.Products.{weak_factor, zero_of_positive}
-use Rattle.theory_numbers.proofs.Arrows.{same_arrow}
+use Rattle.theory_numbers.proofs.Vectors.Arrows.{same_arrow}
 use Rattle.theory_plane.specs.Sides.{LineSide, level, IsLineSide, value_on, clearance}
 use Rattle.theory_plane.specs.Sides.{clearance_at}
 

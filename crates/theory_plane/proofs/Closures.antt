@@ -7,7 +7,7 @@ use Rattle.std.proofs.lemmas.Bool.{and_parts, and_from}
 use Rattle.theory_numbers.specs.Arrows.{Arrow, cross}
 use Rattle.theory_numbers.specs.Rationals.{IsRational, IsAtMost, is_at_most}
 use Rattle.theory_numbers.proofs.Signs.{test_at_most, at_most_from}
-use Rattle.theory_numbers.proofs.Rationals.{at_most_trans, at_most_refl}
+use Rattle.theory_numbers.proofs.Fractions.Rationals.{at_most_trans, at_most_refl}
 use Rattle.theory_plane.specs.Sides.{LineSide, IsLineSide, value_on, clearance_at}
 use Rattle.theory_plane.specs.Regions.{Region, IsRegion, IsCommon, closures_meet}
 use Rattle.theory_plane.specs.Regions.{is_reached, reaches_under}

@@ -7,12 +7,12 @@ use Rattle.theory_numbers.specs.Arrows.{Arrow, cross, dot}
 use Rattle.theory_numbers.specs.Rationals.{IsRational, IsBelow, IsAtMost, value_at, zero_of}
 use Rattle.theory_numbers.specs.Rationals.{IsForm, IsZeroForm}
 use Rattle.theory_numbers.proofs.Signs.{sign_cases}
-use Rattle.theory_numbers.proofs.Rationals.{at_most_refl, at_most_from_below}
+use Rattle.theory_numbers.proofs.Fractions.Rationals.{at_most_refl, at_most_from_below}
 use Rattle.theory_numbers.proofs.Products.{positive_product, positive_factor}
 use Rattle.theory_numbers.proofs.Products.{zero_of_positive}
 use Rattle.theory_numbers.proofs.Ring.{mul-zero, zero-mul, mul_comm}
 use Rattle.theory_numbers.proofs.Shapes.{var, plus, times, equal, cross_is, dot_is}
-use Rattle.theory_numbers.proofs.Clear.{falling_zero}
+use Rattle.theory_numbers.proofs.Fractions.Clear.{falling_zero}
 use Rattle.theory_plane.specs.Sides.{LineSide, clearance, clearance_at}
 use Rattle.theory_plane.specs.Leads.{leads, order_on, order_past, MeetsNowhere}
 use Rattle.theory_plane.proofs.Clearance.{clearance-turn}

@@ -11,7 +11,7 @@ use Rattle.theory_numbers.proofs.Ring.{mul-zero}
 use Rattle.theory_numbers.proofs.Signs.{test_less, less_from}
 use Rattle.theory_numbers.proofs.Products.{positive_product, positive_factor, zero_of_positive}
 use Rattle.theory_numbers.proofs.Products.{negative_product, negative_factor}
-use Rattle.theory_numbers.proofs.Arrows.{cross-turn}
+use Rattle.theory_numbers.proofs.Vectors.Arrows.{cross-turn}
 use Rattle.theory_plane.specs.Sides.{LineSide, value_on}
 use Rattle.theory_plane.specs.Points.{FacePoint, IsFacePoint, point_at, abscissa_of, ordinate_of}
 use Rattle.theory_plane.specs.Points.{rise, is_above_side, is_under_side, is_on_side}

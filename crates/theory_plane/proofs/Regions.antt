@@ -12,10 +12,10 @@ use Rattle.theory_numbers.specs.Rationals.{IsRational, IsBelow, IsAtMost, IsSame
 use Rattle.theory_numbers.specs.Rationals.{value_at, mediant}
 use Rattle.theory_numbers.proofs.Signs.{test_less, less_from, test_at_most, at_most_from}
 use Rattle.theory_numbers.proofs.Products.{weak_product, weak_factor}
-use Rattle.theory_numbers.proofs.Rationals.{between, value_at_same, number_cases, below_clash}
-use Rattle.theory_numbers.proofs.Rationals.{same_sym, mediant-IsRational, mediant_between}
-use Rattle.theory_numbers.proofs.Arrows.{opposite-dot}
-use Rattle.theory_numbers.proofs.Clear.{positive_between, weak_at_low, weak_at_high}
+use Rattle.theory_numbers.proofs.Fractions.Rationals.{between, value_at_same, number_cases, below_clash}
+use Rattle.theory_numbers.proofs.Fractions.Rationals.{same_sym, mediant-IsRational, mediant_between}
+use Rattle.theory_numbers.proofs.Vectors.Arrows.{opposite-dot}
+use Rattle.theory_numbers.proofs.Fractions.Clear.{positive_between, weak_at_low, weak_at_high}
 use Rattle.theory_plane.specs.Sides.{IsLineSide, clearance, clearance_at}
 use Rattle.theory_plane.specs.Regions.{Region, IsRegion, is_region, has_ends, has_sides}
 use Rattle.theory_plane.specs.Regions.{is_uncrossed_at, is_uncrossed, meets_once}

@@ -10,8 +10,8 @@ use Rattle.theory_numbers.specs.Arrows.{Arrow}
 use Rattle.theory_numbers.specs.Rationals.{IsZeroForm, IsForm, IsSame}
 use Rattle.theory_numbers.proofs.Products.{unscale_equal}
 use Rattle.theory_numbers.proofs.Ring.{mul_comm}
-use Rattle.theory_numbers.proofs.Rationals.{one_zero}
-use Rattle.theory_numbers.proofs.Reduced.{reduced_unique}
+use Rattle.theory_numbers.proofs.Fractions.Rationals.{one_zero}
+use Rattle.theory_numbers.proofs.Fractions.Reduced.{reduced_unique}
 use Rattle.theory_plane.specs.Sides.{LineSide, line, IsReducedSide, clearance, clearance_at}
 use Rattle.theory_plane.specs.Sides.{is_same_side}
 

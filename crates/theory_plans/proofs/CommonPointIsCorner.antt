@@ -14,9 +14,9 @@ use Rattle.theory_lists.specs.Members.{Stands, AllOfTwo}
 use Rattle.theory_lists.proofs.Members.{all_stands, two_follow, two_of_images, one_or_two}
 use Rattle.theory_lists.proofs.Blocks.{stands_before, stands_behind, all-append}
 use Rattle.theory_numbers.specs.Arrows.{cross, dot}
-use Rattle.theory_numbers.proofs.Arrows.{cross-turn}
+use Rattle.theory_numbers.proofs.Vectors.Arrows.{cross-turn}
 use Rattle.theory_numbers.proofs.Products.{zero_of_positive}
-use Rattle.theory_numbers.proofs.Lengths.{no_length, some_length, on_both_lines}
+use Rattle.theory_numbers.proofs.Vectors.Lengths.{no_length, some_length, on_both_lines}
 use Rattle.theory_numbers.proofs.Shapes.{var, num, minus, negated, times, equal, cross_by}
 use Rattle.theory_numbers.proofs.Signs.{equal_or_not}
 use Rattle.sb_fraction.specs.declared.point.Point.{Point}
@@ -25,7 +25,7 @@ use Rattle.sb_fraction.specs.Edges.{Edge, edge, seen_from, turn_at, reach_at, is
 use Rattle.theory_plans.specs.LoopEdges.{edges_back, edges_of_loop, edges_of}
 use Rattle.theory_plans.specs.Loops.{bend, is_bent, are_bent, is_bent_loop, is_loop}
 use Rattle.theory_plans.specs.Plans.{is_plan, is_same_point, are_apart, corners_in}
-use Rattle.theory_plans.proofs.EdgesOfPlans.{same_point, loop_is, plan_is, bent_is_not_0}
+use Rattle.theory_plans.proofs.Edges.EdgesOfPlans.{same_point, loop_is, plan_is, bent_is_not_0}
 use Rattle.theory_plans.proofs.TouchingEdges.{from_to, seen_cross}
 use Rattle.theory_plans.proofs.TouchingEdges.{turn_seen, MeetAtEnds, edges_meet_at_ends}
 use Rattle.theory_plans.proofs.TouchingEdges.{corners_are_once}

@@ -16,7 +16,7 @@ use Rattle.sb_fraction.specs.Spots.{Spot, IsSpot}
 use Rattle.theory_plans.specs.Inside.{is_crossed, is_in_plan}
 use Rattle.theory_plans.specs.LoopEdges.{edges_of}
 use Rattle.theory_plans.specs.Rectangles.{rectangle, is_between_sides}
-use Rattle.theory_plans.proofs.OriginOnSegment.{touches, level_touches, upright_touches}
+use Rattle.theory_plans.proofs.Edges.OriginOnSegment.{touches, level_touches, upright_touches}
 
 -- ---- signs of the turns at the four edges, where a < b and c < d are the corners as seen from p
 

@@ -1,12 +1,7 @@
 -- The laws by topic.
 
 -- edges, and points on them
-pub mod EdgesByPlace
-pub mod DirectionsAlongAxes
-pub mod EdgesOfPlans
-pub mod StepsOfEdges
-mod OriginOnSegment
-pub mod OnEdgesAlongAxes
+pub mod Edges
 -- points
 pub mod PointsAlike
 -- which loops are plans

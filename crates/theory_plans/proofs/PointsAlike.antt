@@ -8,7 +8,7 @@ use Rattle.std.specs.Ordering.{int_eq}
 use Rattle.std.proofs.Math.Path.{fun_ext}
 use Rattle.theory_lists.specs.Parity.{is_odd_number}
 use Rattle.theory_numbers.specs.Arrows.{Arrow, cross, dot, scale}
-use Rattle.theory_numbers.proofs.Arrows.{same_arrow, cross-scale, scale-cross, dot-scale, scale-dot}
+use Rattle.theory_numbers.proofs.Vectors.Arrows.{same_arrow, cross-scale, scale-cross, dot-scale, scale-dot}
 use Rattle.theory_numbers.proofs.Multiples.{sign_of_multiple, other_sign_of_multiple}
 use Rattle.theory_numbers.proofs.Multiples.{order_of_multiples, zero_of_multiple}
 use Rattle.theory_numbers.proofs.Multiples.{weak_sign_of_multiple}

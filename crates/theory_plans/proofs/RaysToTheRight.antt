@@ -12,7 +12,7 @@ use Rattle.theory_numbers.proofs.Products.{weak_product_of_negatives, weak_squar
 use Rattle.theory_numbers.proofs.Products.{weak_factor, weak_negative_factor}
 use Rattle.theory_numbers.proofs.Signs.{test_not_less, less_from, not_less_from}
 use Rattle.theory_numbers.proofs.Ring.{mul_comm}
-use Rattle.theory_numbers.proofs.ThreeTerms.{frame_cross, frame_dot}
+use Rattle.theory_numbers.proofs.Vectors.ThreeTerms.{frame_cross, frame_dot}
 use Rattle.sb_fraction.specs.declared.point.Point.{Point}
 use Rattle.sb_fraction.specs.Spots.{Spot, spot_at}
 use Rattle.sb_fraction.specs.Edges.{Edge, seen_from, turn_at}

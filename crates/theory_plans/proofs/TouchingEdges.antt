@@ -17,10 +17,10 @@ use Rattle.theory_numbers.proofs.Products.{weak_negative_product, weak_negative_
 use Rattle.theory_numbers.proofs.Products.{zero_of_positive, negative_factor}
 use Rattle.theory_numbers.proofs.Ring.{mul_comm, zero-mul}
 use Rattle.theory_numbers.proofs.Products.{weak_product_of_negatives}
-use Rattle.theory_numbers.proofs.Arrows.{same_arrow, cross-turn, cross-self, dot_comm}
-use Rattle.theory_numbers.proofs.Arrows.{cross-scale, scale-cross, dot-scale, scale-dot}
-use Rattle.theory_numbers.proofs.ThreeTerms.{frame_dot}
-use Rattle.theory_numbers.proofs.Lengths.{no_length, some_length, on_both_lines, opposite_ways, turns_over}
+use Rattle.theory_numbers.proofs.Vectors.Arrows.{same_arrow, cross-turn, cross-self, dot_comm}
+use Rattle.theory_numbers.proofs.Vectors.Arrows.{cross-scale, scale-cross, dot-scale, scale-dot}
+use Rattle.theory_numbers.proofs.Vectors.ThreeTerms.{frame_dot}
+use Rattle.theory_numbers.proofs.Vectors.Lengths.{no_length, some_length, on_both_lines, opposite_ways, turns_over}
 use Rattle.theory_numbers.proofs.Signs.{test_less, test_at_most, at_most_from, sign_cases, equal_or_not}
 use Rattle.sb_fraction.specs.declared.point.Point.{Point}
 use Rattle.sb_fraction.specs.Spots.{Spot, IsSpot, spot_at}
@@ -30,7 +30,7 @@ use Rattle.theory_lists.proofs.Members.{two_follow}
 use Rattle.theory_plans.specs.LoopEdges.{edges_of}
 use Rattle.theory_plans.specs.Plans.{do_touch, is_parted, is_plan, is_same_point, is_consecutive}
 use Rattle.theory_plans.specs.Plans.{is_of_each_two, corners_in, are_apart}
-use Rattle.theory_plans.proofs.EdgesOfPlans.{plan_is}
+use Rattle.theory_plans.proofs.Edges.EdgesOfPlans.{plan_is}
 
 -- the way from a to b
 abbrev pub from_to : Arrow → Arrow → Arrow

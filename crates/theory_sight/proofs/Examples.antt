@@ -5,7 +5,7 @@ use Rattle.theory_numbers.specs.Divisors.{greatest_divisor, divisor_within}
 use Rattle.theory_numbers.specs.Fractions.{reduced, whole}
 use Rattle.theory_numbers.specs.Rationals.{rational}
 use Rattle.sb_fraction.specs.Spots.{Vector, vector}
-use Rattle.sb_model.specs.declared.label.Label.TheVariants as label
+use Rattle.sb_model.specs.declared.labels.label.Label.TheVariants as label
 use Rattle.sb_model.specs.declared.layers.Layering.TheVariants.{Plain, Layered}
 use Rattle.sb_model.specs.declared.products.Element.{Element}
 use Rattle.sb_model.specs.declared.walk.End.{End}

@@ -14,7 +14,7 @@ use Rattle.theory_numbers.specs.Fractions.{whole, reduced}
 use Rattle.theory_numbers.proofs.Shapes.{var, plus, minus, times, negated, equal}
 use Rattle.theory_numbers.proofs.Ring.{mul_comm}
 use Rattle.theory_numbers.proofs.Signs.{less_from, not_less_from, test_less, test_not_less}
-use Rattle.theory_numbers.proofs.Arrows.{mirror-mirror}
+use Rattle.theory_numbers.proofs.Vectors.Arrows.{mirror-mirror}
 use Rattle.theory_cuttings.specs.Cuttings.{Break, IsReducedCutting}
 use Rattle.theory_cuttings.specs.Changes.{break_at, flip_onto, last_label, Fine}
 use Rattle.theory_cuttings.proofs.OneCutting.{has_one_cutting}
@@ -32,11 +32,11 @@ use Rattle.sb_model.specs.Labels.{axis_vector, low_along, high_along, total_of}
 use Rattle.sb_model.specs.Walks.{length_between, layer_item, item, is_parallel, lies_along}
 use Rattle.theory_sight.specs.Bands.{bands_along, cut_between, flipped, item_of_layer, item_at, layer_items}
 use Rattle.theory_sight.specs.Bands.{items_by, items_between, rounded_thickness}
-use Rattle.theory_sight.proofs.Extents.{low-opposite, high-opposite}
-use Rattle.theory_sight.proofs.BandsOfPrisms.{layer_along, layer_on, bands_along_are_cut}
-use Rattle.theory_sight.proofs.BandsOfPrisms.{low_end_of, high_end_of}
-use Rattle.theory_sight.proofs.LayeredItems.{whole_below, whole_at_most}
-use Rattle.theory_sight.proofs.CrossingItems.{not_across}
+use Rattle.theory_sight.proofs.Crossings.Extents.{low-opposite, high-opposite}
+use Rattle.theory_sight.proofs.Crossings.BandsOfPrisms.{layer_along, layer_on, bands_along_are_cut}
+use Rattle.theory_sight.proofs.Crossings.BandsOfPrisms.{low_end_of, high_end_of}
+use Rattle.theory_sight.proofs.Crossings.LayeredItems.{whole_below, whole_at_most}
+use Rattle.theory_sight.proofs.Crossings.CrossingItems.{not_across}
 
 -- ---- opposite normals
 

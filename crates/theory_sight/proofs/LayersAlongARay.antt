@@ -10,8 +10,8 @@ use Rattle.theory_numbers.proofs.Shapes.{var, num, plus, times, negated, equal}
 use Rattle.theory_numbers.proofs.Signs.{sign_cases}
 use Rattle.theory_numbers.proofs.Products.{positive_product}
 use Rattle.theory_numbers.proofs.Ring.{mul_comm}
-use Rattle.theory_numbers.proofs.Arrows.{cross-mirror_comm, mirror-cross}
-use Rattle.theory_numbers.proofs.Rationals.{below_or_not, below_clash, at_most_from_below}
+use Rattle.theory_numbers.proofs.Vectors.Arrows.{cross-mirror_comm, mirror-cross}
+use Rattle.theory_numbers.proofs.Fractions.Rationals.{below_or_not, below_clash, at_most_from_below}
 use Rattle.theory_cuttings.specs.Ends.{IsOpen}
 use Rattle.theory_cuttings.specs.Cuttings.{Break, IsReducedCutting}
 use Rattle.theory_cuttings.specs.Changes.{Fine, label_after, breaks_before, breaks_after}
@@ -28,8 +28,8 @@ use Rattle.sb_model.specs.Solids.{Upright}
 use Rattle.sb_model.specs.Building.{are_layers}
 use Rattle.sb_model.specs.Passages.{Ray, at_depth}
 use Rattle.sb_model.specs.Labels.{axis_vector, low_along, high_along, layer_at}
-use Rattle.theory_sight.proofs.BandsOfPrisms.{layer_along, layer_along-scaled, bands_up_are_cut}
-use Rattle.theory_sight.proofs.BandsOfPrisms.{low_end_of, high_end_of}
+use Rattle.theory_sight.proofs.Crossings.BandsOfPrisms.{layer_along, layer_along-scaled, bands_up_are_cut}
+use Rattle.theory_sight.proofs.Crossings.BandsOfPrisms.{low_end_of, high_end_of}
 use Rattle.theory_sight.proofs.Stretched.{stretched, taken_from, stretched_is_reduced, from_above}
 use Rattle.theory_sight.proofs.Stretched.{from_below, taken_is, stretched_breaks}
 use Rattle.theory_sight.specs.Bands.{bands_up}

@@ -4,17 +4,7 @@
 pub mod LowestBetween
 pub mod Stacked
 -- items of a crossing
-pub mod Thickness
-pub mod Extents
-pub mod BandsCut
-pub mod BandsOfPrisms
-pub mod ItemsOfPieces
-pub mod LayeredItems
--- pieces of a walk, and the items of a crossing
-pub mod ElementAt
-pub mod PiecesAreRuns
-pub mod ColumnOfLine
-pub mod CrossingItems
+pub mod Crossings
 -- the walk as it is read
 pub mod WalkIsRead
 pub mod ReadsNoFurther

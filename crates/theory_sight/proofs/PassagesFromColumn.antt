@@ -9,9 +9,9 @@ use Rattle.theory_numbers.specs.Arrows.{Arrow, mirror, cross}
 use Rattle.theory_numbers.specs.Rationals.{IsRational, IsBelow, IsAtMost, rational}
 use Rattle.theory_numbers.proofs.Signs.{equal_or_not, sign_cases}
 use Rattle.theory_numbers.proofs.Products.{positive_square, weak_square, positive_product}
-use Rattle.theory_numbers.proofs.Arrows.{mirror-cross}
-use Rattle.theory_numbers.proofs.Rationals.{below_or_not, below_clash, at_most_from_below}
-use Rattle.theory_numbers.proofs.Rationals.{at_most_below_trans, below_trans}
+use Rattle.theory_numbers.proofs.Vectors.Arrows.{mirror-cross}
+use Rattle.theory_numbers.proofs.Fractions.Rationals.{below_or_not, below_clash, at_most_from_below}
+use Rattle.theory_numbers.proofs.Fractions.Rationals.{at_most_below_trans, below_trans}
 use Rattle.theory_cuttings.specs.Ends.{IsEnd, IsOpen, IsBefore}
 use Rattle.theory_cuttings.specs.Cuttings.{Break, HasLabel, IsCutting, IsReducedCutting}
 use Rattle.theory_cuttings.specs.Cuttings.{AreDifferent}
@@ -22,8 +22,8 @@ use Rattle.theory_cuttings.proofs.Groups.{map_is}
 use Rattle.theory_cuttings.proofs.CutTwice.{of_equal, labels_have}
 use Rattle.theory_cuttings.proofs.Refined.{AreCut, coarse_breaks, refined_is_reduced}
 use Rattle.sb_fraction.specs.Spots.{IsSpot, Vector, inner, reading}
-use Rattle.sb_model.specs.declared.label.Label.{Label}
-use Rattle.sb_model.specs.declared.label.Label.TheVariants as label
+use Rattle.sb_model.specs.declared.labels.label.Label.{Label}
+use Rattle.sb_model.specs.declared.labels.label.Label.TheVariants as label
 use Rattle.sb_model.specs.declared.layers.Axis.{Axis}
 use Rattle.sb_model.specs.declared.layers.Layer.{Layer}
 use Rattle.sb_model.specs.declared.layers.Layering.{Layering}
@@ -35,10 +35,10 @@ use Rattle.sb_model.specs.Building.{is_level_axis, is_upright_axis}
 use Rattle.sb_model.specs.Passages.{Ray, at_depth, ArePassages}
 use Rattle.sb_model.specs.Labels.{axis_vector, low_along, high_along, layer_at}
 use Rattle.theory_sight.specs.Coarse.{coarse}
-use Rattle.theory_sight.proofs.BandsOfPrisms.{low_end_of, high_end_of}
+use Rattle.theory_sight.proofs.Crossings.BandsOfPrisms.{low_end_of, high_end_of}
 use Rattle.theory_models.proofs.RaysAlike.{along_is_spot}
-use Rattle.theory_sight.proofs.CrossingItems.{axis_is_some, element_layering}
-use Rattle.theory_sight.proofs.ElementAt.{IsElementAt, element_is_at, coarse_element}
+use Rattle.theory_sight.proofs.Crossings.CrossingItems.{axis_is_some, element_layering}
+use Rattle.theory_sight.proofs.Crossings.ElementAt.{IsElementAt, element_is_at, coarse_element}
 use Rattle.theory_sight.proofs.LayersAlongARay.{CanBeCut, layers_can_be_cut, level_cut, slope_along}
 use Rattle.theory_sight.proofs.LayersAlongARay.{den_along, start_along, reading_is, turned_map}
 use Rattle.theory_sight.proofs.Stretched.{stretched, taken_from, above_from, below_from, taken_is}

@@ -12,7 +12,7 @@ use Rattle.theory_numbers.specs.Rationals.{rational}
 use Rattle.theory_numbers.proofs.Shapes.{var, times, negated, equal}
 use Rattle.theory_numbers.proofs.Signs.{same_tests}
 use Rattle.sb_fraction.specs.Spots.{Vector, opposite}
-use Rattle.sb_model.specs.declared.label.Label.TheVariants as label
+use Rattle.sb_model.specs.declared.labels.label.Label.TheVariants as label
 use Rattle.sb_model.specs.declared.layers.Layering.{Layering}
 use Rattle.sb_model.specs.declared.layers.Layering.TheVariants.{Plain, Single, Layered}
 use Rattle.sb_model.specs.declared.products.Element.{Element}

@@ -6,14 +6,14 @@ use Rattle.std.proofs.lemmas.Int.{ints}
 use Rattle.theory_numbers.specs.Arrows.{Arrow, arrow, cross}
 use Rattle.theory_numbers.specs.Rationals.{IsRational, IsBelow, IsSame}
 use Rattle.theory_numbers.proofs.Shapes.{var, num, plus, minus, times, equal, cross_by, cross_is}
-use Rattle.theory_numbers.proofs.Arrows.{cross-turn}
+use Rattle.theory_numbers.proofs.Vectors.Arrows.{cross-turn}
 use Rattle.theory_numbers.proofs.Products.{positive_product, positive_factor}
-use Rattle.theory_numbers.proofs.Rationals.{at_most_below_trans, below_at_most_trans, same_trans}
+use Rattle.theory_numbers.proofs.Fractions.Rationals.{at_most_below_trans, below_at_most_trans, same_trans}
 use Rattle.theory_cuttings.specs.Cuttings.{Break, IsFraction, HasLabel, IsCutting, AreDifferent}
 use Rattle.theory_cuttings.specs.Cuttings.{IsReducedCutting}
 use Rattle.theory_cuttings.specs.Changes.{break_at}
 use Rattle.theory_sight.specs.Bands.{fraction}
-use Rattle.theory_sight.proofs.BandsCut.{fraction_is_same, fraction_is_reduced}
+use Rattle.theory_sight.proofs.Crossings.BandsCut.{fraction_is_same, fraction_is_reduced}
 
 -- the number e/d + (c/d)·t
 abbrev pub stretched : ℤ → ℤ → ℤ → Arrow → Arrow

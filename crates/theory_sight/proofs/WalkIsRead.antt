@@ -16,8 +16,8 @@ use Rattle.theory_cuttings.proofs.OneCutting.{next_end, IsFirstPiece, first_piec
 use Rattle.theory_cuttings.proofs.Groups.{runs_keep_breaks}
 use Rattle.theory_cuttings.proofs.OnePassages.{one_list_of_passages}
 use Rattle.theory_models.proofs.RaysAlike.{label_along_is_alike}
-use Rattle.sb_model.specs.declared.label.Label.{Label}
-use Rattle.sb_model.specs.declared.label.Label.TheVariants as label
+use Rattle.sb_model.specs.declared.labels.label.Label.{Label}
+use Rattle.sb_model.specs.declared.labels.label.Label.TheVariants as label
 use Rattle.sb_model.specs.declared.products.Element.{Element}
 use Rattle.sb_model.specs.declared.walk.End.{End}
 use Rattle.sb_model.specs.declared.walk.End.TheVariants as end
@@ -33,12 +33,12 @@ use Rattle.theory_sight.specs.Bands.{items_between}
 use Rattle.theory_sight.specs.Reading.{FarEnd, square, slanted, never, Stretch, is_passed_over}
 use Rattle.theory_sight.specs.Reading.{ends_at, behind, read_element, read_stretch, read, IsFarEnd}
 use Rattle.theory_sight.specs.Reading.{AreStretches}
-use Rattle.theory_sight.proofs.ElementAt.{IsElementAt, element_is_at}
+use Rattle.theory_sight.proofs.Crossings.ElementAt.{IsElementAt, element_is_at}
 use Rattle.theory_cuttings.proofs.CutTwice.{split_is, coarse_is_runs}
-use Rattle.theory_sight.proofs.PiecesAreRuns.{same_label_decides, pieces_made, end-piece_to}
-use Rattle.theory_sight.proofs.PiecesAreRuns.{pieces_are_runs}
-use Rattle.theory_sight.proofs.ItemsOfPieces.{whole_length}
-use Rattle.theory_sight.proofs.CrossingItems.{IsSeen, crossing_items}
+use Rattle.theory_sight.proofs.Crossings.PiecesAreRuns.{same_label_decides, pieces_made, end-piece_to}
+use Rattle.theory_sight.proofs.Crossings.PiecesAreRuns.{pieces_are_runs}
+use Rattle.theory_sight.proofs.Crossings.ItemsOfPieces.{whole_length}
+use Rattle.theory_sight.proofs.Crossings.CrossingItems.{IsSeen, crossing_items}
 use Rattle.theory_sight.specs.Crossings.{IsCrossing, label_along, piece_to}
 
 module _ (m : Building) (r : Ray) (x0 : ℤ) (seen : IsSeen m r x0) where

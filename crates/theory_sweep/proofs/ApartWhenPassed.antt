@@ -9,7 +9,7 @@ use Rattle.theory_lists.specs.Members.{Stands, AllOfTwo, AreOnce}
 use Rattle.theory_lists.proofs.Members.{all_stands, all_images, two_follow, two_of_images}
 use Rattle.theory_numbers.specs.Arrows.{Arrow}
 use Rattle.theory_numbers.specs.Rationals.{IsRational, IsAtMost}
-use Rattle.theory_numbers.proofs.Rationals.{at_most_trans}
+use Rattle.theory_numbers.proofs.Fractions.Rationals.{at_most_trans}
 use Rattle.theory_numbers.proofs.Shapes.{var, num, minus, times, equal}
 use Rattle.theory_numbers.proofs.Signs.{order_cases}
 use Rattle.sb_fraction.specs.declared.point.Point.{Point}
@@ -19,10 +19,10 @@ use Rattle.theory_plans.specs.LoopEdges.{edges_of}
 use Rattle.theory_plans.specs.Loops.{bend, is_bent_loop}
 use Rattle.theory_plans.specs.Plans.{is_same_point, is_consecutive, are_apart, corners_in}
 use Rattle.theory_plans.proofs.CommonPointIsCorner.{starts-edges_of}
-use Rattle.theory_plans.proofs.EdgesOfPlans.{bent_is_not_0}
+use Rattle.theory_plans.proofs.Edges.EdgesOfPlans.{bent_is_not_0}
 use Rattle.theory_parity.specs.Below.{IsWay, abscissa_in}
 use Rattle.theory_parity.specs.Sides.{turned_edge}
-use Rattle.theory_parity.proofs.TurnedIsApart.{on-turned}
+use Rattle.theory_parity.proofs.SolidOnTheLeft.TurnedIsApart.{on-turned}
 use Rattle.theory_loops.specs.Orders.{MeetConsecutively}
 use Rattle.theory_loops.proofs.ApartInWords.{apart_is}
 use Rattle.theory_sweep.specs.Passing.{pass_of, at_pass}

@@ -13,8 +13,8 @@ use Rattle.std.proofs.lemmas.Bool.Decides.{Decides-int_eq}
 use Rattle.theory_lists.specs.Members.{Stands}
 use Rattle.theory_lists.proofs.Members.{all_stands, one_or_two}
 use Rattle.theory_numbers.specs.Arrows.{Arrow, cross, dot}
-use Rattle.theory_numbers.proofs.Arrows.{cross-turn}
-use Rattle.theory_numbers.proofs.Lengths.{no_length, some_length}
+use Rattle.theory_numbers.proofs.Vectors.Arrows.{cross-turn}
+use Rattle.theory_numbers.proofs.Vectors.Lengths.{no_length, some_length}
 use Rattle.theory_numbers.proofs.Signs.{equal_or_not}
 use Rattle.sb_fraction.specs.declared.point.Point.{Point}
 use Rattle.sb_fraction.specs.Spots.{Spot, IsSpot}
@@ -23,11 +23,11 @@ use Rattle.theory_plans.specs.LoopEdges.{edges_of}
 use Rattle.theory_plans.specs.Loops.{bend, is_bent_loop}
 use Rattle.theory_plans.specs.Plans.{is_same_point, do_touch, are_apart}
 use Rattle.theory_plans.proofs.CommonPointIsCorner.{IsAt, straight_through}
-use Rattle.theory_plans.proofs.EdgesOfPlans.{same_point, bent_is_not_0}
+use Rattle.theory_plans.proofs.Edges.EdgesOfPlans.{same_point, bent_is_not_0}
 use Rattle.theory_plans.proofs.TouchingEdges.{common_point_touches}
 use Rattle.theory_parity.specs.Sides.{turned_edge}
-use Rattle.theory_parity.proofs.RaysAnywhere.{level_on}
-use Rattle.theory_parity.proofs.TurnedIsApart.{on-turned}
+use Rattle.theory_parity.proofs.SolidOnTheLeft.RaysAnywhere.{level_on}
+use Rattle.theory_parity.proofs.SolidOnTheLeft.TurnedIsApart.{on-turned}
 use Rattle.theory_loops.specs.Orders.{MeetConsecutively}
 use Rattle.theory_loops.proofs.ApartInWords.{apart_is}
 use Rattle.theory_loops.proofs.TouchingHavePoint.{touch_is}

@@ -6,12 +6,12 @@ use Rattle.std.proofs.Common.{◌≤ℤ◌, ◌*ℤ◌, true}
 use Rattle.std.proofs.lemmas.Int.{ints}
 use Rattle.theory_numbers.specs.Arrows.{Arrow}
 use Rattle.theory_numbers.specs.Rationals.{IsRational, IsBelow, IsAtMost, IsSame}
-use Rattle.theory_numbers.proofs.Arrows.{cross-turn, cross-self}
+use Rattle.theory_numbers.proofs.Vectors.Arrows.{cross-turn, cross-self}
 use Rattle.theory_numbers.proofs.Products.{zero_of_positive}
 use Rattle.theory_numbers.proofs.Ring.{mul-zero}
-use Rattle.theory_numbers.proofs.Rationals.{at_most_trans, at_most_below_trans}
-use Rattle.theory_numbers.proofs.Rationals.{same_trans, same_sym, number_cases, at_most_from_below}
-use Rattle.theory_numbers.proofs.Rationals.{same_from_at_most, below_clash, value_at_same}
+use Rattle.theory_numbers.proofs.Fractions.Rationals.{at_most_trans, at_most_below_trans}
+use Rattle.theory_numbers.proofs.Fractions.Rationals.{same_trans, same_sym, number_cases, at_most_from_below}
+use Rattle.theory_numbers.proofs.Fractions.Rationals.{same_from_at_most, below_clash, value_at_same}
 use Rattle.theory_plane.specs.Sides.{clearance, clearance_at}
 use Rattle.theory_plane.specs.Leads.{leads}
 use Rattle.theory_plane.proofs.Clearance.{higher_is, meeting_is}
@@ -22,7 +22,7 @@ use Rattle.sb_fraction.specs.Edges.{Edge, is_on}
 use Rattle.sb_fraction.specs.Lines.{line_over}
 use Rattle.theory_plans.proofs.CommonPointIsCorner.{IsAt}
 use Rattle.theory_parity.specs.Below.{IsWay, spot_in, value_of}
-use Rattle.theory_parity.proofs.BelowByValue.{spot_in_is}
+use Rattle.theory_parity.proofs.Rays.BelowByValue.{spot_in_is}
 use Rattle.theory_sweep.specs.Passing.{pass_of, at_pass, IsRising}
 use Rattle.theory_sweep.specs.Open.{MeetAtOneEnd}
 use Rattle.theory_sweep.proofs.PointsOfRisingEdges.{value_is, over_place, passed_there, same_place}

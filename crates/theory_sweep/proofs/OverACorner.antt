@@ -13,11 +13,11 @@ use Rattle.theory_lists.proofs.Blocks.{stands_before, stands_behind, all-append}
 use Rattle.theory_lists.proofs.Blocks.{two-append, two_in_parts}
 use Rattle.theory_numbers.specs.Arrows.{Arrow, cross}
 use Rattle.theory_numbers.specs.Rationals.{IsRational, IsBelow, IsAtMost, IsSame}
-use Rattle.theory_numbers.proofs.Arrows.{cross-turn, same_arrow}
+use Rattle.theory_numbers.proofs.Vectors.Arrows.{cross-turn, same_arrow}
 use Rattle.theory_numbers.proofs.Products.{zero_of_positive}
-use Rattle.theory_numbers.proofs.Rationals.{at_most_trans, at_most_below_trans, below_at_most_trans}
-use Rattle.theory_numbers.proofs.Rationals.{same_trans, same_sym, below_or_not, number_cases}
-use Rattle.theory_numbers.proofs.Rationals.{below_clash, same_from_at_most}
+use Rattle.theory_numbers.proofs.Fractions.Rationals.{at_most_trans, at_most_below_trans, below_at_most_trans}
+use Rattle.theory_numbers.proofs.Fractions.Rationals.{same_trans, same_sym, below_or_not, number_cases}
+use Rattle.theory_numbers.proofs.Fractions.Rationals.{below_clash, same_from_at_most}
 use Rattle.theory_numbers.proofs.Signs.{order_cases}
 use Rattle.theory_plane.specs.Leads.{leads}
 use Rattle.sb_fraction.specs.declared.point.Point.{Point}
@@ -28,7 +28,7 @@ use Rattle.theory_plans.specs.Loops.{is_bent_loop}
 use Rattle.theory_plane.specs.Points.{ordinate_of}
 use Rattle.theory_plans.proofs.CommonPointIsCorner.{IsAt}
 use Rattle.theory_plans.proofs.TouchingEdges.{turn_seen, from_to}
-use Rattle.theory_parity.proofs.RaysAnywhere.{level_on}
+use Rattle.theory_parity.proofs.SolidOnTheLeft.RaysAnywhere.{level_on}
 use Rattle.theory_parity.specs.Below.{IsWay, abscissa_in, value_of}
 use Rattle.theory_sweep.specs.Passing.{pass_of, at_pass, IsRising}
 use Rattle.theory_sweep.specs.Corners.{Corner, ArePassedApart}

@@ -9,16 +9,16 @@ use Rattle.std.proofs.lemmas.Bool.{and_parts}
 use Rattle.std.proofs.lemmas.Bool.Decides.{Decides-int_eq}
 use Rattle.theory_numbers.specs.Arrows.{Arrow, arrow, cross, dot, scale}
 use Rattle.theory_numbers.specs.Rationals.{IsRational, IsBelow, IsAtMost, IsSame}
-use Rattle.theory_numbers.proofs.Arrows.{same_arrow, cross-turn, cross-self, scale-cross}
+use Rattle.theory_numbers.proofs.Vectors.Arrows.{same_arrow, cross-turn, cross-self, scale-cross}
 use Rattle.theory_numbers.proofs.Shapes.{var, num, plus, minus, times, equal, cross_by, dot_by}
 use Rattle.theory_numbers.proofs.Signs.{at_most_from, test_less, less_from}
 use Rattle.theory_numbers.proofs.Products.{zero_of_positive, positive_product, weak_product}
 use Rattle.theory_numbers.proofs.Products.{weak_negative_product, weak_negative_factor, weak_factor}
 use Rattle.theory_numbers.proofs.Products.{positive_factor}
 use Rattle.theory_numbers.proofs.Ring.{mul-zero}
-use Rattle.theory_numbers.proofs.ThreeTerms.{frame_cross, frame_dot}
-use Rattle.theory_numbers.proofs.Lengths.{no_length, long_from}
-use Rattle.theory_numbers.proofs.Rationals.{below_or_not}
+use Rattle.theory_numbers.proofs.Vectors.ThreeTerms.{frame_cross, frame_dot}
+use Rattle.theory_numbers.proofs.Vectors.Lengths.{no_length, long_from}
+use Rattle.theory_numbers.proofs.Fractions.Rationals.{below_or_not}
 use Rattle.theory_plane.specs.Sides.{LineSide, IsLineSide}
 use Rattle.theory_plane.specs.Points.{FacePoint, ordinate_of, rise}
 use Rattle.theory_plane.specs.Points.{is_above_side}
@@ -30,10 +30,10 @@ use Rattle.sb_fraction.specs.Edges.{Edge, span_of, seen_from, turn_at, reach_at,
 use Rattle.sb_fraction.specs.Lines.{in_frame, line_over, span_along, place}
 use Rattle.theory_plans.proofs.CommonPointIsCorner.{IsAt}
 use Rattle.theory_parity.specs.Below.{IsWay, abscissa_in, spot_in, value_of}
-use Rattle.theory_parity.proofs.BelowByValue.{abscissa_of_spot, on_spot, spot_in_is}
-use Rattle.theory_parity.proofs.InsideByBelow.{turn_by_span}
+use Rattle.theory_parity.proofs.Rays.BelowByValue.{abscissa_of_spot, on_spot, spot_in_is}
+use Rattle.theory_parity.proofs.Rays.InsideByBelow.{turn_by_span}
 use Rattle.theory_parity.proofs.OnLineOver.{on_line_over}
-use Rattle.theory_parity.proofs.OwnPoints.{IsAlong, along_from_on, on_along, by_ends_cross, IsLong}
+use Rattle.theory_parity.proofs.SolidOnTheLeft.OwnPoints.{IsAlong, along_from_on, on_along, by_ends_cross, IsLong}
 use Rattle.theory_sweep.specs.Passing.{pass_of, at_pass, IsRising}
 
 -- ---- the vector of a rising edge

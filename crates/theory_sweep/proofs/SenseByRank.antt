@@ -17,10 +17,10 @@ use Rattle.theory_lists.proofs.Blocks.{stands_before, stands_behind, two_in_part
 use Rattle.theory_lists.proofs.Parity.{is_odd_number-same, is_odd_number-map}
 use Rattle.theory_numbers.specs.Arrows.{Arrow, arrow, cross, dot}
 use Rattle.theory_numbers.specs.Rationals.{IsRational, IsBelow, IsSame, is_below}
-use Rattle.theory_numbers.proofs.Arrows.{cross-self}
-use Rattle.theory_numbers.proofs.Lengths.{some_length, no_length}
-use Rattle.theory_numbers.proofs.Rationals.{below_clash, at_most_from_below, number_cases}
-use Rattle.theory_numbers.proofs.Rationals.{below_irrefl}
+use Rattle.theory_numbers.proofs.Vectors.Arrows.{cross-self}
+use Rattle.theory_numbers.proofs.Vectors.Lengths.{some_length, no_length}
+use Rattle.theory_numbers.proofs.Fractions.Rationals.{below_clash, at_most_from_below, number_cases}
+use Rattle.theory_numbers.proofs.Fractions.Rationals.{below_irrefl}
 use Rattle.theory_numbers.proofs.Shapes.{var, num, plus, minus, times, negated, equal, cross_by}
 use Rattle.theory_numbers.proofs.Shapes.{dot_is}
 use Rattle.theory_numbers.proofs.Signs.{less_from, test_less, test_not_less, at_most_from}
@@ -36,14 +36,14 @@ use Rattle.theory_plans.specs.Rays.{is_struck}
 use Rattle.theory_plans.proofs.CommonPointIsCorner.{IsAt}
 use Rattle.theory_parity.specs.Below.{IsWay, down_from, is_lower_at, spot_in, value_of}
 use Rattle.theory_parity.specs.Sides.{AreBentApart, turned_edge}
-use Rattle.theory_parity.proofs.AlongAnEdge.{along_an_edge}
-use Rattle.theory_parity.proofs.BelowByValue.{below_by_value, spot_in_is}
-use Rattle.theory_parity.proofs.EdgesApart.{long_edges, alone_inside}
-use Rattle.theory_parity.proofs.InsideByBelow.{below_is_struck}
-use Rattle.theory_parity.proofs.OneSideALoop.{to_the_right}
-use Rattle.theory_parity.proofs.OwnPoints.{IsOwn, own_from_on, middle_is_own}
-use Rattle.theory_parity.proofs.RaysFromEdges.{right_ray, IsAloneAt}
-use Rattle.theory_parity.proofs.TurnedLoops.{struck-turned}
+use Rattle.theory_parity.proofs.SolidOnTheLeft.AlongAnEdge.{along_an_edge}
+use Rattle.theory_parity.proofs.Rays.BelowByValue.{below_by_value, spot_in_is}
+use Rattle.theory_parity.proofs.SolidOnTheLeft.EdgesApart.{long_edges, alone_inside}
+use Rattle.theory_parity.proofs.Rays.InsideByBelow.{below_is_struck}
+use Rattle.theory_parity.proofs.SolidOnTheLeft.OneSideALoop.{to_the_right}
+use Rattle.theory_parity.proofs.SolidOnTheLeft.OwnPoints.{IsOwn, own_from_on, middle_is_own}
+use Rattle.theory_parity.proofs.SolidOnTheLeft.RaysFromEdges.{right_ray, IsAloneAt}
+use Rattle.theory_parity.proofs.SolidOnTheLeft.TurnedLoops.{struck-turned}
 use Rattle.theory_sweep.specs.Passing.{pass_of, at_pass, IsRising}
 use Rattle.theory_sweep.specs.Corners.{ArePassedApart}
 use Rattle.theory_sweep.specs.Open.{IsEdgeOf, IsOpenAt, AreOpen}

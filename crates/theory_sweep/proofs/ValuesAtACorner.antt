@@ -5,11 +5,11 @@ use Rattle.std.proofs.Common.{◌<ℤ◌, ◌-ℤ◌, ◌*ℤ◌, refl}
 use Rattle.std.proofs.lemmas.Int.{ints}
 use Rattle.theory_numbers.specs.Arrows.{Arrow, cross, dot}
 use Rattle.theory_numbers.specs.Rationals.{IsRational, IsBelow, IsAtMost, IsSame}
-use Rattle.theory_numbers.proofs.Arrows.{cross-turn, cross-self}
+use Rattle.theory_numbers.proofs.Vectors.Arrows.{cross-turn, cross-self}
 use Rattle.theory_numbers.proofs.Signs.{less_from, not_less_from, test_less}
 use Rattle.theory_numbers.proofs.Products.{positive_product}
 use Rattle.theory_numbers.proofs.Ring.{mul_comm}
-use Rattle.theory_numbers.proofs.ThreeTerms.{frame_cross}
+use Rattle.theory_numbers.proofs.Vectors.ThreeTerms.{frame_cross}
 use Rattle.theory_numbers.proofs.Shapes.{var, num, minus, times, equal, cross_by}
 use Rattle.theory_plane.specs.Leads.{leads}
 use Rattle.theory_plane.specs.Points.{ordinate_of}
@@ -22,7 +22,7 @@ use Rattle.sb_fraction.specs.Edges.{Edge, seen_from, span_of, turn_at}
 use Rattle.sb_fraction.specs.Lines.{in_frame, line_over, span_along}
 use Rattle.theory_plans.proofs.CommonPointIsCorner.{IsAt}
 use Rattle.theory_parity.specs.Below.{IsWay, spot_in, value_of}
-use Rattle.theory_parity.proofs.BelowByValue.{spot_in_is}
+use Rattle.theory_parity.proofs.Rays.BelowByValue.{spot_in_is}
 use Rattle.theory_sweep.specs.Passing.{pass_of, at_pass, IsRising}
 use Rattle.theory_sweep.specs.Open.{MeetAtOneEnd, is_under}
 use Rattle.theory_sweep.proofs.PointsOfRisingEdges.{left_if_below, value_below, value_above}

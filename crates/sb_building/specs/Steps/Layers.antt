@@ -6,7 +6,7 @@ use Rattle.sb_profile.specs.declared.defects.Code.{Code}
 use Rattle.sb_profile.specs.declared.defects.Code.TheVariants as code
 use Rattle.sb_profile.specs.declared.defects.Defect.{Defect}
 use Rattle.sb_profile.specs.Contents.{Contents, Says}
-use Rattle.sb_building.specs.declared.standing.Standing.{Standing}
+use Rattle.sb_building.specs.declared.judging.standing.Standing.{Standing}
 use Rattle.sb_building.specs.Layerings.{has_bad_layers}
 use Rattle.sb_building.specs.Steps.Least.{IsLeastOf}
 

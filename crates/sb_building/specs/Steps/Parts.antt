@@ -10,12 +10,12 @@ use Rattle.sb_model.specs.declared.products.Filling.{Filling}
 use Rattle.sb_model.specs.declared.products.FillKind.{FillKind}
 use Rattle.sb_model.specs.declared.products.FillKind.TheVariants as fill_kind
 use Rattle.sb_model.specs.Building.{Building, building}
-use Rattle.sb_profile.specs.declared.links.Link.{Link}
+use Rattle.sb_profile.specs.declared.reading.links.Link.{Link}
 use Rattle.sb_profile.specs.Entities.Entity.{opening_filling}
 use Rattle.sb_profile.specs.Contents.{Contents}
 use Rattle.sb_profile.specs.Products.{is_space, is_element, is_opening, is_filling}
 use Rattle.sb_profile.specs.Units.{unit_in}
-use Rattle.sb_building.specs.declared.assembled.Parts.{Parts}
+use Rattle.sb_building.specs.declared.lists.assembled.Parts.{Parts}
 use Rattle.sb_building.specs.Models.{kind_of, IsSpaceOf, IsElementOf, IsOpeningOf, IsFillingOf}
 use Rattle.sb_building.specs.Steps.Order.{Rise}
 

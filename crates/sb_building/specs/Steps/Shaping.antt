@@ -11,7 +11,7 @@ use Rattle.sb_prism.specs.Prisms.{IsPrismOf}
 use Rattle.sb_profile.specs.declared.defects.Code.{Code}
 use Rattle.sb_profile.specs.declared.defects.Code.TheVariants as code
 use Rattle.sb_profile.specs.declared.defects.Defect.{Defect}
-use Rattle.sb_building.specs.declared.standing.Standing.{Standing}
+use Rattle.sb_building.specs.declared.judging.standing.Standing.{Standing}
 use Rattle.sb_building.specs.Steps.Least.{IsLeastOf}
 use Rattle.sb_building.specs.Steps.Order.{Rise}
 

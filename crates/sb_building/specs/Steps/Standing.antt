@@ -8,7 +8,7 @@ use Rattle.sb_model.specs.declared.frame.Frame.{Frame}
 use Rattle.sb_place.specs.declared.error.PlaceError.{PlaceError}
 use Rattle.sb_place.specs.declared.error.PlaceError.TheVariants as place_error
 use Rattle.sb_place.specs.Judgement.{IsFrameOf}
-use Rattle.sb_profile.specs.declared.products.Shaped.{Shaped}
+use Rattle.sb_profile.specs.declared.reading.products.Shaped.{Shaped}
 use Rattle.sb_profile.specs.declared.defects.Code.{Code}
 use Rattle.sb_profile.specs.declared.defects.Code.TheVariants as code
 use Rattle.sb_profile.specs.declared.defects.Defect.{Defect}
@@ -16,7 +16,7 @@ use Rattle.sb_profile.specs.Contents.{Contents}
 use Rattle.sb_profile.specs.Products.{is_taken, shape_of}
 use Rattle.sb_profile.specs.Following.{building_placement}
 use Rattle.sb_profile.specs.Steps.Read.{AreTaken}
-use Rattle.sb_building.specs.declared.standing.Standing.{Standing}
+use Rattle.sb_building.specs.declared.judging.standing.Standing.{Standing}
 use Rattle.sb_building.specs.Placings.{IsFrameIn}
 use Rattle.sb_building.specs.Conditions.{HasCondition}
 use Rattle.sb_building.specs.Steps.Least.{IsLeastOf}

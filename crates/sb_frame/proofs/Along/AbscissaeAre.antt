@@ -13,8 +13,8 @@ use Rattle.theory_lists.proofs.Members.{any_stands, one_of_any}
 use Rattle.theory_numbers.specs.Arrows.{Arrow, arrow, cross, scale}
 use Rattle.theory_numbers.specs.Fractions.{Ratio, whole, reduced, is_lowest}
 use Rattle.theory_numbers.specs.Rationals.{rational, IsRational, IsSame}
-use Rattle.theory_numbers.proofs.Arrows.{cross-self, same_arrow}
-use Rattle.theory_numbers.proofs.LowestTerms.{reduced_is_same, reduced_is_lowest}
+use Rattle.theory_numbers.proofs.Vectors.Arrows.{cross-self, same_arrow}
+use Rattle.theory_numbers.proofs.Fractions.LowestTerms.{reduced_is_same, reduced_is_lowest}
 use Rattle.theory_numbers.proofs.Ring.{mul_comm}
 use Rattle.theory_numbers.proofs.Shapes.{var, num, plus, times, equal}
 use Rattle.theory_numbers.proofs.Signs.{less_from, test_less, test_not_less}

@@ -15,7 +15,7 @@ use Rattle.theory_lists.proofs.Members.{all_stands, any_stands, one_of_any}
 use Rattle.theory_numbers.specs.Arrows.{Arrow, cross}
 use Rattle.theory_numbers.specs.Fractions.{Ratio}
 use Rattle.theory_numbers.specs.Rationals.{rational, IsRational, IsBelow, IsSame}
-use Rattle.theory_numbers.proofs.Rationals.{same_sym, same_trans}
+use Rattle.theory_numbers.proofs.Fractions.Rationals.{same_sym, same_trans}
 use Rattle.sb_fraction.specs.Spots.{Spot, IsSpot, reading}
 use Rattle.sb_fraction.specs.Crossings.{cross_at, cross_over, ends_over, meeting_of}
 use Rattle.sb_fraction.specs.Lines.{flat}

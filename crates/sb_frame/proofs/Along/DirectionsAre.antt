@@ -13,7 +13,7 @@ use Rattle.std.proofs.lemmas.Cmp.{then_total, on_total, int_cmp_total}
 use Rattle.theory_lists.specs.Members.{Stands, AllOfTwo}
 use Rattle.theory_lists.proofs.Blocks.{stands_before, stands_behind}
 use Rattle.theory_numbers.specs.Arrows.{Arrow}
-use Rattle.theory_numbers.proofs.Arrows.{same_arrow}
+use Rattle.theory_numbers.proofs.Vectors.Arrows.{same_arrow}
 use Rattle.sb_fraction.specs.declared.direction.Direction.{Direction}
 use Rattle.sb_fraction.specs.Directions.{direction_of}
 use Rattle.sb_fraction.specs.Edges.{Edge}
@@ -23,7 +23,7 @@ use Rattle.sb_fraction.specs.Spots.{Vector, vector}
 use Rattle.theory_numbers.specs.Divisors.{greatest_divisor}
 use Rattle.theory_numbers.specs.Divisors as X
 use Rattle.theory_plans.specs.LoopEdges.{edges_of}
-use Rattle.theory_plans.proofs.StepsOfEdges.{direction_is_level}
+use Rattle.theory_plans.proofs.Edges.StepsOfEdges.{direction_is_level}
 use Rattle.sb_model.specs.declared.products.Space.{Space}
 use Rattle.sb_model.specs.Building.{Building}
 use Rattle.sb_model.specs.PlanEdges.{PlanEdge}

@@ -5,7 +5,7 @@ use Rattle.std.proofs.lemmas.Bool.{and_from, le-leb}
 use Rattle.std.proofs.Math.Nat.{div-le_self}
 use Rattle.theory_numbers.specs.Divisors.{greatest_divisor}
 use Rattle.theory_numbers.specs.Fractions.{reduced, divided}
-use Rattle.theory_numbers.proofs.LowestTerms.{abs-divided}
+use Rattle.theory_numbers.proofs.Fractions.LowestTerms.{abs-divided}
 use Rattle.sb_fraction.specs.Bounds.{is_abscissa_size, greatest_abscissa, greatest_cross}
 
 -- no quotient is greater than the number that was divided

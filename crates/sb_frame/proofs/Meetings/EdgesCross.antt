@@ -8,7 +8,7 @@ use Rattle.std.proofs.lemmas.Int.{ints}
 use Rattle.std.proofs.lemmas.Bool.{and_parts, and_from, or_cases, or_parts, false≢true}
 use Rattle.std.proofs.lemmas.Bool.Decides.{Decides-int_eq}
 use Rattle.theory_numbers.specs.Arrows.{Arrow, dot}
-use Rattle.theory_numbers.proofs.Lengths.{no_length, some_length, opposite_ways}
+use Rattle.theory_numbers.proofs.Vectors.Lengths.{no_length, some_length, opposite_ways}
 use Rattle.theory_numbers.proofs.Ring.{mul_comm, mul-zero, zero-mul}
 use Rattle.theory_numbers.proofs.Signs.{less_from, at_most_from, test_less, test_at_most}
 use Rattle.sb_fraction.specs.declared.point.Point.{Point}

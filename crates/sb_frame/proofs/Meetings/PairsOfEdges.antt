@@ -7,7 +7,7 @@ use Rattle.std.proofs.lemmas.Bool.{false≢true}
 use Rattle.std.proofs.lemmas.Bool.Decides.{Decides-int_eq}
 use Rattle.theory_lists.specs.Members.{Stands}
 use Rattle.theory_numbers.specs.Arrows.{cross}
-use Rattle.theory_numbers.proofs.Arrows.{cross-self, cross-turn}
+use Rattle.theory_numbers.proofs.Vectors.Arrows.{cross-self, cross-turn}
 use Rattle.theory_numbers.proofs.Signs.{same_equal}
 use Rattle.sb_fraction.specs.Spots.{Spot}
 use Rattle.sb_fraction.specs.Edges.{Edge, edge_of, span_of}

@@ -13,7 +13,7 @@ use Rattle.theory_lists.specs.Members.{AllOfTwo}
 use Rattle.theory_lists.proofs.Members.{two_follow}
 use Rattle.theory_numbers.specs.Arrows.{Arrow, cross}
 use Rattle.theory_numbers.specs.Rationals.{rational, IsSame}
-use Rattle.theory_numbers.proofs.Rationals.{same_trans}
+use Rattle.theory_numbers.proofs.Fractions.Rationals.{same_trans}
 use Rattle.theory_numbers.proofs.Ring.{mul_comm}
 use Rattle.theory_numbers.proofs.Signs.{less_from}
 use Rattle.sb_fraction.specs.Spots.{Spot, IsSpot, spot_of}

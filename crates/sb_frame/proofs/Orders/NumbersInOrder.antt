@@ -7,10 +7,10 @@ use Rattle.std.specs.Ordering.{int_cmp, ordering_reverse}
 use Rattle.std.proofs.lemmas.Int.{ints, by_lt_z}
 use Rattle.theory_numbers.specs.Arrows.{Arrow, cross}
 use Rattle.theory_numbers.specs.Rationals.{rational, IsRational, IsBelow, IsSame, IsAtMost}
-use Rattle.theory_numbers.proofs.Arrows.{cross-turn}
+use Rattle.theory_numbers.proofs.Vectors.Arrows.{cross-turn}
 use Rattle.theory_numbers.proofs.Ring.{mul_comm}
-use Rattle.theory_numbers.proofs.Rationals.{below_trans, number_cases, same_sym, same_trans}
-use Rattle.theory_numbers.proofs.Rationals.{at_most_below_trans, below_at_most_trans}
+use Rattle.theory_numbers.proofs.Fractions.Rationals.{below_trans, number_cases, same_sym, same_trans}
+use Rattle.theory_numbers.proofs.Fractions.Rationals.{at_most_below_trans, below_at_most_trans}
 use Rattle.sb_fraction.specs.Numbers.{order_of}
 
 -- ---- by where two numbers lie

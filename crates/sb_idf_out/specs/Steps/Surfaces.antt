@@ -3,7 +3,7 @@
 use Rattle.std.specs.Prelude.{ℕ, suc, ◌++◌, List, [], ◌∷◌, codes, decimal}
 use Rattle.std.specs.List.{concat}
 use Rattle.sb_model.specs.declared.boundary.Boundary.{Boundary}
-use Rattle.sb_model.specs.declared.face.FaceKind.{FaceKind}
+use Rattle.sb_model.specs.declared.faces.face.FaceKind.{FaceKind}
 use Rattle.sb_model.specs.declared.products.FillKind.{FillKind}
 use Rattle.sb_model.specs.declared.walk.End.{End}
 use Rattle.sb_model.specs.Building.{Building}

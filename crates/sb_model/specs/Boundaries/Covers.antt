@@ -3,14 +3,14 @@
 
 use Rattle.std.specs.Prelude.{◌≡◌, Bool, ◌&&◌, List, Some, IsTrue}
 use Rattle.sb_model.specs.declared.boundary.Boundary.{Boundary}
-use Rattle.sb_model.specs.declared.face.FaceKind.{FaceKind}
+use Rattle.sb_model.specs.declared.faces.face.FaceKind.{FaceKind}
 use Rattle.sb_model.specs.declared.products.Space.{Space}
 use Rattle.sb_fraction.specs.Spots.{Spot, IsSpot}
 use Rattle.sb_model.specs.Building.{Building}
-use Rattle.sb_model.specs.Faces.{Surface, surface_of, is_in_plane, is_of_face, is_face_of}
-use Rattle.sb_model.specs.PlainPoints.{is_plain}
+use Rattle.sb_model.specs.Surfaces.Faces.{Surface, surface_of, is_in_plane, is_of_face, is_face_of}
+use Rattle.sb_model.specs.Surfaces.PlainPoints.{is_plain}
 use Rattle.sb_model.specs.Walks.{IsWalk}
-use Rattle.sb_model.specs.Patches.{is_in_patch, is_top_level, stands_on}
+use Rattle.sb_model.specs.Surfaces.Patches.{is_in_patch, is_top_level, stands_on}
 use Rattle.theory_lists.specs.Members.{Stands}
 use Rattle.theory_lists.specs.OneOf.{ExactlyOne}
 

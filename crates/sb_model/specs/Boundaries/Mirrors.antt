@@ -6,8 +6,8 @@ use Rattle.sb_model.specs.declared.walk.End.{End}
 use Rattle.sb_model.specs.declared.walk.End.TheVariants as end
 use Rattle.sb_fraction.specs.Spots.{opposite}
 use Rattle.sb_model.specs.Building.{Building}
-use Rattle.sb_model.specs.Faces.{Surface}
-use Rattle.sb_model.specs.Patches.{surface_at}
+use Rattle.sb_model.specs.Surfaces.Faces.{Surface}
+use Rattle.sb_model.specs.Surfaces.Patches.{surface_at}
 use Rattle.sb_model.specs.Boundaries.Places.{boundary_at}
 
 -- c has the key of the child b, and its parent is the pair of b's parent, which has this id

@@ -7,9 +7,9 @@ use Rattle.sb_model.specs.declared.boundary.Boundary.{Boundary}
 use Rattle.sb_model.specs.declared.products.Space.{Space}
 use Rattle.sb_fraction.specs.Spots.{Spot, IsSpot}
 use Rattle.sb_model.specs.Building.{Building}
-use Rattle.sb_model.specs.Faces.{Surface, surface_of, space_numbered}
-use Rattle.sb_model.specs.PlainPoints.{is_plain}
-use Rattle.sb_model.specs.Patches.{region_of, is_in_patch, is_child_of}
+use Rattle.sb_model.specs.Surfaces.Faces.{Surface, surface_of, space_numbered}
+use Rattle.sb_model.specs.Surfaces.PlainPoints.{is_plain}
+use Rattle.sb_model.specs.Surfaces.Patches.{region_of, is_in_patch, is_child_of}
 use Rattle.theory_lists.specs.Members.{Stands, AllOfTwo}
 use Rattle.sb_model.specs.Boundaries.Places.{boundary_at}
 use Rattle.theory_lists.specs.OneOf.{ExactlyOne, NoneOf}

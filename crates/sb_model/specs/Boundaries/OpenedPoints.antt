@@ -5,8 +5,8 @@ use Rattle.std.specs.List.{AllByRecursion}
 use Rattle.theory_numbers.specs.Arrows.{Arrow}
 use Rattle.theory_numbers.specs.Rationals.{IsRational, IsBelow}
 use Rattle.theory_cuttings.specs.Cuttings.{Break}
-use Rattle.sb_model.specs.declared.label.Label.{Label}
-use Rattle.sb_model.specs.declared.label.Label.TheVariants as label
+use Rattle.sb_model.specs.declared.labels.label.Label.{Label}
+use Rattle.sb_model.specs.declared.labels.label.Label.TheVariants as label
 use Rattle.sb_model.specs.declared.products.Filling.{Filling}
 use Rattle.sb_model.specs.declared.products.Opening.{Opening}
 use Rattle.sb_model.specs.declared.walk.End.{End}
@@ -15,7 +15,7 @@ use Rattle.sb_fraction.specs.Spots.{Spot}
 use Rattle.sb_model.specs.Solids.{is_in_solid}
 use Rattle.sb_model.specs.Building.{Building, has_number}
 use Rattle.sb_model.specs.Labels.{lowest}
-use Rattle.sb_model.specs.Faces.{Surface}
+use Rattle.sb_model.specs.Surfaces.Faces.{Surface}
 use Rattle.sb_model.specs.Passages.{Ray, ray_from, at_depth, ArePassages, passages_of, Piece}
 use Rattle.sb_model.specs.Passages.{pieces_of, start_of, end_of}
 use Rattle.sb_model.specs.Walks.{Course, Goes, stop_at}

@@ -6,11 +6,11 @@ use Rattle.theory_numbers.specs.Rationals.{IsRational, IsBelow, IsSame}
 use Rattle.theory_plane.specs.Sides.{clearance_at}
 use Rattle.theory_plane.specs.Regions.{is_spanned}
 use Rattle.sb_model.specs.declared.boundary.Boundary.{Boundary}
-use Rattle.sb_model.specs.declared.face.FaceKind.{FaceKind}
-use Rattle.sb_model.specs.declared.face.FaceKind.TheVariants as kind
-use Rattle.sb_model.specs.declared.patch.Patch.{Patch}
-use Rattle.sb_model.specs.Sides.{arrow_of, line_of}
-use Rattle.sb_model.specs.Patches.{region_of}
+use Rattle.sb_model.specs.declared.faces.face.FaceKind.{FaceKind}
+use Rattle.sb_model.specs.declared.faces.face.FaceKind.TheVariants as kind
+use Rattle.sb_model.specs.declared.patches.patch.Patch.{Patch}
+use Rattle.sb_model.specs.Surfaces.Sides.{arrow_of, line_of}
+use Rattle.sb_model.specs.Surfaces.Patches.{region_of}
 use Rattle.theory_lists.specs.Members.{AllOfTwo}
 use Rattle.sb_model.specs.Boundaries.Places.{boundary_at}
 

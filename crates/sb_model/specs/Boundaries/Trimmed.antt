@@ -5,11 +5,11 @@ use Rattle.theory_numbers.specs.Arrows.{Arrow}
 use Rattle.theory_numbers.specs.Rationals.{IsRational}
 use Rattle.theory_plane.specs.Regions.{IsCommon, is_seam}
 use Rattle.sb_model.specs.declared.boundary.Boundary.{Boundary}
-use Rattle.sb_model.specs.declared.patch.Patch.{Patch}
+use Rattle.sb_model.specs.declared.patches.patch.Patch.{Patch}
 use Rattle.sb_model.specs.Building.{Building}
 use Rattle.sb_model.specs.PlanEdges.{is_abscissa}
-use Rattle.sb_model.specs.Faces.{Surface}
-use Rattle.sb_model.specs.Patches.{region_of, surface_at}
+use Rattle.sb_model.specs.Surfaces.Faces.{Surface}
+use Rattle.sb_model.specs.Surfaces.Patches.{region_of, surface_at}
 use Rattle.theory_lists.specs.Members.{AllOfTwo}
 
 -- two patches of one face

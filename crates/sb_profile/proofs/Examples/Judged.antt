@@ -5,7 +5,7 @@ use Rattle.std.proofs.lemmas.Bool.{false≢true}
 use Rattle.sb_fraction.specs.declared.unit.Unit.TheVariants as units
 use Rattle.sb_profile.specs.declared.defects.Code.TheVariants as code
 use Rattle.sb_profile.specs.declared.defects.Defect.{Defect}
-use Rattle.sb_profile.specs.declared.places.Place.TheVariants as place
+use Rattle.sb_profile.specs.declared.following.places.Place.TheVariants as place
 use Rattle.sb_schema.specs.Table.{is_one_of}
 use Rattle.sb_profile.specs.Contents.{Contents}
 use Rattle.sb_profile.specs.Lowest.{IsLowest}

@@ -5,7 +5,7 @@ use Rattle.sb_fraction.specs.declared.unit.Unit.TheVariants as units
 use Rattle.sb_step.specs.declared.parameters.param.Param.{Param}
 use Rattle.sb_step.specs.declared.parameters.param.Param.TheVariants as param
 use Rattle.sb_step.specs.declared.parameters.param.Param.TheViews.{outs-List, outs-Null}
-use Rattle.sb_step.specs.Forms.{reference_in}
+use Rattle.sb_step.specs.Cursors.Forms.{reference_in}
 use Rattle.sb_schema.specs.Forms.{items_of}
 use Rattle.sb_profile.specs.Contents.{Contents}
 use Rattle.sb_profile.specs.Units.{assignment, is_length_unit, only_one, unit_of, unit_in}

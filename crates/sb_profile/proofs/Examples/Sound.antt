@@ -7,11 +7,11 @@ use Rattle.theory_lists.specs.Members.{Stands}
 use Rattle.sb_fraction.specs.declared.unit.Unit.TheVariants as units
 use Rattle.sb_step.specs.declared.parameters.param.Param.TheVariants as param
 use Rattle.sb_step.specs.declared.parameters.param.Param.TheViews.{outs-List}
-use Rattle.sb_step.specs.Forms.{reference_in}
+use Rattle.sb_step.specs.Cursors.Forms.{reference_in}
 use Rattle.sb_schema.specs.Forms.{items_of}
 use Rattle.sb_schema.specs.Table.{is_one_of}
-use Rattle.sb_profile.specs.declared.places.Place.{Place}
-use Rattle.sb_profile.specs.declared.places.Place.TheVariants as place
+use Rattle.sb_profile.specs.declared.following.places.Place.{Place}
+use Rattle.sb_profile.specs.declared.following.places.Place.TheVariants as place
 use Rattle.sb_profile.specs.Entities.{Entity, row_of, roots, wanted_at}
 use Rattle.sb_profile.specs.Entities.Entity.{product_definition_shape}
 use Rattle.sb_profile.specs.Contents.{Contents, has_keyword, is_absent}
@@ -24,7 +24,7 @@ use Rattle.sb_profile.specs.Defects.{refused_classes, Occurs, file_codes}
 use Rattle.sb_profile.specs.Defects.{IsAbsentFollowed}
 use Rattle.sb_profile.specs.First.{IsFirst}
 use Rattle.sb_profile.specs.Steps.Found.{any_unfit}
-use Rattle.sb_profile.proofs.AllIsRead.{any_unfit_from, both_true}
+use Rattle.sb_profile.proofs.Verdicts.AllIsRead.{any_unfit_from, both_true}
 use Rattle.sb_profile.proofs.Examples.Files.{Tables, file_of, no_tables}
 
 abbrev Row : Type 0

@@ -5,9 +5,9 @@ use Rattle.std.specs.Ordering.{nat_cmp}
 use Rattle.std.specs.BTreeSet.{contains}
 use Rattle.theory_lists.specs.Members.{Stands}
 use Rattle.sb_schema.specs.declared.entities.placements.LocalPlacement.{LocalPlacement}
-use Rattle.sb_profile.specs.declared.chains.Chain.{Chain}
-use Rattle.sb_profile.specs.declared.found.Found.{Found}
-use Rattle.sb_profile.specs.declared.places.Place.TheVariants as place
+use Rattle.sb_profile.specs.declared.following.chains.Chain.{Chain}
+use Rattle.sb_profile.specs.declared.following.found.Found.{Found}
+use Rattle.sb_profile.specs.declared.following.places.Place.TheVariants as place
 use Rattle.sb_profile.specs.Contents.{Contents}
 use Rattle.sb_profile.specs.Steps.Found.{FindsEach}
 use Rattle.sb_profile.specs.Following.{below_building, parent_of, IsInChain, longest_chain}

@@ -1,7 +1,7 @@
 -- Whether a number is the only one, as it is counted.
 use Rattle.std.specs.Prelude.{ℕ, Bool, List, [], ◌∷◌, Option, Some, None, if◌then◌else◌}
-use Rattle.sb_profile.specs.declared.units.Only.{Only}
-use Rattle.sb_profile.specs.declared.units.Only.TheVariants as only
+use Rattle.sb_profile.specs.declared.reading.units.Only.{Only}
+use Rattle.sb_profile.specs.declared.reading.units.Only.TheVariants as only
 
 -- with one more
 abbrev pub one_more : ℕ → Only → Only

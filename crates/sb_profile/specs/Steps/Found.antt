@@ -4,9 +4,9 @@ use Rattle.std.specs.Prelude.{◌≡◌, ℕ, Bool, true, false, ◌||◌, List,
 use Rattle.std.specs.List.{flat_map}
 use Rattle.sb_schema.specs.declared.entities.shapes.ProductDefinitionShape.{ProductDefinitionShape}
 use Rattle.sb_schema.specs.Table.{Values}
-use Rattle.sb_profile.specs.declared.found.Found.{Found}
-use Rattle.sb_profile.specs.declared.places.Place.{Place}
-use Rattle.sb_profile.specs.declared.places.Place.TheVariants as place
+use Rattle.sb_profile.specs.declared.following.found.Found.{Found}
+use Rattle.sb_profile.specs.declared.following.places.Place.{Place}
+use Rattle.sb_profile.specs.declared.following.places.Place.TheVariants as place
 use Rattle.sb_profile.specs.Entities.{Entity, row_of, wanted_at}
 use Rattle.sb_profile.specs.Entities.Entity.{product_definition_shape}
 use Rattle.sb_profile.specs.Contents.{Contents, is_unfit, is_absent}

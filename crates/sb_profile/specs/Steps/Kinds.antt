@@ -3,7 +3,7 @@ use Rattle.std.specs.Prelude.{◌≡◌, ℕ, ◌==◌, Bool, false, ◌&&◌, �
 use Rattle.std.specs.Option.{option_map_or}
 use Rattle.sb_schema.specs.Table.{is_one_of}
 use Rattle.sb_schema.specs.Rows as rows
-use Rattle.sb_profile.specs.declared.kinds.Kinds.{Kinds}
+use Rattle.sb_profile.specs.declared.reading.kinds.Kinds.{Kinds}
 use Rattle.sb_profile.specs.Entities.Entity.{building, space, opening_filling, rel_voids_element, rel_fills_element, rel_associates_material, rel_defines_by_type}
 use Rattle.sb_profile.specs.Contents.{Contents, has_keyword}
 use Rattle.sb_profile.specs.Products.{is_of_openings}

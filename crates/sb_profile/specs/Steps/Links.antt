@@ -2,7 +2,7 @@
 -- after another.
 use Rattle.std.specs.Prelude.{ℕ, nat_eq, nat_lt, Bool, List, [], ◌∷◌, Option, Some, None, ◌&&◌, if◌then◌else◌}
 use Rattle.std.specs.List.{list_any}
-use Rattle.sb_profile.specs.declared.links.Link.{Link}
+use Rattle.sb_profile.specs.declared.reading.links.Link.{Link}
 use Rattle.sb_profile.specs.Lowest.{lower_of}
 use Rattle.sb_profile.specs.Materials.{Listing}
 

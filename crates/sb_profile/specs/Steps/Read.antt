@@ -6,13 +6,13 @@ use Rattle.std.specs.Option.{option_or, option_map_or}
 use Rattle.std.specs.Ordering.{nat_cmp}
 use Rattle.std.specs.BTreeMap.{get, BTreeMap}
 use Rattle.theory_lists.specs.Members.{Stands}
-use Rattle.sb_profile.specs.declared.kinds.Kinds.{Kinds}
-use Rattle.sb_profile.specs.declared.links.Link.{Link}
-use Rattle.sb_profile.specs.declared.products.Shaped.{Shaped}
+use Rattle.sb_profile.specs.declared.reading.kinds.Kinds.{Kinds}
+use Rattle.sb_profile.specs.declared.reading.links.Link.{Link}
+use Rattle.sb_profile.specs.declared.reading.products.Shaped.{Shaped}
 use Rattle.sb_profile.specs.declared.tables.Tables.{Tables}
 use Rattle.sb_profile.specs.declared.first.Whole.{Whole}
-use Rattle.sb_profile.specs.declared.places.Place.{Place}
-use Rattle.sb_profile.specs.declared.places.Place.TheVariants as place
+use Rattle.sb_profile.specs.declared.following.places.Place.{Place}
+use Rattle.sb_profile.specs.declared.following.places.Place.TheVariants as place
 use Rattle.sb_profile.specs.declared.defects.Code.{Code}
 use Rattle.sb_profile.specs.declared.defects.Code.TheVariants as code
 use Rattle.sb_profile.specs.Entities.Entity.{building, space, product, product_definition_shape, opening_filling, rel_voids_element, rel_fills_element, rel_associates_material, rel_defines_by_type}
@@ -20,7 +20,7 @@ use Rattle.sb_profile.specs.Contents.{Contents, is_unfit, is_absent}
 use Rattle.sb_profile.specs.Products.{is_space, is_element, is_opening, is_taken, placement_of, shape_of, element_of, opening_of}
 use Rattle.sb_profile.specs.Materials.{own_material, type_of, material_of}
 use Rattle.sb_profile.specs.Following.{Lead, to, to_each, below, building_placement, IsFollowed}
-use Rattle.sb_profile.specs.declared.found.Found.{Found}
+use Rattle.sb_profile.specs.declared.following.found.Found.{Found}
 use Rattle.sb_profile.specs.Steps.Links.{lowered}
 use Rattle.sb_profile.specs.Steps.Found.{leads_with, is_unfit_at}
 use Rattle.sb_profile.specs.declared.defects.Defect.{Defect}

@@ -1,6 +1,6 @@
 -- Products with shapes, as they are listed.
 use Rattle.std.specs.Prelude.{ℕ, Option, option_map, option_and_then}
-use Rattle.sb_profile.specs.declared.products.Shaped.{Shaped}
+use Rattle.sb_profile.specs.declared.reading.products.Shaped.{Shaped}
 use Rattle.sb_profile.specs.Entities.Entity.{space, product}
 use Rattle.sb_profile.specs.Contents.{Contents}
 

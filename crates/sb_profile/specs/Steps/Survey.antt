@@ -1,9 +1,9 @@
 -- Places in an order in which an instance leads to later places only, and what is found at each.
 use Rattle.std.specs.Prelude.{◌≡◌, ℕ, ◌==◌, ◌<◌, Bool, true, List, [], ◌⊎◌, filter, map, Option, Some, None}
 use Rattle.theory_lists.specs.Members.{Stands}
-use Rattle.sb_profile.specs.declared.found.Found.{Found}
-use Rattle.sb_profile.specs.declared.places.Place.{Place}
-use Rattle.sb_profile.specs.declared.places.Place.TheVariants as place
+use Rattle.sb_profile.specs.declared.following.found.Found.{Found}
+use Rattle.sb_profile.specs.declared.following.places.Place.{Place}
+use Rattle.sb_profile.specs.declared.following.places.Place.TheVariants as place
 use Rattle.sb_profile.specs.Contents.{Contents, is_absent}
 use Rattle.sb_profile.specs.Lowest.{IsLowest}
 use Rattle.sb_profile.specs.Following.{Lead, leads, IsFollowed}

@@ -1,12 +1,12 @@
 // Materials and layers.
 ghost use Rattle.std.specs.Prelude.{[], ◌∷◌};
 ghost use Rattle.sb_schema.specs.Views.Taking.{with_memory};
-ghost use Rattle.sb_profile.specs.declared.places.Place.TheVariants as place;
+ghost use Rattle.sb_profile.specs.declared.following.places.Place.TheVariants as place;
 ghost use Rattle.sb_profile.specs.Entities.Entity.{material, material_layer, material_layer_set, material_layer_set_usage};
 ghost use Rattle.sb_profile.specs.Following.{to, to_each};
 
-use crate::found::{Found, lead, lead_each, lead_to};
-use crate::places::Place;
+use crate::following::found::{Found, lead, lead_each, lead_to};
+use crate::following::places::Place;
 use crate::sights::Seen;
 use sb_schema as views;
 use sb_schema::{Material, MaterialLayer, MaterialLayerSet, MaterialLayerSetUsage, ViewError};

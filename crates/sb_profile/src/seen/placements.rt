@@ -1,12 +1,12 @@
 // Placements, positions, points and directions.
 ghost use Rattle.std.specs.Prelude.{[], ◌∷◌, ◌++◌};
 ghost use Rattle.sb_schema.specs.Views.Taking.{with_memory, without_memory};
-ghost use Rattle.sb_profile.specs.declared.places.Place.TheVariants as place;
+ghost use Rattle.sb_profile.specs.declared.following.places.Place.TheVariants as place;
 ghost use Rattle.sb_profile.specs.Entities.Entity.{local_placement, axis2_placement_3d, axis2_placement_2d, cartesian_point, direction};
 ghost use Rattle.sb_profile.specs.Following.{to};
 
-use crate::found::{Found, lead, lead_to};
-use crate::places::Place;
+use crate::following::found::{Found, lead, lead_to};
+use crate::following::places::Place;
 use crate::sights::Seen;
 use sb_schema as views;
 use sb_schema::{

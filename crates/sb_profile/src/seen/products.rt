@@ -3,7 +3,7 @@ ghost use Rattle.std.specs.Prelude.{[]};
 ghost use Rattle.sb_schema.specs.Views.Taking.{with_memory, without_memory};
 ghost use Rattle.sb_profile.specs.Entities.Entity.{building, space, product, opening_filling};
 
-use crate::found::Found;
+use crate::following::found::Found;
 use crate::sights::Seen;
 use sb_schema as views;
 use sb_schema::{Building, OpeningFilling, Product, Space, ViewError};

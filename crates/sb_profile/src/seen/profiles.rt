@@ -1,12 +1,12 @@
 // Profiles and curves.
 ghost use Rattle.std.specs.Prelude.{[], ◌∷◌};
 ghost use Rattle.sb_schema.specs.Views.Taking.{with_memory, without_memory};
-ghost use Rattle.sb_profile.specs.declared.places.Place.TheVariants as place;
+ghost use Rattle.sb_profile.specs.declared.following.places.Place.TheVariants as place;
 ghost use Rattle.sb_profile.specs.Entities.Entity.{rectangle_profile_def, arbitrary_closed_profile_def, arbitrary_profile_def_with_voids, polyline, indexed_poly_curve, cartesian_point_list_2d};
 ghost use Rattle.sb_profile.specs.Following.{to, to_each};
 
-use crate::found::{Found, lead, lead_each, lead_lent, lead_to};
-use crate::places::Place;
+use crate::following::found::{Found, lead, lead_each, lead_lent, lead_to};
+use crate::following::places::Place;
 use crate::sights::Seen;
 use sb_schema as views;
 use sb_schema::{

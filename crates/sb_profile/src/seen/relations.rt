@@ -3,7 +3,7 @@ ghost use Rattle.std.specs.Prelude.{[]};
 ghost use Rattle.sb_schema.specs.Views.Taking.{without_memory};
 ghost use Rattle.sb_profile.specs.Entities.Entity.{rel_voids_element, rel_fills_element, rel_associates_material, rel_defines_by_type};
 
-use crate::found::Found;
+use crate::following::found::Found;
 use crate::sights::Seen;
 use sb_schema as views;
 use sb_schema::{

@@ -1,12 +1,12 @@
 // Shapes, their representations and solids. The bodies of a shape are found apart.
 ghost use Rattle.std.specs.Prelude.{[], ◌∷◌};
 ghost use Rattle.sb_schema.specs.Views.Taking.{with_memory};
-ghost use Rattle.sb_profile.specs.declared.places.Place.TheVariants as place;
+ghost use Rattle.sb_profile.specs.declared.following.places.Place.TheVariants as place;
 ghost use Rattle.sb_profile.specs.Entities.Entity.{product_definition_shape, shape_representation, extruded_area_solid};
 ghost use Rattle.sb_profile.specs.Following.{to, to_each};
 
-use crate::found::{Found, lead, lead_each, lead_to};
-use crate::places::Place;
+use crate::following::found::{Found, lead, lead_each, lead_to};
+use crate::following::places::Place;
 use crate::sights::Seen;
 use sb_schema as views;
 use sb_schema::{ExtrudedAreaSolid, ProductDefinitionShape, ShapeRepresentation, ViewError};

@@ -16,7 +16,7 @@ use Rattle.theory_plans.specs.LoopEdges.{edges_of}
 use Rattle.theory_plans.specs.Loops.{bend, is_bent, are_bent, is_bent_loop, comes_before}
 use Rattle.theory_plans.specs.Rectangles.{corner, rectangle}
 use Rattle.theory_plans.specs.Plans.{is_same_point, are_apart, is_plan}
-use Rattle.theory_plans.proofs.EdgesOfPlans.{same_point, bent_is_not_0, plan_is}
+use Rattle.theory_plans.proofs.Edges.EdgesOfPlans.{same_point, bent_is_not_0, plan_is}
 use Rattle.theory_plans.proofs.RectangleIsPlan.{sides_make_rectangle, rectangle_is_plan}
 use Rattle.theory_parity.specs.Sides.{turned_loop, is_left_at_first, put_left}
 use Rattle.theory_loops.specs.Normal.{normal_loop, dropped}

@@ -7,7 +7,7 @@ use Rattle.sb_step.specs.declared.parameters.param.Param.{Param}
 use Rattle.sb_step.specs.Lexemes.{Lexeme, lexeme_at, is_close}
 use Rattle.sb_step.specs.Params.Parameters.{AreParameters}
 use Rattle.sb_step.specs.Params.Readers.{HasNext, ReadsToken, AreAhead, Awaits, AreInList, behind}
-use Rattle.sb_step.specs.Cursor.{StandsAt, AreLeft, ListBehind, unless_closed}
+use Rattle.sb_step.specs.Cursors.Cursor.{StandsAt, AreLeft, ListBehind, unless_closed}
 use Rattle.sb_step.proofs.Texts.ListsAreFollowed.{not_closed}
 use Rattle.sb_step.proofs.ParameterLists.SaidIsParameter.{said_parameter}
 use Rattle.sb_step.proofs.ParameterLists.ParametersAreRead.{passes, input_stays, nothing_in_list}

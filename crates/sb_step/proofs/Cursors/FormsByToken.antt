@@ -14,8 +14,8 @@ use Rattle.sb_step.specs.Params.Parameters.{Says, Encloses}
 use Rattle.sb_lex.specs.Bytes as byte
 use Rattle.theory_bytes.specs.Insides.{inside_of}
 use Rattle.theory_bytes.proofs.InsidesAreBetween.{inside-between}
-use Rattle.sb_step.specs.Cursor.{StandsAt, ListBehind}
-use Rattle.sb_step.specs.Forms.{reference_in, reference_or_none_in, number_in, integer_in, enumeration_in, is_null_in, is_dollar, name_of, name_or_none_of, number_text, integer_text, enumeration_text}
+use Rattle.sb_step.specs.Cursors.Cursor.{StandsAt, ListBehind}
+use Rattle.sb_step.specs.Cursors.Forms.{reference_in, reference_or_none_in, number_in, integer_in, enumeration_in, is_null_in, is_dollar, name_of, name_or_none_of, number_text, integer_text, enumeration_text}
 use Rattle.sb_step.proofs.KindsSay.{mark_says}
 use Rattle.sb_step.proofs.ParameterLists.WhatListsSay.{SaysOn, TypedSays, says_on, list_on_mark}
 use Rattle.sb_step.proofs.ParameterLists.ParametersAreUnique.{parameter_once}

@@ -11,7 +11,7 @@ use Rattle.sb_step.specs.Params.Parameters.AreParameters.{empty, some}
 use Rattle.sb_step.specs.Params.Readers.{AreInList, behind}
 use Rattle.std.specs.Coded.{Coded-set, coded_list}
 use Rattle.sb_step.specs.contracts.parameters.param.Param as param
-use Rattle.sb_step.specs.Cursor.{AreLeft, LeftAreUnique, Left, left_once}
+use Rattle.sb_step.specs.Cursors.Cursor.{AreLeft, LeftAreUnique, Left, left_once}
 use Rattle.sb_step.proofs.ParameterLists.ParametersOfAnInstance.{ahead_once}
 use Rattle.sb_step.proofs.ParameterLists.ParametersAreUnique.{parameters_are_unique}
 

@@ -11,8 +11,8 @@ use Rattle.sb_step.specs.KindTests.{is_keyword, is_comma}
 use Rattle.sb_step.specs.Params.Parameters.{IsParameter, AreFurther}
 use Rattle.sb_step.specs.Params.Parameters.AreFurther.{last, more}
 use Rattle.sb_step.specs.Params.Readers.{HasNext, ReadsToken, AreAhead, Awaits, Behind, behind}
-use Rattle.sb_step.specs.Cursor.{StandsAt, AreLeft}
-use Rattle.sb_step.specs.Passing.{depth_behind, Closes, StillOpen, Opens, HasClosed, PassesOver, Leaves}
+use Rattle.sb_step.specs.Cursors.Cursor.{StandsAt, AreLeft}
+use Rattle.sb_step.specs.Cursors.Passing.{depth_behind, Closes, StillOpen, Opens, HasClosed, PassesOver, Leaves}
 use Rattle.sb_step.proofs.KindsSay.{mark_says}
 use Rattle.sb_step.proofs.Texts.ListsAreFollowed.{not_closed}
 use Rattle.sb_step.proofs.ParameterLists.SaidIsParameter.{said_parameter}

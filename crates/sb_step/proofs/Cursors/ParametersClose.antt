@@ -11,7 +11,7 @@ use Rattle.sb_step.specs.Grammar.Parameter.{value, list, typed}
 use Rattle.sb_step.specs.Grammar.ParameterList.{empty, some}
 use Rattle.sb_step.specs.Grammar.MoreParameters.{last, more}
 use Rattle.sb_step.specs.Params.Readers.{AreInList}
-use Rattle.sb_step.specs.Passing.{depth_behind, Closes}
+use Rattle.sb_step.specs.Cursors.Passing.{depth_behind, Closes}
 use Rattle.sb_step.proofs.ParameterLists.SaidIsParameter.{said_parameter, said_further}
 
 -- a value leaves as many open as there were

@@ -15,8 +15,8 @@ use Rattle.sb_step.specs.Params.Parameters.IsParameter.{value, list, typed}
 use Rattle.sb_step.specs.Params.Parameters.AreParameters.{empty, some}
 use Rattle.sb_step.specs.Params.Parameters.AreFurther.{last}
 use Rattle.sb_step.specs.Params.Readers.{HasNext, ReadsToken, AreAhead, AreInList, behind}
-use Rattle.sb_step.specs.Cursor.{StandsAt, ListBehind}
-use Rattle.sb_step.specs.Forms.{IsTyped}
+use Rattle.sb_step.specs.Cursors.Cursor.{StandsAt, ListBehind}
+use Rattle.sb_step.specs.Cursors.Forms.{IsTyped}
 use Rattle.sb_step.proofs.ParameterLists.SaidIsParameter.{says_value}
 use Rattle.sb_step.proofs.ParameterLists.ParametersAreRead.{passes}
 

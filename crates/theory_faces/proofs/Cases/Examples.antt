@@ -3,8 +3,8 @@ use Rattle.std.proofs.Common.{◌≡◌, refl, ℕ, ℤ, pos, negsuc, List, [], 
 use Rattle.theory_numbers.specs.Arrows.{cross}
 use Rattle.theory_numbers.specs.Rationals.{rational}
 use Rattle.theory_plane.specs.Sides.{LineSide, line, level}
-use Rattle.sb_model.specs.declared.face.FaceKind.{FaceKind}
-use Rattle.sb_model.specs.declared.face.FaceKind.TheVariants as kind
+use Rattle.sb_model.specs.declared.faces.face.FaceKind.{FaceKind}
+use Rattle.sb_model.specs.declared.faces.face.FaceKind.TheVariants as kind
 use Rattle.sb_model.specs.declared.walk.End.{End}
 use Rattle.sb_model.specs.declared.walk.End.TheVariants as end
 use Rattle.sb_model.specs.declared.walk.Item.{Item}

@@ -10,7 +10,7 @@ use Rattle.theory_plane.specs.Regions.{is_inside, is_spanned}
 use Rattle.theory_plans.specs.Rectangles.{rectangle}
 use Rattle.theory_plans.proofs.InsideRectangle.{inside_rectangle}
 use Rattle.sb_model.specs.PlanEdges.{PlanEdge, plan_edges}
-use Rattle.sb_model.specs.FineCells.{way_x, IsOfSpanning, IsLevelPiece}
+use Rattle.sb_model.specs.Surfaces.FineCells.{way_x, IsOfSpanning, IsLevelPiece}
 use Rattle.std.proofs.Common.{◌≡◌, refl, ◌∙◌, ap, arith, ℕ, ℤ, pos, ◌<ℤ◌, true}
 use Rattle.std.proofs.Common.{false}
 use Rattle.std.proofs.lemmas.Int.{ints}
@@ -25,7 +25,7 @@ use Rattle.sb_fraction.specs.Edges.{edge}
 use Rattle.sb_fraction.specs.Directions.{axis_x, direction_of, runs_along, step}
 use Rattle.sb_fraction.specs.Lines.{span_along, line_over}
 use Rattle.sb_fraction.specs.declared.point.Point.{Point}
-use Rattle.sb_model.specs.FineCells.{is_across_slab, is_cut_height, IsUprightPiece, IsLineOf}
+use Rattle.sb_model.specs.Surfaces.FineCells.{is_across_slab, is_cut_height, IsUprightPiece, IsLineOf}
 use Rattle.theory_models.proofs.ExampleModels.{plan_point, block, box}
 
 -- ---- which edges span a slab

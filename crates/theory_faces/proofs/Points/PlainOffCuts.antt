@@ -15,8 +15,8 @@ use Rattle.theory_lists.proofs.Members.{all_stands, any_stands, one_of_any}
 use Rattle.theory_lists.proofs.Parity.{differ-opposite}
 use Rattle.theory_numbers.specs.Arrows.{Arrow, cross}
 use Rattle.theory_numbers.specs.Rationals.{IsRational, IsBelow, IsZeroForm, rational}
-use Rattle.theory_numbers.proofs.Lengths.{parted}
-use Rattle.theory_numbers.proofs.Rationals.{at_most_from_below}
+use Rattle.theory_numbers.proofs.Vectors.Lengths.{parted}
+use Rattle.theory_numbers.proofs.Fractions.Rationals.{at_most_from_below}
 use Rattle.theory_numbers.proofs.Signs.{at_most_from}
 use Rattle.theory_plane.specs.Sides.{LineSide, level, clearance}
 use Rattle.theory_plane.specs.Points.{FacePoint, face_point, abscissa_of, is_on_side}
@@ -26,17 +26,17 @@ use Rattle.sb_fraction.specs.Crossings.{abscissa_at, ends_over, cross_over}
 use Rattle.sb_fraction.specs.Directions.{axis_x, direction_of}
 use Rattle.sb_fraction.specs.Lines.{line_over, reaches_past, flat}
 use Rattle.theory_plans.specs.Rays.{is_left_of}
-use Rattle.sb_model.specs.declared.face.FaceKind.{FaceKind}
-use Rattle.sb_model.specs.declared.face.FaceKind.TheVariants as kind
+use Rattle.sb_model.specs.declared.faces.face.FaceKind.{FaceKind}
+use Rattle.sb_model.specs.declared.faces.face.FaceKind.TheVariants as kind
 use Rattle.sb_model.specs.Solids.{Upright}
 use Rattle.sb_model.specs.Building.{Building}
 use Rattle.sb_model.specs.PlanEdges.{Product, PlanEdge, plan_edges, products_of, is_abscissa}
-use Rattle.sb_model.specs.Faces.{Surface, edge_numbered, side_of, on_face, is_of_face}
-use Rattle.sb_model.specs.PlainPoints.{is_off_cuts, is_off_side_cuts, is_off_level_cuts}
-use Rattle.sb_model.specs.PlainPoints.{is_on_plan_edge, is_at_height, is_at_ground}
-use Rattle.sb_model.specs.FineCells.{AreNeighbours, way_x, is_across_slab, is_cut_height}
+use Rattle.sb_model.specs.Surfaces.Faces.{Surface, edge_numbered, side_of, on_face, is_of_face}
+use Rattle.sb_model.specs.Surfaces.PlainPoints.{is_off_cuts, is_off_side_cuts, is_off_level_cuts}
+use Rattle.sb_model.specs.Surfaces.PlainPoints.{is_on_plan_edge, is_at_height, is_at_ground}
+use Rattle.sb_model.specs.Surfaces.FineCells.{AreNeighbours, way_x, is_across_slab, is_cut_height}
 use Rattle.theory_parity.specs.Below.{down_from, abscissa_in}
-use Rattle.theory_parity.proofs.InsideByBelow.{beyond_is_left, beyond_by_turn}
+use Rattle.theory_parity.proofs.Rays.InsideByBelow.{beyond_is_left, beyond_by_turn}
 use Rattle.theory_parity.proofs.OnLineOver.{on_line_over}
 use Rattle.theory_models.proofs.AbscissaeListed.{no_abscissa_is_none, none_is_no_abscissa}
 use Rattle.theory_lines.specs.Slabs.{IsSlab}

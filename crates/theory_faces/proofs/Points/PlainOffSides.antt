@@ -15,8 +15,8 @@ use Rattle.theory_lists.proofs.Members.{any_stands, one_of_any}
 use Rattle.theory_lists.proofs.Parity.{opposite_from_differ}
 use Rattle.theory_numbers.specs.Arrows.{Arrow, cross, dot}
 use Rattle.theory_numbers.specs.Rationals.{IsRational, IsBelow}
-use Rattle.theory_numbers.proofs.Lengths.{opposed}
-use Rattle.theory_numbers.proofs.Rationals.{same_sym, same_trans, at_most_from_below}
+use Rattle.theory_numbers.proofs.Vectors.Lengths.{opposed}
+use Rattle.theory_numbers.proofs.Fractions.Rationals.{same_sym, same_trans, at_most_from_below}
 use Rattle.theory_numbers.proofs.Signs.{test_at_most}
 use Rattle.theory_plane.specs.Sides.{LineSide, IsLineSide, level, value_on}
 use Rattle.theory_plane.specs.Points.{FacePoint, face_point, abscissa_of, is_on_side}
@@ -30,19 +30,19 @@ use Rattle.sb_fraction.specs.Edges.{Edge, turn_at, reach_at, is_on, seen_from}
 use Rattle.sb_fraction.specs.Directions.{axis_x, axis_y, axis_z, direction_of}
 use Rattle.sb_fraction.specs.Lines.{in_frame, line_over, reaches_past}
 use Rattle.theory_plans.specs.Rays.{is_left_of}
-use Rattle.sb_model.specs.declared.face.FaceKind.{FaceKind}
-use Rattle.sb_model.specs.declared.face.FaceKind.TheVariants as kind
+use Rattle.sb_model.specs.declared.faces.face.FaceKind.{FaceKind}
+use Rattle.sb_model.specs.declared.faces.face.FaceKind.TheVariants as kind
 use Rattle.sb_model.specs.Solids.{Upright}
 use Rattle.sb_model.specs.Building.{Building}
 use Rattle.sb_model.specs.PlanEdges.{Product, plan_edges, products_of}
 use Rattle.sb_model.specs.PlanEdges.{is_abscissa}
-use Rattle.sb_model.specs.Faces.{Surface, surface_of, edge_numbered, on_face, is_of_face, side_of}
-use Rattle.sb_model.specs.PlainPoints.{is_plain, is_on_plan_edge, is_off_cuts, is_at_height}
-use Rattle.sb_model.specs.PlainPoints.{is_at_ground, is_off_side_cuts, is_off_level_cuts}
-use Rattle.sb_model.specs.FineCells.{way_x, IsOfSpanning, is_cut_height, IsPieceOf}
-use Rattle.sb_model.specs.FineCells.{IsPieceOver}
+use Rattle.sb_model.specs.Surfaces.Faces.{Surface, surface_of, edge_numbered, on_face, is_of_face, side_of}
+use Rattle.sb_model.specs.Surfaces.PlainPoints.{is_plain, is_on_plan_edge, is_off_cuts, is_at_height}
+use Rattle.sb_model.specs.Surfaces.PlainPoints.{is_at_ground, is_off_side_cuts, is_off_level_cuts}
+use Rattle.sb_model.specs.Surfaces.FineCells.{way_x, IsOfSpanning, is_cut_height, IsPieceOf}
+use Rattle.sb_model.specs.Surfaces.FineCells.{IsPieceOver}
 use Rattle.theory_parity.specs.Below.{down_from, abscissa_in}
-use Rattle.theory_parity.proofs.InsideByBelow.{beyond_is_left}
+use Rattle.theory_parity.proofs.Rays.InsideByBelow.{beyond_is_left}
 use Rattle.theory_parity.proofs.OnLineOver.{on_line_over}
 use Rattle.theory_lines.proofs.EdgesOverASlab.{spanning_reaches}
 use Rattle.theory_lines.proofs.OneLiesBelow.{spanning_is_line}

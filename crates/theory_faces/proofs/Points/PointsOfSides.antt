@@ -8,10 +8,10 @@ use Rattle.std.proofs.lemmas.Bool.Decides.{Decides-int_eq}
 use Rattle.theory_lists.specs.Parity.{differ}
 use Rattle.theory_numbers.specs.Arrows.{Arrow, arrow, cross, dot}
 use Rattle.theory_numbers.specs.Rationals.{IsRational, IsBelow, IsAtMost, is_at_most}
-use Rattle.theory_numbers.proofs.Arrows.{cross-turn}
+use Rattle.theory_numbers.proofs.Vectors.Arrows.{cross-turn}
 use Rattle.theory_numbers.proofs.Products.{weak_product}
-use Rattle.theory_numbers.proofs.Rationals.{below_at_most_trans, at_most_below_trans}
-use Rattle.theory_numbers.proofs.Rationals.{at_most_from_below, below_irrefl}
+use Rattle.theory_numbers.proofs.Fractions.Rationals.{below_at_most_trans, at_most_below_trans}
+use Rattle.theory_numbers.proofs.Fractions.Rationals.{at_most_from_below, below_irrefl}
 use Rattle.theory_numbers.proofs.Ring.{mul-zero}
 use Rattle.theory_numbers.proofs.Shapes.{var, num, plus, minus, negated, times, equal, dot_by}
 use Rattle.theory_numbers.proofs.Signs.{at_most_from, test_at_most, test_less, test_not_less}
@@ -24,12 +24,12 @@ use Rattle.sb_fraction.specs.Spots.{Spot, IsSpot, Vector, vector, times_w}
 use Rattle.sb_fraction.specs.Edges.{Edge, turn_at, is_on}
 use Rattle.sb_fraction.specs.Directions.{axis_z, direction_of, normal_over, step}
 use Rattle.sb_fraction.specs.Lines.{flat, reaches_past}
-use Rattle.theory_plans.proofs.StepsOfEdges.{IsStep, direction_is_level}
+use Rattle.theory_plans.proofs.Edges.StepsOfEdges.{IsStep, direction_is_level}
 use Rattle.sb_model.specs.Solids.{Upright, is_between_heights}
-use Rattle.sb_model.specs.Faces.{side_over, on_face, is_in_plane}
-use Rattle.sb_model.specs.FineCells.{number_at, leads_over, is_across_slab}
+use Rattle.sb_model.specs.Surfaces.Faces.{side_over, on_face, is_in_plane}
+use Rattle.sb_model.specs.Surfaces.FineCells.{number_at, leads_over, is_across_slab}
 use Rattle.theory_parity.specs.Below.{abscissa_in}
-use Rattle.theory_parity.proofs.InsideByBelow.{turn_by_span}
+use Rattle.theory_parity.proofs.Rays.InsideByBelow.{turn_by_span}
 use Rattle.theory_faces.proofs.Points.PlainOffSides.{on_if_reached}
 
 -- ---- over an edge

@@ -10,8 +10,8 @@ use Rattle.theory_lists.specs.Members.{Stands}
 use Rattle.theory_lists.proofs.Members.{any_stands}
 use Rattle.theory_numbers.specs.Arrows.{Arrow, dot}
 use Rattle.theory_numbers.specs.Rationals.{IsRational, IsBelow, IsSame, mediant}
-use Rattle.theory_numbers.proofs.Rationals.{mediant-IsRational, mediant_between}
-use Rattle.theory_numbers.proofs.Rationals.{same_sym, same_trans}
+use Rattle.theory_numbers.proofs.Fractions.Rationals.{mediant-IsRational, mediant_between}
+use Rattle.theory_numbers.proofs.Fractions.Rationals.{same_sym, same_trans}
 use Rattle.theory_numbers.proofs.Ring.{mul_comm}
 use Rattle.theory_numbers.proofs.Products.{positive_product, weak_factor}
 use Rattle.theory_plane.specs.Sides.{LineSide, IsLineSide, level, clearance, clearance_at}
@@ -26,7 +26,7 @@ use Rattle.sb_fraction.specs.Directions.{axis_x}
 use Rattle.sb_fraction.specs.Lines.{line_over}
 use Rattle.sb_model.specs.Building.{Building}
 use Rattle.sb_model.specs.PlanEdges.{PlanEdge, plan_edges}
-use Rattle.sb_model.specs.FineCells.{AreNeighbours, way_x, is_across_slab, IsLineOf, IsOfSpanning}
+use Rattle.sb_model.specs.Surfaces.FineCells.{AreNeighbours, way_x, is_across_slab, IsLineOf, IsOfSpanning}
 use Rattle.theory_parity.specs.Below.{IsWay}
 use Rattle.theory_lines.proofs.OneLiesBelow.{crossing_between, spanning_is_line}
 

@@ -13,7 +13,7 @@ use Rattle.theory_lists.proofs.Members.{two_follow, one_of_any}
 use Rattle.theory_lists.proofs.Blocks.{stands_before, stands_behind}
 use Rattle.theory_numbers.specs.Arrows.{Arrow, cross}
 use Rattle.theory_numbers.specs.Rationals.{IsRational, IsBelow, IsAtMost, IsSame, is_below}
-use Rattle.theory_numbers.proofs.Rationals.{below_irrefl, same_sym, same_trans}
+use Rattle.theory_numbers.proofs.Fractions.Rationals.{below_irrefl, same_sym, same_trans}
 use Rattle.theory_numbers.proofs.Signs.{test_less}
 use Rattle.theory_plane.specs.Sides.{level, clearance_at}
 use Rattle.theory_plane.specs.Regions.{Region}
@@ -25,16 +25,16 @@ use Rattle.sb_fraction.specs.Spots.{Vector}
 use Rattle.sb_fraction.specs.Edges.{Edge}
 use Rattle.sb_fraction.specs.Directions.{axis_x}
 use Rattle.sb_model.specs.declared.boundary.Cell.{Cell}
-use Rattle.sb_model.specs.declared.face.Face.{Face}
-use Rattle.sb_model.specs.declared.face.FaceKind.{FaceKind}
-use Rattle.sb_model.specs.declared.face.FaceKind.TheVariants as kind
-use Rattle.sb_model.specs.declared.patch.Patch.{Patch}
+use Rattle.sb_model.specs.declared.faces.face.Face.{Face}
+use Rattle.sb_model.specs.declared.faces.face.FaceKind.{FaceKind}
+use Rattle.sb_model.specs.declared.faces.face.FaceKind.TheVariants as kind
+use Rattle.sb_model.specs.declared.patches.patch.Patch.{Patch}
 use Rattle.sb_model.specs.Solids.{Upright}
 use Rattle.sb_model.specs.Building.{Building}
 use Rattle.sb_model.specs.PlanEdges.{is_abscissa}
-use Rattle.sb_model.specs.Faces.{Surface, surface_of, edge_numbered}
-use Rattle.sb_model.specs.Patches.{region_of}
-use Rattle.sb_model.specs.FineCells.{AreNeighbours, IsPieceOf, IsPieceOver, IsFineCell, IsOfSpanning}
+use Rattle.sb_model.specs.Surfaces.Faces.{Surface, surface_of, edge_numbered}
+use Rattle.sb_model.specs.Surfaces.Patches.{region_of}
+use Rattle.sb_model.specs.Surfaces.FineCells.{AreNeighbours, IsPieceOf, IsPieceOver, IsFineCell, IsOfSpanning}
 use Rattle.sb_model.specs.Boundaries.Order.{IsBefore, IsBeforeOnFace, rank_of}
 use Rattle.theory_models.specs.Abscissae.{abscissae_of}
 use Rattle.theory_models.proofs.AbscissaeListed.{abscissa_is_among, no_abscissa_is_none}

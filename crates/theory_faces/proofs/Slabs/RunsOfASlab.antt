@@ -7,8 +7,8 @@ use Rattle.std.proofs.lemmas.Int.{ints}
 use Rattle.std.proofs.lemmas.Bool.{and_parts}
 use Rattle.theory_numbers.specs.Arrows.{Arrow}
 use Rattle.theory_numbers.specs.Rationals.{IsRational, IsBelow, mediant}
-use Rattle.theory_numbers.proofs.Rationals.{mediant-IsRational, mediant_between, below_irrefl}
-use Rattle.theory_numbers.proofs.Rationals.{below_trans}
+use Rattle.theory_numbers.proofs.Fractions.Rationals.{mediant-IsRational, mediant_between, below_irrefl}
+use Rattle.theory_numbers.proofs.Fractions.Rationals.{below_trans}
 use Rattle.theory_plane.specs.Sides.{LineSide, clearance_at, value_on}
 use Rattle.theory_plane.specs.Points.{FacePoint, IsFacePoint, abscissa_of, ordinate_of, is_on_side}
 use Rattle.theory_plane.specs.Points.{is_above_side, is_under_side}
@@ -26,7 +26,7 @@ use Rattle.theory_joining.proofs.RunsStayApart.{runs_are_runs, runs_rise, runs_a
 use Rattle.theory_joining.proofs.RunsStayApart.{runs_are_apart, run_is_open}
 use Rattle.theory_joining.proofs.RunsKeepMarks.{runs_mark, runs_mark_no_more}
 use Rattle.theory_joining.proofs.RunsOfCells.{listed_is_of_cuts}
-use Rattle.sb_model.specs.declared.face.Face.{Face}
+use Rattle.sb_model.specs.declared.faces.face.Face.{Face}
 use Rattle.theory_faces.specs.Strips.{Mark, Strip, is_same_mark, runs_over}
 use Rattle.theory_faces.proofs.MarksTold.{mark_tells, face_tells}
 use Rattle.theory_faces.proofs.NoSeamInOrder.{HaveOneKey}

@@ -6,7 +6,7 @@ use Rattle.std.proofs.Common.{List, [], ◌∷◌, ◌++◌}
 use Rattle.std.specs.List.{AllByRecursion}
 use Rattle.theory_numbers.specs.Arrows.{Arrow}
 use Rattle.theory_numbers.specs.Rationals.{IsRational, IsBelow, IsAtMost}
-use Rattle.theory_numbers.proofs.Rationals.{below_irrefl, below_at_most_trans, below_trans}
+use Rattle.theory_numbers.proofs.Fractions.Rationals.{below_irrefl, below_at_most_trans, below_trans}
 use Rattle.theory_plane.specs.Points.{FacePoint, IsFacePoint, abscissa_of, is_on_side}
 use Rattle.theory_plane.specs.Regions.{is_inside}
 use Rattle.theory_lists.specs.Members.{Stands, AllOfTwo}

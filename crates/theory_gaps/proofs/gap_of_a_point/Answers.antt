@@ -1,6 +1,6 @@
 -- The laws are their lemmas.
-use Rattle.theory_gaps.proofs.GapsOfPoints.{has_gap_each, has_presence, has_presence_from_behind}
-use Rattle.theory_gaps.proofs.GapsOfPoints.{has_one_own_edge}
+use Rattle.theory_gaps.proofs.Gaps.GapsOfPoints.{has_gap_each, has_presence, has_presence_from_behind}
+use Rattle.theory_gaps.proofs.Gaps.GapsOfPoints.{has_one_own_edge}
 use Rattle.theory_gaps.proofs.gap_of_a_point.Goals as goal
 
 -- each point lies in a gap

@@ -1,5 +1,5 @@
 -- The laws are their lemmas.
-use Rattle.theory_gaps.proofs.OverlapInGaps.{has_real_gaps, has_overlap_in_gaps}
+use Rattle.theory_gaps.proofs.Gaps.OverlapInGaps.{has_real_gaps, has_overlap_in_gaps}
 use Rattle.theory_gaps.proofs.gaps_between_lines.Goals as goal
 
 -- points in a gap

@@ -5,7 +5,7 @@ use Rattle.std.proofs.lemmas.Bool.Decides.{Decides-eqb}
 use Rattle.std.proofs.Math.Dec.{eqb}
 use Rattle.theory_numbers.specs.Arrows.{Arrow, cross, dot}
 use Rattle.theory_numbers.specs.Rationals.{rational}
-use Rattle.theory_numbers.proofs.Reduced.{whole_is_reduced}
+use Rattle.theory_numbers.proofs.Fractions.Reduced.{whole_is_reduced}
 use Rattle.theory_plane.specs.Sides.{LineSide, line, level, IsReducedSide, clearance}
 use Rattle.theory_plane.specs.Regions.{is_region}
 use Rattle.theory_plane.proofs.Regions.{region_from}

@@ -1,7 +1,7 @@
 -- The pushed boundaries are those of the side, in order.
 use Rattle.std.proofs.Common.{FitsSigned, w32, rules, ◌≡◌, ◌∙◌, sym}
 use Rattle.std.proofs.lemmas.Int.{to_z-of_z}
-use Rattle.sb_model.specs.declared.face.FaceKind.TheVariants as kind
+use Rattle.sb_model.specs.declared.faces.face.FaceKind.TheVariants as kind
 use Rattle.sb_box.specs.BoxList.{above}
 use Rattle.sb_box.proofs.BoxListIsPushed.{one_pushed, two_pushed}
 use Rattle.sb_box.proofs.boundaries.push_side.Goals as goal

@@ -2,8 +2,8 @@
 use Rattle.std.proofs.Common.{FitsSigned, w32, rules, ap, ◌∙◌}
 use Rattle.std.proofs.lemmas.Int.{to_z-of_z}
 use Rattle.theory_plane.specs.Sides.{level}
-use Rattle.sb_model.specs.Sides.{line_of}
-use Rattle.sb_model.specs.declared.patch.Patch.{Patch}
+use Rattle.sb_model.specs.Surfaces.Sides.{line_of}
+use Rattle.sb_model.specs.declared.patches.patch.Patch.{Patch}
 use Rattle.sb_box.proofs.BoxPatchesArePatches.{is_patch_between_heights}
 use Rattle.sb_box.proofs.boundaries.side_boundary.Goals as goal
 

@@ -4,7 +4,7 @@ use Rattle.std.specs.BTreeMap.{get}
 use Rattle.std.proofs.lemmas.Result.{on_ok_weaker}
 use Rattle.sb_place.specs.declared.sight.Seen.TheVariants as seen
 use Rattle.sb_place.specs.Kept.{IsKeptOf}
-use Rattle.sb_building.proofs.FramesAreKnown.{kept_lost, kept_under, where_none, where_building, one_more, answered}
+use Rattle.sb_building.proofs.Known.FramesAreKnown.{kept_lost, kept_under, where_none, where_building, one_more, answered}
 use Rattle.sb_building.proofs.frames.+placed_from.Goals as goal
 
 pub returns-in_default-clause-kept : goal.returns-in_default-clause-kept

@@ -1,4 +1,4 @@
-use Rattle.sb_building.proofs.LeastOfProducts.{least_is_first}
+use Rattle.sb_building.proofs.Conditions.LeastOfProducts.{least_is_first}
 use Rattle.sb_building.proofs.laws.least_of_products.Goals as goal
 
 pub returns : goal.returns

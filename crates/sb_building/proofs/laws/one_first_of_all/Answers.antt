@@ -1,6 +1,6 @@
 use Rattle.sb_building.specs.Conditions.{OccursIn}
-use Rattle.sb_building.proofs.FirstOfAll.{one_first, file_comes_first, products_follow}
-use Rattle.sb_building.proofs.OneCondition.{one_condition}
+use Rattle.sb_building.proofs.Conditions.FirstOfAll.{one_first, file_comes_first, products_follow}
+use Rattle.sb_building.proofs.Conditions.OneCondition.{one_condition}
 use Rattle.sb_building.proofs.laws.one_first_of_all.Goals as goal
 
 pub returns-clause-condition : goal.returns-clause-condition

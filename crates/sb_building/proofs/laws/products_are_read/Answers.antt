@@ -1,4 +1,4 @@
-use Rattle.sb_building.proofs.ProductsAreRead.{frames_are_read, prisms_are_read}
+use Rattle.sb_building.proofs.Followed.ProductsAreRead.{frames_are_read, prisms_are_read}
 use Rattle.sb_building.proofs.laws.products_are_read.Goals as goal
 
 pub returns : goal.returns

@@ -3,8 +3,8 @@ use Rattle.sb_schema.specs.Views.Taking.{with_memory}
 use Rattle.sb_profile.specs.Entities.Entity.{material_layer_set}
 use Rattle.sb_building.specs.Layerings.{IsMadeOf}
 use Rattle.sb_building.specs.Steps.Materials.{IsAlong, AreLayersOf}
-use Rattle.sb_building.proofs.MaterialsAreRead.{usage_no_set, usage_made}
-use Rattle.sb_building.proofs.LayersOneByOne.{shown_one, shown_none, of_set}
+use Rattle.sb_building.proofs.Known.MaterialsAreRead.{usage_no_set, usage_made}
+use Rattle.sb_building.proofs.Known.LayersOneByOne.{shown_one, shown_none, of_set}
 use Rattle.sb_building.proofs.materials.by_usage.Goals as goal
 
 pub returns-in-None : goal.returns-in-None

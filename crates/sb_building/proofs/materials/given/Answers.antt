@@ -1,6 +1,6 @@
 use Rattle.std.proofs.Common.{◌≡◌, option_map, sym, subst}
 use Rattle.std.specs.Prelude.{IfOk}
-use Rattle.sb_building.proofs.MaterialsAreRead.{given_by_views}
+use Rattle.sb_building.proofs.Known.MaterialsAreRead.{given_by_views}
 use Rattle.sb_building.proofs.materials.given.Goals as goal
 
 pub returns : goal.returns

@@ -1,6 +1,6 @@
 use Rattle.std.proofs.Common.{◌+◌, get_or, subst}
 use Rattle.sb_building.specs.Steps.Materials.{IsPushed}
-use Rattle.sb_building.proofs.LayersOneByOne.{layers_one_more}
+use Rattle.sb_building.proofs.Known.LayersOneByOne.{layers_one_more}
 use Rattle.sb_building.proofs.materials.layers_from.Goals as goal
 
 pub members-preserved : goal.members-preserved

@@ -1,8 +1,8 @@
 use Rattle.std.proofs.lemmas.Result.{IfOk-weaker}
 use Rattle.sb_schema.specs.Views.Taking.{with_memory}
 use Rattle.sb_profile.specs.Entities.Entity.{material, material_layer_set_usage}
-use Rattle.sb_building.proofs.MaterialsAreRead.{made_of_one}
-use Rattle.sb_building.proofs.LayersOneByOne.{shown_one, shown_none, of_material, of_usage}
+use Rattle.sb_building.proofs.Known.MaterialsAreRead.{made_of_one}
+use Rattle.sb_building.proofs.Known.LayersOneByOne.{shown_one, shown_none, of_material, of_usage}
 use Rattle.sb_building.proofs.materials.made_at.Goals as goal
 
 pub returns-in-Some : goal.returns-in-Some

@@ -1,7 +1,7 @@
 use Rattle.sb_schema.specs.Views.Taking.{with_memory}
 use Rattle.sb_profile.specs.Entities.Entity.{material}
 use Rattle.std.proofs.Common.{◌∙◌}
-use Rattle.sb_building.proofs.LayersOneByOne.{shown_one, shown_none, of_material, name_given, name_not_given}
+use Rattle.sb_building.proofs.Known.LayersOneByOne.{shown_one, shown_none, of_material, name_given, name_not_given}
 use Rattle.sb_building.proofs.materials.name_at.Goals as goal
 
 pub returns-in-Some-2 : goal.returns-in-Some-2

@@ -4,7 +4,7 @@ use Rattle.sb_schema.specs.Views.Taking.{with_memory}
 use Rattle.sb_profile.specs.Entities.Entity.{material_layer}
 use Rattle.sb_building.specs.Layerings.{is_thickness}
 use Rattle.sb_building.specs.Steps.Materials.{IsThicknessOf, IsPushed}
-use Rattle.sb_building.proofs.LayersOneByOne.{shown_one, shown_none, of_layer, no_layer, bad_layer, dropped, behind, not_zero}
+use Rattle.sb_building.proofs.Known.LayersOneByOne.{shown_one, shown_none, of_layer, no_layer, bad_layer, dropped, behind, not_zero}
 use Rattle.sb_building.proofs.materials.push_layer.Goals as goal
 
 pub returns-in_default : goal.returns-in_default

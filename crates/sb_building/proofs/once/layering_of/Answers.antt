@@ -2,7 +2,7 @@ use Rattle.std.proofs.Common.{Some, sym, subst}
 use Rattle.std.specs.Option.{option_copied}
 use Rattle.std.proofs.lemmas.Result.{IfOk-weaker}
 use Rattle.sb_building.specs.Layerings.{IsLayeringOf}
-use Rattle.sb_building.proofs.MadeOnce.{layering_is}
+use Rattle.sb_building.proofs.Known.MadeOnce.{layering_is}
 use Rattle.sb_building.proofs.once.layering_of.Goals as goal
 
 pub returns-clause-layering : goal.returns-clause-layering

@@ -1,7 +1,7 @@
 use Rattle.std.specs.Ordering.{nat_cmp}
 use Rattle.std.specs.BTreeMap.{get}
 use Rattle.std.proofs.lemmas.Result.{on_ok_weaker}
-use Rattle.sb_building.proofs.MadeOnce.{one_made_more}
+use Rattle.sb_building.proofs.Known.MadeOnce.{one_made_more}
 use Rattle.sb_building.proofs.once.read_once.Goals as goal
 
 pub returns-clause-known : goal.returns-clause-known

@@ -1,6 +1,6 @@
 use Rattle.std.proofs.Common.{arith}
 use Rattle.std.proofs.lemmas.Nat.Gcd.{IsGcd-from_zero, IsGcd-from_mod, same_from_IsGcd}
-use Rattle.theory_numbers.proofs.GreatestDivisor.{greatest_divisor_is}
+use Rattle.theory_numbers.proofs.Fractions.GreatestDivisor.{greatest_divisor_is}
 use Rattle.sb_fraction.proofs.fraction.common_divisor.Goals as goal
 
 pub loop-y-preserved : goal.loop-y-preserved

@@ -1,6 +1,6 @@
 use Rattle.std.proofs.Common.{◌∙◌, sym, refl}
 use Rattle.sb_fraction.specs.Edges.{edge_of}
-use Rattle.sb_fraction.proofs.MeetingInRange.{meeting_is, neither_if_once, one_if_not_once}
+use Rattle.sb_fraction.proofs.Meetings.MeetingInRange.{meeting_is, neither_if_once, one_if_not_once}
 use Rattle.sb_fraction.proofs.meeting.meet.Goals as goal
 
 pub returns-then-have_one_point-clause-none : goal.returns-then-have_one_point-clause-none

@@ -1,7 +1,7 @@
 use Rattle.std.proofs.Common.{rules, w32, FitsSigned}
 use Rattle.std.proofs.lemmas.Int.{to_z-of_z}
 use Rattle.sb_fraction.specs.Edges.{edge_of}
-use Rattle.sb_fraction.proofs.MeetingInRange.{y_in_range}
+use Rattle.sb_fraction.proofs.Meetings.MeetingInRange.{y_in_range}
 use Rattle.sb_fraction.proofs.meeting.meeting.Goals as goal
 
 pub coordinate-y-requires-clause-coordinate_in : goal.coordinate-y-requires-clause-coordinate_in

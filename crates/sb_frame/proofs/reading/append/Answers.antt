@@ -2,7 +2,7 @@
 use Rattle.std.proofs.Common.{◌∙◌, ap}
 use Rattle.std.specs.List.{list_all}
 use Rattle.theory_plans.specs.LoopEdges.{edges_of}
-use Rattle.theory_plans.proofs.EdgesOfPlans.{plan_edges_are_proper}
+use Rattle.theory_plans.proofs.Edges.EdgesOfPlans.{plan_edges_are_proper}
 use Rattle.sb_frame.specs.Owners.{is_proper_edge}
 use Rattle.sb_frame.proofs.reading.append.Goals as goal
 

@@ -1,8 +1,8 @@
 -- The stack and then the joint leave a bent loop, or fewer than three points.
 use Rattle.std.proofs.Common.{sym, subst}
 use Rattle.theory_loops.specs.Orders.{Becomes}
-use Rattle.theory_loops.proofs.SameLoop.{becomes_through}
-use Rattle.theory_loops.proofs.LeftInAnyOrder.{few_are_few}
+use Rattle.theory_loops.proofs.Orders.SameLoop.{becomes_through}
+use Rattle.theory_loops.proofs.Orders.LeftInAnyOrder.{few_are_few}
 use Rattle.sb_loops.specs.Ways.{IsLeft}
 use Rattle.sb_loops.proofs.LoopsLeft.{left_from_least}
 use Rattle.sb_loops.proofs.normalising.left_of.Goals as goal

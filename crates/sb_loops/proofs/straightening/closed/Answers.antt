@@ -3,7 +3,7 @@ use Rattle.std.proofs.Common.{◌∙◌, sym, ap, pos, length, ◌-◌, subst}
 use Rattle.theory_plans.specs.Rectangles.{corner}
 use Rattle.theory_loops.specs.Orders.{Becomes}
 use Rattle.theory_loops.specs.Orders.Becomes.{stays}
-use Rattle.theory_loops.proofs.SameLoop.{becomes_through}
+use Rattle.theory_loops.proofs.Orders.SameLoop.{becomes_through}
 use Rattle.sb_loops.specs.Ways.{is_bent_way}
 use Rattle.sb_loops.proofs.StackPass.{bent_take, bent_rest, last_goes_at_joint, first_goes_at_joint}
 use Rattle.sb_loops.proofs.StackPass.{bent_at_joint}

@@ -3,7 +3,7 @@ use Rattle.std.proofs.Common.{◌≡◌, ◌∙◌, sym, ap, ◌++◌, ◌∷◌
 use Rattle.std.specs.Vec.{vec_len}
 use Rattle.theory_loops.specs.Orders.{Becomes}
 use Rattle.theory_loops.specs.Orders.Becomes.{stays}
-use Rattle.theory_loops.proofs.SameLoop.{becomes_through}
+use Rattle.theory_loops.proofs.Orders.SameLoop.{becomes_through}
 use Rattle.sb_loops.specs.Ways.{is_bent_way, is_last_straight}
 use Rattle.sb_loops.proofs.StackPass.{last_goes, bent_with, bent_take}
 use Rattle.sb_loops.proofs.straightening.drop_straight.Goals as goal

@@ -5,7 +5,7 @@ use Rattle.theory_plans.specs.Rectangles.{corner}
 use Rattle.std.proofs.lemmas.List.{drop_more}
 use Rattle.theory_loops.specs.Orders.{Becomes}
 use Rattle.theory_loops.specs.Orders.Becomes.{stays}
-use Rattle.theory_loops.proofs.SameLoop.{becomes_through}
+use Rattle.theory_loops.proofs.Orders.SameLoop.{becomes_through}
 use Rattle.sb_loops.specs.Ways.{is_bent_way}
 use Rattle.sb_loops.proofs.straightening.straightened.Goals as goal
 

@@ -1,4 +1,4 @@
-use Rattle.theory_plans.proofs.EdgesByPlace.{edge_by_place}
+use Rattle.theory_plans.proofs.Edges.EdgesByPlace.{edge_by_place}
 use Rattle.sb_model.proofs.loops.edge_in.Goals as goal
 
 pub returns-clause-value : goal.returns-clause-value

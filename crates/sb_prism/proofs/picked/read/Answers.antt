@@ -1,7 +1,7 @@
 use Rattle.std.proofs.Common.{◌∷◌, [], rules}
 use Rattle.std.specs.Ordering.{nat_cmp}
 use Rattle.std.specs.BTreeMap.{get}
-use Rattle.sb_prism.proofs.PointsArePicked.{read_more}
+use Rattle.sb_prism.proofs.Outlines.PointsArePicked.{read_more}
 use Rattle.sb_prism.proofs.picked.read.Goals as goal
 
 pub pairs-preserved : goal.pairs-preserved

@@ -1,7 +1,7 @@
 use Rattle.std.proofs.Common.{sym, subst}
 use Rattle.sb_profile.specs.Defects.{Occurs, file_codes}
 use Rattle.sb_profile.specs.First.{IsFirst}
-use Rattle.sb_profile.proofs.VerdictsTellDefects.{told}
+use Rattle.sb_profile.proofs.Verdicts.VerdictsTellDefects.{told}
 use Rattle.sb_profile.proofs.first.first_defect.Goals as goal
 
 pub returns : goal.returns

@@ -3,7 +3,7 @@ use Rattle.sb_profile.specs.Defects.{Occurs, in_buildings}
 use Rattle.sb_profile.specs.First.{IsFirst}
 use Rattle.sb_profile.specs.Lowest.{lowest_of}
 use Rattle.sb_profile.specs.Steps.Read.{head_codes}
-use Rattle.sb_profile.proofs.HeadIsFirst.{head_is}
+use Rattle.sb_profile.proofs.Verdicts.HeadIsFirst.{head_is}
 use Rattle.sb_profile.proofs.first.head_defect.Goals as goal
 
 pub returns : goal.returns

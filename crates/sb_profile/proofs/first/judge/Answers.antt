@@ -2,7 +2,7 @@ use Rattle.std.proofs.Common.{subst}
 use Rattle.sb_profile.specs.Defects.{Occurs}
 use Rattle.sb_profile.specs.First.{IsFirst}
 use Rattle.sb_profile.specs.Steps.Read.{head_codes}
-use Rattle.sb_profile.proofs.HeadIsFirst.{head_first}
+use Rattle.sb_profile.proofs.Verdicts.HeadIsFirst.{head_first}
 use Rattle.sb_profile.proofs.first.judge.Goals as goal
 
 pub returns-in-Some : goal.returns-in-Some

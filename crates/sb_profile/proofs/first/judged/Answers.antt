@@ -1,7 +1,7 @@
 use Rattle.std.proofs.Common.{sym, subst, refl, ◌∙◌, None}
 use Rattle.sb_profile.specs.Defects.{Occurs, file_codes}
 use Rattle.sb_profile.specs.First.{IsFirst}
-use Rattle.sb_profile.proofs.HeadIsFirst.{read_first, head_has_unit}
+use Rattle.sb_profile.proofs.Verdicts.HeadIsFirst.{read_first, head_has_unit}
 use Rattle.sb_profile.proofs.first.judged.Goals as goal
 
 pub returns-in-Some : goal.returns-in-Some

@@ -2,8 +2,8 @@ use Rattle.std.proofs.Common.{sym, subst, ◌∙◌}
 use Rattle.std.specs.Ordering.{nat_cmp}
 use Rattle.std.specs.BTreeSet.{contains}
 use Rattle.theory_lists.specs.Members.{Stands}
-use Rattle.sb_profile.specs.declared.places.Place.TheVariants as place
-use Rattle.sb_profile.proofs.AllIsRead.{lowest_found}
+use Rattle.sb_profile.specs.declared.following.places.Place.TheVariants as place
+use Rattle.sb_profile.proofs.Verdicts.AllIsRead.{lowest_found}
 use Rattle.sb_profile.proofs.first.read.Goals as goal
 
 pub returns-clause-lowest : goal.returns-clause-lowest

@@ -1,5 +1,5 @@
 use Rattle.sb_profile.specs.Defects.{Occurs}
-use Rattle.sb_profile.proofs.OneFirst.{one_first, earlier_first, later_follow}
+use Rattle.sb_profile.proofs.Verdicts.OneFirst.{one_first, earlier_first, later_follow}
 use Rattle.sb_profile.proofs.laws.one_first_defect.Goals as goal
 
 pub returns-clause-one : goal.returns-clause-one

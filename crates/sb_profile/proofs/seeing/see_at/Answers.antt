@@ -1,9 +1,9 @@
 use Rattle.std.proofs.Common.{refl}
 use Rattle.std.specs.Ordering.{nat_cmp}
 use Rattle.std.specs.BTreeSet.{contains}
-use Rattle.sb_profile.specs.declared.places.Place.TheVariants as place
+use Rattle.sb_profile.specs.declared.following.places.Place.TheVariants as place
 use Rattle.sb_profile.specs.Entities.Entity.{shape_representation, cartesian_point_list_2d, cartesian_point, direction, material}
-use Rattle.sb_profile.proofs.FoundTogether.{found_last}
+use Rattle.sb_profile.proofs.Followed.FoundTogether.{found_last}
 use Rattle.sb_profile.proofs.seeing.see_at.Goals as goal
 
 pub returns-in-Representation : goal.returns-in-Representation

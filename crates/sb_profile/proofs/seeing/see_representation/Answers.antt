@@ -1,9 +1,9 @@
 use Rattle.std.proofs.Common.{refl, sym, ◌∙◌}
 use Rattle.std.specs.Ordering.{nat_cmp}
 use Rattle.std.specs.BTreeSet.{contains}
-use Rattle.sb_profile.specs.declared.places.Place.TheVariants as place
+use Rattle.sb_profile.specs.declared.following.places.Place.TheVariants as place
 use Rattle.sb_profile.specs.Entities.Entity.{shape_representation}
-use Rattle.sb_profile.proofs.FoundTogether.{found_last, whatever_bodies, body_is_found}
+use Rattle.sb_profile.proofs.Followed.FoundTogether.{found_last, whatever_bodies, body_is_found}
 use Rattle.sb_profile.proofs.seeing.see_representation.Goals as goal
 
 pub returns-then-contains : goal.returns-then-contains

@@ -1,5 +1,5 @@
 use Rattle.std.proofs.Common.{◌≡◌, is_some, length}
-use Rattle.sb_step.specs.Forms.{reference_in}
+use Rattle.sb_step.specs.Cursors.Forms.{reference_in}
 use Rattle.sb_schema.specs.Forms.{each}
 use Rattle.sb_schema.proofs.lent.are_references.Given as goal
 

@@ -1,7 +1,7 @@
 use Rattle.std.proofs.Common.{◌≡◌, List, [], ◌∷◌, None, drop, refl, sym, ap, ◌∙◌}
 use Rattle.std.proofs.lemmas.Bool.{false≢true}
 use Rattle.sb_step.specs.declared.parameters.param.Param.{Param}
-use Rattle.sb_step.specs.Forms.{number_in}
+use Rattle.sb_step.specs.Cursors.Forms.{number_in}
 use Rattle.sb_schema.specs.Forms.{each, only_if, are_two}
 use Rattle.sb_schema.proofs.ItemsGiveLists.{more_than_two}
 use Rattle.sb_schema.proofs.lent.two_numbers.Goals as goal

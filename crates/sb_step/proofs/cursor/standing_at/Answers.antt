@@ -1,5 +1,5 @@
 use Rattle.std.proofs.Common.{sym, subst, subst₂}
-use Rattle.sb_step.specs.Cursor.{AreLeft}
+use Rattle.sb_step.specs.Cursors.Cursor.{AreLeft}
 use Rattle.sb_step.proofs.Cursors.LeftIsUnique.{kept_is}
 use Rattle.sb_step.proofs.cursor.standing_at.Goals as goal
 

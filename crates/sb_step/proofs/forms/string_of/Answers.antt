@@ -1,5 +1,5 @@
 use Rattle.std.proofs.Common.{sym, ap, ◌∙◌}
-use Rattle.sb_step.specs.Forms.{string_in}
+use Rattle.sb_step.specs.Cursors.Forms.{string_in}
 use Rattle.sb_step.proofs.Cursors.FormsByToken.{what_says_is_first}
 use Rattle.sb_step.proofs.forms.string_of.Goals as goal
 

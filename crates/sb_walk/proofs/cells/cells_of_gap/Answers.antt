@@ -6,7 +6,7 @@ use Rattle.std.proofs.lemmas.Result.{IfOk-weaker}
 use Rattle.sb_frame.specs.Network.{plan_edge_of}
 use Rattle.sb_walk.specs.CellsOfGaps.{IsCellIn, AreForEach}
 use Rattle.sb_walk.specs.Strips.{are_made}
-use Rattle.sb_walk.proofs.CellsInGaps.{cells_are_in}
+use Rattle.sb_walk.proofs.CellsOfGaps.CellsInGaps.{cells_are_in}
 use Rattle.sb_walk.proofs.cells.cells_of_gap.Goals as goal
 
 pub returns : goal.returns

@@ -1,8 +1,8 @@
 -- Two more cells for a space, and no more at the end.
 use Rattle.std.proofs.Common.{rules, ◌≡◌, Some}
-use Rattle.sb_model.specs.Faces.{space_numbered}
+use Rattle.sb_model.specs.Surfaces.Faces.{space_numbered}
 use Rattle.sb_walk.specs.Strips.{are_made}
-use Rattle.sb_walk.proofs.CellsListed.{two_more, no_more}
+use Rattle.sb_walk.proofs.CellsOfGaps.CellsListed.{two_more, no_more}
 use Rattle.sb_walk.proofs.cells.cells_of_spaces.Goals as goal
 
 pub numbers-preserved-in_ok-push-2 : goal.numbers-preserved-in_ok-push-2

@@ -1,8 +1,8 @@
 -- A patch stands between the two lines.
 use Rattle.std.proofs.Common.{refl}
-use Rattle.sb_model.specs.declared.face.FaceKind.TheVariants as kind
+use Rattle.sb_model.specs.declared.faces.face.FaceKind.TheVariants as kind
 use Rattle.sb_frame.specs.Network.{plan_edge_of}
-use Rattle.sb_walk.proofs.StripsOfGaps.{has_patch}
+use Rattle.sb_walk.proofs.CellsOfGaps.StripsOfGaps.{has_patch}
 use Rattle.sb_walk.proofs.cells.strip_between.Goals as goal
 
 pub invariant_of-result-clause-bottom : goal.invariant_of-result-clause-bottom

@@ -1,5 +1,5 @@
 -- The law is its lemma.
-use Rattle.sb_walk.proofs.FineCellsHavePoints.{has_plain_points}
+use Rattle.sb_walk.proofs.CellsOfGaps.FineCellsHavePoints.{has_plain_points}
 use Rattle.sb_walk.proofs.laws.cells_have_points.Goals as goal
 
 -- the law

@@ -3,7 +3,7 @@ use Rattle.std.specs.Int.{w128}
 use Rattle.std.proofs.Common.{rules, FitsSigned, ◌∙◌, pos, ap}
 use Rattle.std.proofs.lemmas.Int.{to_z-of_z}
 use Rattle.theory_numbers.specs.Fractions.{reduced}
-use Rattle.theory_numbers.proofs.LowestTerms.{reduced-one}
+use Rattle.theory_numbers.proofs.Fractions.LowestTerms.{reduced-one}
 use Rattle.sb_walk.proofs.reading.micrometres.Goals as goal
 
 pub returns : goal.returns

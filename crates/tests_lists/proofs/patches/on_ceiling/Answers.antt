@@ -1,4 +1,4 @@
-use Rattle.sb_model.specs.declared.face.FaceKind.TheVariants as kind
+use Rattle.sb_model.specs.declared.faces.face.FaceKind.TheVariants as kind
 use Rattle.tests_lists.proofs.TriedPatches.{level_is}
 use Rattle.tests_lists.proofs.patches.on_ceiling.Goals as goal
 

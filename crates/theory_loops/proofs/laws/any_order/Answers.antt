@@ -1,8 +1,8 @@
 -- The laws are their lemmas.
 use Rattle.std.proofs.Common.{inr}
-use Rattle.theory_loops.proofs.AnyOrder.{becomes_normal, any_order}
-use Rattle.theory_loops.proofs.LeftInAnyOrder.{left_is_normal, few_are_few}
-use Rattle.theory_loops.proofs.ApartFromAny.{apart_from_any}
+use Rattle.theory_loops.proofs.Orders.AnyOrder.{becomes_normal, any_order}
+use Rattle.theory_loops.proofs.Orders.LeftInAnyOrder.{left_is_normal, few_are_few}
+use Rattle.theory_loops.proofs.Orders.ApartFromAny.{apart_from_any}
 use Rattle.theory_loops.proofs.laws.any_order.Goals as goal
 
 -- it comes

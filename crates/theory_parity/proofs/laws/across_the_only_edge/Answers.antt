@@ -1,5 +1,5 @@
 -- The law is its lemma.
-use Rattle.theory_parity.proofs.BelowFlips.{below_flips}
+use Rattle.theory_parity.proofs.Rays.BelowFlips.{below_flips}
 use Rattle.theory_parity.proofs.laws.across_the_only_edge.Goals as goal
 
 -- the parity flips

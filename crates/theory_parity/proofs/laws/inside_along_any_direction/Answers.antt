@@ -1,5 +1,5 @@
 -- The laws are their lemmas.
-use Rattle.theory_parity.proofs.InsideByBelow.{inside_by_below, forward_is_way, below_is_crossed}
+use Rattle.theory_parity.proofs.Rays.InsideByBelow.{inside_by_below, forward_is_way, below_is_crossed}
 use Rattle.theory_parity.proofs.laws.inside_along_any_direction.Goals as goal
 
 -- along each vector that is not 0

@@ -1,7 +1,7 @@
 -- The laws are their lemmas.
-use Rattle.theory_parity.proofs.InsideThroughout.{inside_throughout}
-use Rattle.theory_parity.proofs.RegionIsFourHalves.{region_inside_throughout}
-use Rattle.theory_parity.proofs.RegionIsFourHalves.{region_inside_throughout_off_sides}
+use Rattle.theory_parity.proofs.Regions.InsideThroughout.{inside_throughout}
+use Rattle.theory_parity.proofs.Regions.RegionIsFourHalves.{region_inside_throughout}
+use Rattle.theory_parity.proofs.Regions.RegionIsFourHalves.{region_inside_throughout_off_sides}
 use Rattle.theory_parity.proofs.laws.inside_throughout.Goals as goal
 
 -- an intersection of half-planes

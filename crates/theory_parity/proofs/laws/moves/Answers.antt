@@ -1,5 +1,5 @@
 -- The law is its lemma.
-use Rattle.theory_parity.proofs.Moves.{moves}
+use Rattle.theory_parity.proofs.FromPointToPoint.Moves.{moves}
 use Rattle.theory_parity.proofs.laws.moves.Goals as goal
 
 -- one answer

@@ -1,7 +1,7 @@
 -- The laws are their lemmas.
-use Rattle.theory_parity.proofs.LeftIsInside.{inside_if_left}
-use Rattle.theory_parity.proofs.NearAnEdge.{near_an_edge, even_to_the_right}
-use Rattle.theory_parity.proofs.OwnPoints.{own_from_within}
+use Rattle.theory_parity.proofs.SolidOnTheLeft.LeftIsInside.{inside_if_left}
+use Rattle.theory_parity.proofs.SolidOnTheLeft.NearAnEdge.{near_an_edge, even_to_the_right}
+use Rattle.theory_parity.proofs.SolidOnTheLeft.OwnPoints.{own_from_within}
 use Rattle.theory_parity.proofs.sides.inside_on_the_left.Goals as goal
 
 -- inside on the left, outside on the right

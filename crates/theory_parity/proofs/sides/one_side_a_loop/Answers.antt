@@ -1,8 +1,8 @@
 -- The laws are their lemmas.
-use Rattle.theory_parity.proofs.OneSideALoop.{one_side_a_loop}
-use Rattle.theory_parity.proofs.TurnedIsPlan.{put_left_is_plan}
-use Rattle.theory_parity.proofs.TurnedLoops.{kept_by_first, edges_of_turned, others_as_before, turned_among}
-use Rattle.theory_parity.proofs.TurnedLoops.{put_left_keeps_left, put_left_once}
+use Rattle.theory_parity.proofs.SolidOnTheLeft.OneSideALoop.{one_side_a_loop}
+use Rattle.theory_parity.proofs.SolidOnTheLeft.TurnedIsPlan.{put_left_is_plan}
+use Rattle.theory_parity.proofs.SolidOnTheLeft.TurnedLoops.{kept_by_first, edges_of_turned, others_as_before, turned_among}
+use Rattle.theory_parity.proofs.SolidOnTheLeft.TurnedLoops.{put_left_keeps_left, put_left_once}
 use Rattle.theory_parity.proofs.sides.one_side_a_loop.Goals as goal
 
 -- all edges of a loop or none

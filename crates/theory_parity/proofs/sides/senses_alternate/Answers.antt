@@ -1,5 +1,5 @@
 -- The law is its lemma.
-use Rattle.theory_parity.proofs.SensesAlternate.{senses_alternate}
+use Rattle.theory_parity.proofs.SolidOnTheLeft.SensesAlternate.{senses_alternate}
 use Rattle.theory_parity.proofs.sides.senses_alternate.Goals as goal
 
 -- along and against

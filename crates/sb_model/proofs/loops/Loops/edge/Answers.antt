@@ -1,5 +1,5 @@
 use Rattle.std.proofs.Common.{◌≡◌, ◌∙◌, sym, get_or}
-use Rattle.theory_plans.proofs.EdgesByPlace.{edge_here, edge_later}
+use Rattle.theory_plans.proofs.Edges.EdgesByPlace.{edge_here, edge_later}
 use Rattle.sb_model.proofs.loops.Loops.edge.Goals as goal
 
 pub returns-then-left-points-clause-value : goal.returns-then-left-points-clause-value

@@ -1,6 +1,6 @@
 use Rattle.std.proofs.Common.{slice_get, sym, ap, ◌∙◌, subst}
-use Rattle.sb_step.specs.Cursor.{AreLeft}
-use Rattle.sb_step.specs.Forms.{enumeration_in}
+use Rattle.sb_step.specs.Cursors.Cursor.{AreLeft}
+use Rattle.sb_step.specs.Cursors.Forms.{enumeration_in}
 use Rattle.sb_step.proofs.ParameterLists.InsidesOfTokens.{enumeration_is}
 use Rattle.sb_step.proofs.Cursors.FormsByToken.{enumeration_first}
 use Rattle.sb_step.proofs.cursor.Cursor.enumeration_text.Goals as goal

@@ -1,6 +1,6 @@
 use Rattle.std.proofs.Common.{slice_get, sym, ap, ◌∙◌, subst}
-use Rattle.sb_step.specs.Cursor.{AreLeft}
-use Rattle.sb_step.specs.Forms.{integer_in}
+use Rattle.sb_step.specs.Cursors.Cursor.{AreLeft}
+use Rattle.sb_step.specs.Cursors.Forms.{integer_in}
 use Rattle.sb_step.proofs.Cursors.FormsByToken.{integer_is}
 use Rattle.sb_step.proofs.cursor.Cursor.integer_text.Goals as goal
 

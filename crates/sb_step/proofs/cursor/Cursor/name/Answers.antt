@@ -1,6 +1,6 @@
 use Rattle.std.proofs.Common.{slice_get, sym, ap, ◌∙◌, subst}
-use Rattle.sb_step.specs.Cursor.{AreLeft}
-use Rattle.sb_step.specs.Forms.{reference_in}
+use Rattle.sb_step.specs.Cursors.Cursor.{AreLeft}
+use Rattle.sb_step.specs.Cursors.Forms.{reference_in}
 use Rattle.sb_step.proofs.Cursors.FormsByToken.{reference_is}
 use Rattle.sb_step.proofs.cursor.Cursor.name.Goals as goal
 

@@ -1,6 +1,6 @@
 use Rattle.std.proofs.Common.{◌≡◌, Option, Some, None, IfSome, slice_get, refl, sym, subst}
-use Rattle.sb_step.specs.Cursor.{AreLeft}
-use Rattle.sb_step.specs.Forms.{IsTyped}
+use Rattle.sb_step.specs.Cursors.Cursor.{AreLeft}
+use Rattle.sb_step.specs.Cursors.Forms.{IsTyped}
 use Rattle.sb_step.proofs.cursor.Cursor.typed_next.Goals as goal
 
 -- where no value is so, there is none

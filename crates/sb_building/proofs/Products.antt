@@ -1,0 +1,4 @@
+-- Taken products that are judged, one after another.
+pub mod StandingOneByOne
+pub mod ShapingOneByOne
+pub mod BadLayersOneByOne

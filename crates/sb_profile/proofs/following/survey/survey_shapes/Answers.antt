@@ -1,0 +1,11 @@
+use Rattle.sb_profile.proofs.following.survey.survey_shapes.Goals as goal
+
+pub returns : goal.returns
+returns c = λ said roots first says at_first.
+    let after_one = c.in_ok-follow.ensures said roots first says at_first in
+    let after_two = c.in_ok-follow-2.ensures said roots first says after_one in
+    let after_three = c.in_ok-follow_representations.ensures said roots first says after_two in
+    let after_four = c.in_ok-follow-3.ensures said roots first says after_three in
+    let after_five = c.in_ok-follow-4.ensures said roots first says after_four in
+    let after_six = c.in_ok-follow-5.ensures said roots first says after_five in
+    c.in_ok-follow-6.ensures said roots first says after_six

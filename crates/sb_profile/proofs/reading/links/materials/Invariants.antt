@@ -1,0 +1,16 @@
+use Rattle.std.proofs.Common.{◌≡◌, ℕ, None, take}
+use Rattle.std.specs.Prelude.{filter}
+use Rattle.std.specs.Ordering.{nat_cmp}
+use Rattle.std.specs.BTreeMap.{get}
+use Rattle.sb_profile.specs.Entities.Entity.{rel_associates_material}
+use Rattle.sb_profile.specs.Contents.{Contents, Says, is_unfit}
+use Rattle.sb_profile.specs.Steps.Links.{noted_all, by_listing, lowered}
+use Rattle.sb_profile.proofs.reading.links.materials.Given as goal
+
+abbrev pub invariant-relations : goal.invariant-relations
+invariant-relations l =
+    ((c : Contents) → Says l.file c → (q : ℕ) → get nat_cmp l.links q
+    ≡ noted_all (λ r found. by_listing q r (c.given rel_associates_material r) found) None
+    (take l.relation-index l.relations))
+    × ((c : Contents) → Says l.file c → l.unfit
+    ≡ lowered l.fn.unfit (filter (is_unfit c rel_associates_material) (take l.relation-index l.relations)))

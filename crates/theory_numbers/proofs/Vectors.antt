@@ -1,0 +1,4 @@
+-- Plane vectors.
+pub mod Arrows
+pub mod ThreeTerms
+pub mod Lengths

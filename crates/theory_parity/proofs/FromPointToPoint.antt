@@ -1,0 +1,5 @@
+-- From one point to another.
+pub mod Heights
+pub mod Moves
+pub mod StayNear
+pub mod Across
