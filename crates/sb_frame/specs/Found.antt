@@ -15,8 +15,8 @@ use Rattle.sb_fraction.specs.Crossings.{cross_at}
 use Rattle.sb_fraction.specs.Meetings.{IsSamePoint}
 use Rattle.sb_frame.specs.declared.crossing.Crossing.{Crossing}
 use Rattle.sb_frame.specs.declared.edge.PlanEdge.{PlanEdge}
-use Rattle.sb_frame.specs.declared.finding.Found.{Found}
-use Rattle.sb_frame.specs.declared.finding.Found.TheVariants.{Within, Beyond}
+use Rattle.sb_frame.specs.declared.finding.FoundCrossings.{FoundCrossings}
+use Rattle.sb_frame.specs.declared.finding.FoundCrossings.TheVariants.{Within, Beyond}
 use Rattle.sb_frame.specs.Network.{most_crossings}
 
 -- ---- a list of crossings
@@ -70,7 +70,7 @@ pub record AreAll (es : List PlanEdge) (list : List Crossing) : Type 0 where
   pub all : (p : Spot) → IsSpot p → TwoCross es p → IsFound list p
 
 -- what was found: all crossings, or more than there may be
-abbrev pub HasFound : List PlanEdge → Found → Type 0
+abbrev pub HasFound : List PlanEdge → FoundCrossings → Type 0
 HasFound es (Within list) = AreAll es list.items
 HasFound es Beyond =
     (list : List Crossing) × (AreSome es list × (most_crossings < length list))

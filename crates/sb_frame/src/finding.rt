@@ -17,13 +17,13 @@ const MOST_CROSSINGS: usize = 1024;
 
 /// The crossings of plan edges, each once, unless there are too many.
 #[derive(Drop)]
-pub(crate) enum Found {
+pub(crate) enum FoundCrossings {
     Within(Vec<Crossing>),
     Beyond,
 }
 
 /// The crossings of these edges. Edges that are apart along x are not compared.
-pub(crate) fn crossings(alloc: Global, edges: &[PlanEdge]) -> Result<Found, AllocError>
+pub(crate) fn crossings(alloc: Global, edges: &[PlanEdge]) -> Result<FoundCrossings, AllocError>
     ensures { IfOk result (HasFound edges.now) }
 {
     let mut by_left = Vec::from_slice(alloc, edges)?;
@@ -32,7 +32,7 @@ pub(crate) fn crossings(alloc: Global, edges: &[PlanEdge]) -> Result<Found, Allo
 }
 
 /// The same of edges that begin one after another along x.
-fn crossings_by_left(alloc: Global, edges: &[PlanEdge]) -> Result<Found, AllocError>
+fn crossings_by_left(alloc: Global, edges: &[PlanEdge]) -> Result<FoundCrossings, AllocError>
     requires { AllOfTwo (λ e f. left_of (edge_of e.segment) ≤ℤ left_of (edge_of f.segment)) edges.now }
     ensures { IfOk result (HasFound edges.now) }
 {
@@ -41,11 +41,11 @@ fn crossings_by_left(alloc: Global, edges: &[PlanEdge]) -> Result<Found, AllocEr
     'edges: while let Some((first, others)) = rest.split_first() {
         add_crossings(&mut found, first, others)?;
         if is_too_many(&found) {
-            return Ok(Found::Beyond);
+            return Ok(FoundCrossings::Beyond);
         }
         rest = others;
     }
-    Ok(Found::Within(found))
+    Ok(FoundCrossings::Within(found))
 }
 
 /// Adds the crossings of an edge with those behind it, until there are too many.

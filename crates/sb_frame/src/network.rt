@@ -15,7 +15,7 @@ ghost use Rattle.sb_frame.specs.Through.{places_through};
 
 use crate::crossing::Crossing;
 use crate::edge::PlanEdge;
-use crate::finding::{Found, crossings};
+use crate::finding::{FoundCrossings, crossings};
 use crate::reading::{first_beyond, plan_edges};
 use crate::slab::Indices;
 use crate::through::through_each;
@@ -123,7 +123,7 @@ fn network_of(alloc: Global, model: &Model) -> Result<Option<PlanEdges>, AllocEr
 {
     let edges = plan_edges(alloc, model)?;
     match crossings(alloc, edges.as_slice())? {
-        Found::Within(list) => {
+        FoundCrossings::Within(list) => {
             let crossings = points(alloc, list.as_slice())?;
             let through = through_each(alloc, edges.as_slice(), list.as_slice())?;
             Ok(Some(PlanEdges {
@@ -132,7 +132,7 @@ fn network_of(alloc: Global, model: &Model) -> Result<Option<PlanEdges>, AllocEr
                 through,
             }))
         }
-        Found::Beyond => Ok(None),
+        FoundCrossings::Beyond => Ok(None),
     }
 }
 

@@ -32,8 +32,8 @@ abbrev pub behind : ℕ → Attributes → Attributes
 behind count begun = record begun { left = drop count begun.left }
 
 -- the value by the form of the first parameter that is left, or `Fields`
-abbrev pub Reads : Taking → (form : Form) → Attributes → Result (Value form) ViewError → Type 0
-Reads taking form begun result =
+abbrev pub TakesNext : Taking → (form : Form) → Attributes → Result (Value form) ViewError → Type 0
+TakesNext taking form begun result =
     HasMemory taking result
     → result ≡ ok_or (value form (slice_get begun.left 0)) (view_error.Fields begun.number)
 

@@ -5,7 +5,7 @@ ghost use Rattle.std.specs.Str.{bytes_eq};
 ghost use Rattle.sb_schema.specs.Forms.Form.{reference, reference_or_none, number, string, string_or_none, enumeration, references, coordinates, pairs, typed_lists_or_none};
 ghost use Rattle.sb_schema.specs.Table as spec;
 ghost use Rattle.sb_schema.specs.Views.Taking.{with_memory, without_memory};
-ghost use Rattle.sb_schema.specs.Steps.{Begins, Reads, behind};
+ghost use Rattle.sb_schema.specs.Steps.{Begins, TakesNext, behind};
 
 use crate::error::ViewError;
 use crate::lent::{LentPairs, LentReferences};
@@ -47,14 +47,14 @@ pub(crate) fn begin<'a>(
 /// Each call named for a form reads the next attribute by that form, or answers `Fields`.
 impl<'a> Attributes<'a> {
     pub(crate) fn reference(&mut self) -> Result<u32, ViewError>
-        ensures value { Reads without_memory reference self.old result }
+        ensures value { TakesNext without_memory reference self.old result }
         ensures left { self.new ≡ behind 1 self.old }
     {
         self.left.reference().ok_or(ViewError::Fields(self.number))
     }
 
     pub(crate) fn reference_or_none(&mut self) -> Result<Option<u32>, ViewError>
-        ensures value { Reads without_memory reference_or_none self.old result }
+        ensures value { TakesNext without_memory reference_or_none self.old result }
         ensures left { self.new ≡ behind 1 self.old }
     {
         self.left
@@ -63,7 +63,7 @@ impl<'a> Attributes<'a> {
     }
 
     pub(crate) fn number(&mut self, alloc: Global) -> Result<Text, ViewError>
-        ensures value { Reads with_memory number self.old result }
+        ensures value { TakesNext with_memory number self.old result }
         ensures left { self.new ≡ behind 1 self.old }
     {
         let text = self.left.number();
@@ -71,7 +71,7 @@ impl<'a> Attributes<'a> {
     }
 
     pub(crate) fn enumeration(&mut self, alloc: Global) -> Result<Text, ViewError>
-        ensures value { Reads with_memory enumeration self.old result }
+        ensures value { TakesNext with_memory enumeration self.old result }
         ensures left { self.new ≡ behind 1 self.old }
     {
         let text = self.left.enumeration();
@@ -79,7 +79,7 @@ impl<'a> Attributes<'a> {
     }
 
     pub(crate) fn string(&mut self, alloc: Global) -> Result<Text, ViewError>
-        ensures value { Reads with_memory string self.old result }
+        ensures value { TakesNext with_memory string self.old result }
         ensures left { OnOk result (self.new ≡ behind 1 self.old) }
     {
         let text = self.left.string(alloc)?;
@@ -87,7 +87,7 @@ impl<'a> Attributes<'a> {
     }
 
     pub(crate) fn string_or_none(&mut self, alloc: Global) -> Result<Option<Text>, ViewError>
-        ensures value { Reads with_memory string_or_none self.old result }
+        ensures value { TakesNext with_memory string_or_none self.old result }
         ensures left { OnOk result (self.new ≡ behind 1 self.old) }
     {
         if self.left.is_null() {
@@ -99,7 +99,7 @@ impl<'a> Attributes<'a> {
     }
 
     pub(crate) fn references(&mut self, alloc: Global) -> Result<References, ViewError>
-        ensures value { Reads with_memory references self.old result }
+        ensures value { TakesNext with_memory references self.old result }
         ensures left { OnOk result (self.new ≡ behind 1 self.old) }
     {
         let list = list::<Reference, u32>(alloc, &mut self.left)?;
@@ -107,7 +107,7 @@ impl<'a> Attributes<'a> {
     }
 
     pub(crate) fn coordinates(&mut self, alloc: Global) -> Result<Texts, ViewError>
-        ensures value { Reads with_memory coordinates self.old result }
+        ensures value { TakesNext with_memory coordinates self.old result }
         ensures left { OnOk result (self.new ≡ behind 1 self.old) }
     {
         let list = list::<Number, Text>(alloc, &mut self.left)?;
@@ -115,7 +115,7 @@ impl<'a> Attributes<'a> {
     }
 
     pub(crate) fn pairs(&mut self, alloc: Global) -> Result<Pairs, ViewError>
-        ensures value { Reads with_memory pairs self.old result }
+        ensures value { TakesNext with_memory pairs self.old result }
         ensures left { OnOk result (self.new ≡ behind 1 self.old) }
     {
         let list = list::<Pair, Texts>(alloc, &mut self.left)?;
@@ -126,7 +126,7 @@ impl<'a> Attributes<'a> {
         &mut self,
         alloc: Global,
     ) -> Result<Option<TypedLists>, ViewError>
-        ensures value { Reads with_memory typed_lists_or_none self.old result }
+        ensures value { TakesNext with_memory typed_lists_or_none self.old result }
         ensures left { OnOk result (self.new ≡ behind 1 self.old) }
     {
         if self.left.is_null() {
@@ -140,7 +140,7 @@ impl<'a> Attributes<'a> {
     }
 
     pub(crate) fn lent_references(&mut self) -> Result<LentReferences<'a>, ViewError>
-        ensures value { Reads without_memory references self.old result }
+        ensures value { TakesNext without_memory references self.old result }
         ensures left { self.new ≡ behind 1 self.old }
     {
         match items(&mut self.left) {
@@ -150,7 +150,7 @@ impl<'a> Attributes<'a> {
     }
 
     pub(crate) fn lent_pairs(&mut self) -> Result<LentPairs<'a>, ViewError>
-        ensures value { Reads without_memory pairs self.old result }
+        ensures value { TakesNext without_memory pairs self.old result }
         ensures left { self.new ≡ behind 1 self.old }
     {
         match items(&mut self.left) {

@@ -28,7 +28,7 @@ pub record Moves (n : ℕ) (before after left : List ℕ) (new : World) : Type 0
 
 -- `read` into a piece: `before` and `after` are the bytes of the piece. After a failed call they
 -- are the same where it is told what is left; a host does not say what a failed read leaves there.
-pub record Reads
+pub record ReadsInto
     (before after : List ℕ) (result : Result ℕ Failed) (old new : World) : Type 0 where
   pub keeps : OnlyReads old new
   pub asked : new.asked_inputs ≡ old.asked_inputs

@@ -99,7 +99,7 @@ impl<R: Files + Print + Drop> HostShelf<R> {
 
 impl<R: Files + Print + Drop> Shelf for HostShelf<R> {
     ghost use Rattle.sb_shelf.specs.Host.{host_state};
-    ghost use Rattle.sb_shelf.specs.Calls.{Opens, Reads, Creates, Writes};
+    ghost use Rattle.sb_shelf.specs.Calls.{Opens, ReadsInto, Creates, Writes};
     ghost use Rattle.sb_shelf.specs.Counting.{CountsReads, CountsCreates, CountsWrites};
     ghost use Rattle.std.specs.Prelude.{refl};
 
@@ -127,7 +127,7 @@ impl<R: Files + Print + Drop> Shelf for HostShelf<R> {
 
     fn read(&mut self, into: &mut [u8]) -> Result<usize, Failed>
         ensures meets { let state = ⟦<Self as Shelf>⟧.state in
-            Reads into.old into.new result (state self.old) (state self.new) }
+            ReadsInto into.old into.new result (state self.old) (state self.new) }
         ensures faults { let state = ⟦<Self as Shelf>⟧.state in
             CountsReads result (state self.old) (state self.new) }
     {

@@ -97,7 +97,7 @@ impl MemoryShelf {
 }
 
 impl Shelf for MemoryShelf {
-    ghost use Rattle.sb_shelf.specs.Calls.{Opens, Reads, Creates, Writes};
+    ghost use Rattle.sb_shelf.specs.Calls.{Opens, ReadsInto, Creates, Writes};
     ghost use Rattle.sb_shelf.specs.Memory.{memory_state, is_listed, at_most_a_piece, room_of};
     ghost use Rattle.sb_shelf.specs.Memory.{IsCall, SameRooms, SameOtherRooms};
     ghost use Rattle.sb_shelf.specs.Counting.{CountsReads, CountsCreates, CountsWrites};
@@ -122,7 +122,7 @@ impl Shelf for MemoryShelf {
     }
 
     fn read(&mut self, into: &mut [u8]) -> Result<usize, Failed>
-        ensures meets { Reads into.old into.new result
+        ensures meets { ReadsInto into.old into.new result
             (memory_state self.old) (memory_state self.new) }
         ensures fails { is_err result ≡ is_listed self.old }
         ensures count { IfOk result (λ n. IfSome (memory_state self.old).left (λ left.

@@ -26,7 +26,7 @@ pub struct Failed;
 /// three files, and of `write` to `Said`. Each count stays at 2^64 - 1 once it is there.
 pub trait Shelf {
     ghost use Rattle.sb_shelf.specs.World.{World};
-    ghost use Rattle.sb_shelf.specs.Calls.{Opens, Reads, Creates, Writes};
+    ghost use Rattle.sb_shelf.specs.Calls.{Opens, ReadsInto, Creates, Writes};
     ghost use Rattle.sb_shelf.specs.declared.shelf.Out.TheVariants.{Said};
 
     /// What the shelf stands for.
@@ -40,7 +40,7 @@ pub trait Shelf {
     ///
     /// 0 for a piece that is not empty comes exactly at the end.
     fn read(&mut self, into: &mut [u8]) -> Result<usize, Failed>
-        ensures { Reads into.old into.new result (state self.old) (state self.new) };
+        ensures { ReadsInto into.old into.new result (state self.old) (state self.new) };
 
     /// Makes the output created and empty.
     fn create(&mut self, out: Out, path: &str) -> Result<(), Failed>

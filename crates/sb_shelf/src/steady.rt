@@ -41,7 +41,7 @@ impl SteadyShelf {
 }
 
 impl Shelf for SteadyShelf {
-    ghost use Rattle.sb_shelf.specs.Calls.{Opens, Reads, Creates, Writes};
+    ghost use Rattle.sb_shelf.specs.Calls.{Opens, ReadsInto, Creates, Writes};
     ghost use Rattle.sb_shelf.specs.Steady.{steady_state};
     ghost use Rattle.std.proofs.Common.{refl};
 
@@ -60,7 +60,7 @@ impl Shelf for SteadyShelf {
     }
 
     fn read(&mut self, into: &mut [u8]) -> Result<usize, Failed>
-        ensures meets { Reads into.old into.new result
+        ensures meets { ReadsInto into.old into.new result
             (steady_state self.old) (steady_state self.new) }
         ensures never_fails { IsOk result }
         ensures count { IfOk result (λ n. IfSome (steady_state self.old).left (λ left.

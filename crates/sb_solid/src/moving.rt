@@ -14,14 +14,14 @@ use std::alloc::{AllocError, Global};
 
 /// So many whole millimetres along x, y and z.
 #[derive(Clone, Copy)]
-pub(crate) struct Steps {
+pub(crate) struct Displacement {
     pub(crate) x: i128,
     pub(crate) y: i128,
     pub(crate) z: i128,
 }
 
 /// The prism moved so far; `Loops` only where it is then out of range.
-pub(crate) fn moved(alloc: Global, prism: &Prism, steps: Steps) -> Result<Prism, SolidError>
+pub(crate) fn moved(alloc: Global, prism: &Prism, steps: Displacement) -> Result<Prism, SolidError>
     requires { spec.AreFew steps }
     ensures { spec.IsMoved steps prism.now result }
 {
@@ -44,7 +44,7 @@ pub(crate) fn moved(alloc: Global, prism: &Prism, steps: Steps) -> Result<Prism,
 fn moved_loops(
     alloc: Global,
     loops: &PointLists,
-    steps: Steps,
+    steps: Displacement,
 ) -> Result<Option<PointLists>, AllocError>
     requires { spec.AreFew steps }
     ensures { IfOk result (λ all. spec.AreMoved steps loops.now all) }
@@ -59,7 +59,11 @@ fn moved_loops(
     Ok(Some(all))
 }
 
-fn moved_points(alloc: Global, points: &[Point], steps: Steps) -> Result<Option<Points>, AllocError>
+fn moved_points(
+    alloc: Global,
+    points: &[Point],
+    steps: Displacement,
+) -> Result<Option<Points>, AllocError>
     requires { spec.AreFew steps }
     ensures { IfOk result (λ all. spec.IsMovedLoop steps points.now all) }
 {
@@ -73,7 +77,7 @@ fn moved_points(alloc: Global, points: &[Point], steps: Steps) -> Result<Option<
     Ok(Some(all))
 }
 
-fn moved_point(point: Point, steps: Steps) -> Option<Point>
+fn moved_point(point: Point, steps: Displacement) -> Option<Point>
     requires { spec.AreFew steps }
     ensures { spec.IsMovedPoint steps point result }
 {

@@ -12,7 +12,7 @@ ghost use Rattle.sb_solid.specs.Moving as moving;
 
 use crate::counting::{anchor, step};
 use crate::error::SolidError;
-use crate::moving::{Steps, moved};
+use crate::moving::{Displacement, moved};
 use crate::points::lying::wide;
 use crate::points::sizes::{Lying, Wide};
 use crate::spans::{Span, are_in_world, are_near};
@@ -74,12 +74,12 @@ impl Placing {
     }
 
     /// How far the prism is moved from its anchors.
-    fn steps(&self, shift: Wide, way: Lying) -> Steps
+    fn steps(&self, shift: Wide, way: Lying) -> Displacement
         ensures value { moving.steps_at result ≡ spec.steps_of (spec.anchor_at self.now (vector_at way)) (wide_at shift) }
         ensures few { moving.AreFew result }
     {
         let anchors = anchors_of(self.x, self.y, self.z, way);
-        Steps {
+        Displacement {
             x: step(anchors.x, shift.x),
             y: step(anchors.y, shift.y),
             z: step(anchors.z, shift.z),

@@ -27,8 +27,8 @@ use Rattle.sb_fraction.specs.Edges.{Edge, edge_of}
 use Rattle.sb_fraction.specs.Crossings.{cross_at}
 use Rattle.sb_frame.specs.declared.crossing.Crossing.{Crossing}
 use Rattle.sb_frame.specs.declared.edge.PlanEdge.{PlanEdge}
-use Rattle.sb_frame.specs.declared.finding.Found.{Found}
-use Rattle.sb_frame.specs.declared.finding.Found.TheVariants.{Within, Beyond}
+use Rattle.sb_frame.specs.declared.finding.FoundCrossings.{FoundCrossings}
+use Rattle.sb_frame.specs.declared.finding.FoundCrossings.TheVariants.{Within, Beyond}
 use Rattle.sb_frame.specs.Network.{most_crossings}
 use Rattle.sb_frame.specs.Crossings.{IsCrossingOf, CrossNowhere}
 use Rattle.sb_frame.specs.Found.{Ascend, IsFound, IsAdded, CrossesOne, AreAdded, TwoCross, AreSome}
@@ -275,7 +275,7 @@ some_elsewhere es fs list there some =
     }
 
 -- the crossings of edges do not depend on their order
-pub found_permuted : (es fs : List PlanEdge) (found : Found) → IsPermutation es fs
+pub found_permuted : (es fs : List PlanEdge) (found : FoundCrossings) → IsPermutation es fs
     → HasFound fs found → HasFound es found
 found_permuted es fs (Within list) permuted all =
     record {
@@ -411,7 +411,7 @@ sorted_by_left es sorted =
             clash p same test = absurd cc
 
 -- what was found of the edges in another order
-pub found_if : (es fs : List PlanEdge) (r : Result Found AllocError) → IsPermutation es fs
+pub found_if : (es fs : List PlanEdge) (r : Result FoundCrossings AllocError) → IsPermutation es fs
     → IfOk r (HasFound fs) → IfOk r (HasFound es)
 found_if es fs (Ok found) permuted has = found_permuted es fs found permuted has
 found_if es fs (Err e) permuted has = tt

@@ -17,7 +17,7 @@ use Rattle.theory_shifts.proofs.PlansMove.{still_plan}
 use Rattle.sb_model.specs.Frames.{sum_of}
 use Rattle.sb_model.specs.Solids.{Upright, upright, is_upright, is_height}
 use Rattle.sb_solid.specs.declared.placing.Placing.{Placing}
-use Rattle.sb_solid.specs.declared.moving.Steps.{Steps}
+use Rattle.sb_solid.specs.declared.moving.Displacement.{Displacement}
 use Rattle.sb_solid.specs.declared.error.SolidError.{SolidError}
 use Rattle.sb_solid.specs.declared.error.SolidError.TheVariants as solid_error
 use Rattle.sb_solid.specs.Grid.{is_in_world, nearest_millimetre}
@@ -174,7 +174,7 @@ solid_in_range e shift q inside is =
 -- ---- the answer
 
 never_beyond : (e : Extruded) (p : Placing) (shift : Vector) → IsPlacingOf e p → is_beyond e shift ≡ false
-    → is_off_grid e shift ≡ false → (q : Upright) → p.prism ≡ Some q → (s : Steps)
+    → is_off_grid e shift ≡ false → (q : Upright) → p.prism ≡ Some q → (s : Displacement)
     → steps_at s ≡ steps_of (anchor_at p e.way) shift → is_in_range (moved_upright (steps_at s) q) ≡ false → ⊥
 never_beyond e p shift is inside on_grid q some s steps beyond =
     false≢true
@@ -183,7 +183,7 @@ never_beyond e p shift is inside on_grid q some s steps beyond =
     (kept_some e p shift is inside on_grid q some ∙ ap Some (ap (λ w. moved_upright w q) (sym steps))))
 
 pub moved_answers : (e : Extruded) (p : Placing) (shift : Vector) → IsPlacingOf e p → is_beyond e shift ≡ false
-    → is_off_grid e shift ≡ false → (q : Upright) → p.prism ≡ Some q → (s : Steps)
+    → is_off_grid e shift ≡ false → (q : Upright) → p.prism ≡ Some q → (s : Displacement)
     → steps_at s ≡ steps_of (anchor_at p e.way) shift → (result : Result Upright SolidError) → IsMoved s q result
     → JudgesAt e shift result
 moved_answers e p shift is inside on_grid q some s steps (Ok r) made = (

@@ -376,7 +376,7 @@ turns_come o (g ∷ fs) w x xs f =
 -- the whole
 
 -- a text goes on so from the state, and is shallow
-record Reads (s : State) (f : File) (xs : List Lexeme) : Type 0 where
+record ReadsAFile (s : State) (f : File) (xs : List Lexeme) : Type 0 where
   goes : Goes s f xs
   shallow : Shallow (depth s) xs
 
@@ -409,7 +409,7 @@ shallow_end : (d : ℕ) → d ≤ greatest_depth → Shallow d []
 shallow_end d low [] back same = omega arith
 shallow_end d low (x ∷ front) back same = absurd (cc)
 
-reads : (xs : List Lexeme) (s : State) (f : File) → Fits s → ends xs s ≡ Some f → Reads s f xs
+reads : (xs : List Lexeme) (s : State) (f : File) → Fits s → ends xs s ≡ Some f → ReadsAFile s f xs
 reads [] s f fit is = record {
   goes = ended s.section s.nest.brackets s.nest.want f is;
   shallow = shallow_end (depth s)
@@ -419,7 +419,7 @@ reads (x ∷ xs) s f fit is =
     option_and_then_some _ (next_turn s x) f is (λ turn next found.
     let later = mapped (prepend turn.event) (ends xs turn.state) f found in
     let r = reads xs turn.state later.0 (turn_fits s x turn fit next) later.1 in
-    subst (λ g. Reads s g (x ∷ xs)) later.2 (record {
+    subst (λ g. ReadsAFile s g (x ∷ xs)) later.2 (record {
       goes = each_turned
           (λ t. Goes t.state later.0 xs → Goes s (prepend t.event later.0) (x ∷ xs)) s.section
           s.nest.brackets s.nest.want x
