@@ -1,6 +1,6 @@
 mod Verdicts
 mod EachFileSays
-mod Tables
+mod TablesOfFiles
 mod LowestOfAList
 mod ListsOfNumbers
 mod Followed

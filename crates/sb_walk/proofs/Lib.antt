@@ -7,7 +7,7 @@ mod Ranges
 mod EdgesBeside
 mod SpacesFound
 mod SortedOnce
-mod Reading
+mod WalksRead
 mod TurnedNumbers
 mod PositionsCounted
 mod Examples

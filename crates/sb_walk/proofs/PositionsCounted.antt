@@ -26,7 +26,7 @@ use Rattle.sb_frame.specs.Rising.{IsRisingOf}
 use Rattle.sb_walk.specs.Present.{ArePresent}
 use Rattle.sb_walk.specs.Behind.{prism_ends, space_ends, element_ends, ends_at, ends_of}
 use Rattle.sb_walk.specs.WalksInGaps.{positions_after}
-use Rattle.sb_walk.proofs.Reading.LabelsOfPresent.{found_there}
+use Rattle.sb_walk.proofs.WalksRead.LabelsOfPresent.{found_there}
 
 -- ---- rising positions behind a beginning
 

@@ -10,7 +10,7 @@ use Rattle.sb_profile.specs.Contents.{Contents, is_absent}
 use Rattle.sb_profile.specs.Lowest.{lower_if}
 use Rattle.sb_profile.specs.Following.{leads}
 use Rattle.sb_profile.specs.Steps.Found.{leads_with, is_unfit_at, FindsAs, Finds, FindsEach}
-use Rattle.sb_profile.proofs.Tables.LinksAreNoted.{lowered_more}
+use Rattle.sb_profile.proofs.TablesOfFiles.LinksAreNoted.{lowered_more}
 use Rattle.sb_profile.proofs.ListsOfNumbers.{flat_map_more}
 
 pub each_of_none : (bodies : ℕ → Bool) (c : Contents) (at : Place) (found : Found)

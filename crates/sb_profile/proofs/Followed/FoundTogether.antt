@@ -17,7 +17,7 @@ use Rattle.sb_profile.specs.Contents.{Contents, Says, is_unfit}
 use Rattle.sb_profile.specs.Lowest.{lower_if}
 use Rattle.sb_profile.specs.Following.{Lead, from}
 use Rattle.sb_profile.specs.Steps.Found.{FindsAs, FindsOnly, Finds, AreBodies, leads_with, is_unfit_at}
-use Rattle.sb_profile.proofs.Tables.ViewsAreSights.{giver_is_fit}
+use Rattle.sb_profile.proofs.TablesOfFiles.ViewsAreSights.{giver_is_fit}
 
 -- ---- one of two or three that leads on, or is unfit
 

@@ -31,8 +31,8 @@ use Rattle.sb_profile.proofs.ListsOfNumbers.{any_stands, stands_either}
 use Rattle.sb_profile.proofs.Followed.PlacesAreFollowed.{stands_filter, filter_stands, lowest_same, lowest_with_all, surveyed_more, stands_wanted, wanted_stands}
 use Rattle.sb_profile.proofs.Followed.EachIsFound.{alike_for_placements}
 use Rattle.sb_profile.proofs.Followed.LeadsGoOn.{rank_low}
-use Rattle.sb_profile.proofs.Tables.TablesAreRead.{elements_of_products}
-use Rattle.sb_profile.proofs.Tables.ViewsAreSights.{any_by_lookup, unkeyed}
+use Rattle.sb_profile.proofs.TablesOfFiles.TablesAreRead.{elements_of_products}
+use Rattle.sb_profile.proofs.TablesOfFiles.ViewsAreSights.{any_by_lookup, unkeyed}
 
 -- ---- tests
 

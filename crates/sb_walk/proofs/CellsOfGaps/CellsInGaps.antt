@@ -59,7 +59,7 @@ use Rattle.sb_walk.proofs.EdgesBeside.{IsSpanning, of_order, first_stands, secon
 use Rattle.sb_walk.proofs.Ranges.LinesOfEdges.{line_is_of, line_runs_forward}
 use Rattle.sb_walk.proofs.Ranges.PointsBetween.{strictly, in_gap, off_line, inside_present}
 use Rattle.sb_walk.proofs.CellsOfGaps.StripsOfGaps.{slab_of, order_of}
-use Rattle.sb_walk.proofs.Reading.WalksAreRead.{walk_in_gap}
+use Rattle.sb_walk.proofs.WalksRead.WalksAreRead.{walk_in_gap}
 use Rattle.sb_walk.proofs.SpacesFound.{found_stands, found_number}
 
 -- ---- equal numbers

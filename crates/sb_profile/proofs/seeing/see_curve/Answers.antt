@@ -7,7 +7,7 @@ use Rattle.sb_profile.specs.declared.following.places.Place.TheVariants as place
 use Rattle.sb_profile.specs.Entities.Entity.{polyline, indexed_poly_curve}
 use Rattle.sb_profile.specs.Following.{to_each}
 use Rattle.sb_profile.proofs.Followed.FoundTogether.{found_by_keyword}
-use Rattle.sb_profile.proofs.Tables.OneByKeyword.{indexed_alone, polyline_alone}
+use Rattle.sb_profile.proofs.TablesOfFiles.OneByKeyword.{indexed_alone, polyline_alone}
 use Rattle.sb_profile.proofs.seeing.see_curve.Goals as goal
 
 pub returns-then-is_one_of : goal.returns-then-is_one_of

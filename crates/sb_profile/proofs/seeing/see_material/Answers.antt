@@ -7,7 +7,7 @@ use Rattle.sb_profile.specs.declared.following.places.Place.TheVariants as place
 use Rattle.sb_profile.specs.Entities.Entity.{material, material_layer_set, material_layer_set_usage}
 use Rattle.sb_profile.specs.Following.{to_each}
 use Rattle.sb_profile.proofs.Followed.FoundTogether.{found_by_keyword}
-use Rattle.sb_profile.proofs.Tables.OneByKeyword.{usage_alone, set_alone, material_alone}
+use Rattle.sb_profile.proofs.TablesOfFiles.OneByKeyword.{usage_alone, set_alone, material_alone}
 use Rattle.sb_profile.proofs.seeing.see_material.Goals as goal
 
 pub returns-then-is_one_of : goal.returns-then-is_one_of

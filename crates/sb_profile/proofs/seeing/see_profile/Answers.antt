@@ -7,7 +7,7 @@ use Rattle.sb_profile.specs.declared.following.places.Place.TheVariants as place
 use Rattle.sb_profile.specs.Entities.Entity.{rectangle_profile_def, arbitrary_closed_profile_def, arbitrary_profile_def_with_voids}
 use Rattle.sb_profile.specs.Following.{to, to_each}
 use Rattle.sb_profile.proofs.Followed.FoundTogether.{found_by_keyword}
-use Rattle.sb_profile.proofs.Tables.OneByKeyword.{closed_alone, voids_alone, rectangle_alone}
+use Rattle.sb_profile.proofs.TablesOfFiles.OneByKeyword.{closed_alone, voids_alone, rectangle_alone}
 use Rattle.sb_profile.proofs.seeing.see_profile.Goals as goal
 
 pub returns-then-is_one_of : goal.returns-then-is_one_of

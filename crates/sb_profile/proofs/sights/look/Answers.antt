@@ -1,4 +1,4 @@
-use Rattle.sb_profile.proofs.Tables.ViewsAreSights.{shown_all}
+use Rattle.sb_profile.proofs.TablesOfFiles.ViewsAreSights.{shown_all}
 use Rattle.sb_profile.proofs.sights.look.Goals as goal
 
 pub returns : goal.returns

@@ -11,9 +11,9 @@ use Rattle.sb_profile.specs.Products.{is_space, is_element, is_opening}
 use Rattle.sb_profile.specs.Steps.Links.{noted_all, by_listing, by_voiding, lowered}
 use Rattle.sb_profile.specs.Steps.Shapes.{shaped_space, shaped_product}
 use Rattle.sb_profile.specs.Steps.Read.{AreTaken, target_in}
-use Rattle.sb_profile.proofs.Tables.LinksAreNoted.{lowered_then}
-use Rattle.sb_profile.proofs.Tables.TablesAreRead.{given_keyword, spaces_taken, elements_taken, openings_taken, listing_is}
-use Rattle.sb_profile.proofs.Tables.RelationsGive.{taken_is, giving_is}
+use Rattle.sb_profile.proofs.TablesOfFiles.LinksAreNoted.{lowered_then}
+use Rattle.sb_profile.proofs.TablesOfFiles.TablesAreRead.{given_keyword, spaces_taken, elements_taken, openings_taken, listing_is}
+use Rattle.sb_profile.proofs.TablesOfFiles.RelationsGive.{taken_is, giving_is}
 use Rattle.sb_profile.proofs.tables.read_tables.Goals as goal
 
 pub returns-clause-unfit : goal.returns-clause-unfit

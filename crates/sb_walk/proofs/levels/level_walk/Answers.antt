@@ -2,7 +2,7 @@
 use Rattle.std.specs.Int.{w32}
 use Rattle.std.proofs.Common.{rules, FitsSigned}
 use Rattle.std.proofs.lemmas.Int.{to_z-of_z}
-use Rattle.sb_walk.proofs.Reading.WalksAreRead.{places_fit, walk_is_made}
+use Rattle.sb_walk.proofs.WalksRead.WalksAreRead.{places_fit, walk_is_made}
 use Rattle.sb_walk.proofs.levels.level_walk.Goals as goal
 
 pub present_behind-requires : goal.present_behind-requires

@@ -1,6 +1,6 @@
 -- By its size.
 use Rattle.std.proofs.Common.{rules, ◌≡◌, ◌∙◌, ap, ◌-ℤ◌, unsigned_abs, nat_le}
-use Rattle.sb_walk.proofs.Reading.ReadAlong.{within_is}
+use Rattle.sb_walk.proofs.WalksRead.ReadAlong.{within_is}
 use Rattle.sb_walk.proofs.reading.is_within_reach.Goals as goal
 
 pub returns : goal.returns

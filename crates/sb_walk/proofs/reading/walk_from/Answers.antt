@@ -5,7 +5,7 @@ use Rattle.std.proofs.lemmas.Int.{to_z-of_z}
 use Rattle.sb_model.specs.Walks.{course_of}
 use Rattle.sb_walk.specs.Ways.{normal_of}
 use Rattle.sb_walk.specs.Behind.{read_on}
-use Rattle.sb_walk.proofs.Reading.ReadAlong.{passed_here, ended_here, ended_at_last}
+use Rattle.sb_walk.proofs.WalksRead.ReadAlong.{passed_here, ended_here, ended_at_last}
 use Rattle.sb_walk.proofs.reading.walk_from.Goals as goal
 
 pub returns-in_default-item_of : goal.returns-in_default-item_of

@@ -1,7 +1,7 @@
 use Rattle.std.proofs.Common.{sym, ◌∙◌, subst, get_or, take}
 use Rattle.std.proofs.lemmas.List.{take_more}
 use Rattle.sb_profile.specs.Steps.Kinds.{AreSorted}
-use Rattle.sb_profile.proofs.Tables.KindsAreSorted.{sorted_all}
+use Rattle.sb_profile.proofs.TablesOfFiles.KindsAreSorted.{sorted_all}
 use Rattle.sb_profile.proofs.reading.kinds.by_keyword.Goals as goal
 
 pub numbers-init : goal.numbers-init

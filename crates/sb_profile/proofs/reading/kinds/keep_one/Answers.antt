@@ -1,6 +1,6 @@
 use Rattle.std.proofs.Common.{ap, sym, ◌∙◌, subst}
 use Rattle.sb_profile.specs.Steps.Kinds.{KeepsProducts, KeepsOthers, may_count}
-use Rattle.sb_profile.proofs.Tables.KindsAreSorted.{sorted_more, sorted_same}
+use Rattle.sb_profile.proofs.TablesOfFiles.KindsAreSorted.{sorted_more, sorted_same}
 use Rattle.sb_profile.proofs.reading.kinds.keep_one.Goals as goal
 
 pub returns-then-not-may_count : goal.returns-then-not-may_count

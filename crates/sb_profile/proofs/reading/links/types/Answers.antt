@@ -5,7 +5,7 @@ use Rattle.sb_profile.specs.Entities.Entity.{rel_defines_by_type}
 use Rattle.sb_profile.specs.Contents.{is_unfit}
 use Rattle.sb_profile.specs.Lowest.{lower_if}
 use Rattle.sb_profile.specs.Steps.Links.{noted_all, by_listing, lowered}
-use Rattle.sb_profile.proofs.Tables.LinksAreNoted.{noted_more, lowered_more}
+use Rattle.sb_profile.proofs.TablesOfFiles.LinksAreNoted.{noted_more, lowered_more}
 use Rattle.sb_profile.proofs.reading.links.types.Goals as goal
 
 pub relations-preserved : goal.relations-preserved

@@ -6,7 +6,7 @@ use Rattle.sb_profile.specs.Contents.{is_unfit}
 use Rattle.sb_profile.specs.Lowest.{lower_if}
 use Rattle.sb_profile.specs.Steps.Links.{lowered}
 use Rattle.sb_profile.specs.Steps.Shapes.{shaped_space}
-use Rattle.sb_profile.proofs.Tables.LinksAreNoted.{lowered_more}
+use Rattle.sb_profile.proofs.TablesOfFiles.LinksAreNoted.{lowered_more}
 use Rattle.sb_profile.proofs.ListsOfNumbers.{filter_map_more}
 use Rattle.sb_profile.proofs.reading.products.spaces.Goals as goal
 

@@ -4,7 +4,7 @@ use Rattle.std.proofs.lemmas.List.{take_all}
 use Rattle.sb_profile.specs.Contents.{is_unfit}
 use Rattle.sb_profile.specs.Lowest.{lower_if}
 use Rattle.sb_profile.specs.Steps.Links.{lowered}
-use Rattle.sb_profile.proofs.Tables.LinksAreNoted.{lowered_more}
+use Rattle.sb_profile.proofs.TablesOfFiles.LinksAreNoted.{lowered_more}
 use Rattle.sb_profile.proofs.reading.products.unfit_among.Goals as goal
 
 pub numbers-preserved : goal.numbers-preserved

@@ -1,5 +1,5 @@
 use Rattle.std.proofs.Common.{slice_get}
-use Rattle.sb_profile.proofs.Tables.UnitsAreCounted.{given_items}
+use Rattle.sb_profile.proofs.TablesOfFiles.UnitsAreCounted.{given_items}
 use Rattle.sb_profile.proofs.reading.units.items.Goals as goal
 
 pub returns : goal.returns

@@ -5,7 +5,7 @@ use Rattle.sb_step.specs.declared.parameters.param.Param.{Param}
 use Rattle.sb_step.specs.Cursors.Forms.{reference_in}
 use Rattle.sb_profile.specs.Units.{is_length_unit}
 use Rattle.sb_profile.specs.Steps.Counting.{counted, with_member, the_only}
-use Rattle.sb_profile.proofs.Tables.UnitsAreCounted.{counted_member, counted_only}
+use Rattle.sb_profile.proofs.TablesOfFiles.UnitsAreCounted.{counted_member, counted_only}
 use Rattle.sb_profile.proofs.reading.units.length_unit.Goals as goal
 
 -- the references among parameters

@@ -1,4 +1,4 @@
-use Rattle.sb_profile.proofs.Tables.UnitsAreCounted.{params_are}
+use Rattle.sb_profile.proofs.TablesOfFiles.UnitsAreCounted.{params_are}
 use Rattle.sb_profile.proofs.reading.units.parameters.Goals as goal
 
 pub returns-clause-some : goal.returns-clause-some

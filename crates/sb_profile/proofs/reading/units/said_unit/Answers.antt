@@ -1,7 +1,7 @@
 use Rattle.std.proofs.Common.{◌≡◌, true, ap, sym, ◌∙◌, drop, slice_get}
 use Rattle.std.specs.Prelude.{option_copied}
 use Rattle.sb_step.specs.Cursors.Forms.{enumeration_in, is_null_in}
-use Rattle.sb_profile.proofs.Tables.UnitsAreCounted.{unit_tells}
+use Rattle.sb_profile.proofs.TablesOfFiles.UnitsAreCounted.{unit_tells}
 use Rattle.sb_profile.proofs.reading.units.said_unit.Goals as goal
 
 pub returns-then-is_one_of : goal.returns-then-is_one_of

@@ -31,9 +31,9 @@ use Rattle.sb_profile.specs.Steps.Read.{IsTakenAs, AreTaken, target_in}
 use Rattle.sb_profile.proofs.ListsOfNumbers.{any_stands}
 use Rattle.sb_profile.proofs.Followed.PlacesAreFollowed.{stands_filter, filter_stands}
 use Rattle.sb_profile.proofs.Followed.LeadsFromProducts.{stands_filter_map, filter_map_stands}
-use Rattle.sb_profile.proofs.Tables.LinksAreNoted.{noted_is_lowest}
+use Rattle.sb_profile.proofs.TablesOfFiles.LinksAreNoted.{noted_is_lowest}
 use Rattle.sb_profile.proofs.LowestOfAList.{lowest_stands}
-use Rattle.sb_profile.proofs.Tables.ViewsAreSights.{any_by_lookup}
+use Rattle.sb_profile.proofs.TablesOfFiles.ViewsAreSights.{any_by_lookup}
 
 -- ---- keywords
 

@@ -18,9 +18,9 @@ use Rattle.sb_profile.specs.Lowest.{lowest_of}
 use Rattle.sb_profile.specs.Steps.Links.{noted, noted_all, link, by_voiding, Voiding}
 use Rattle.sb_profile.specs.Steps.Read.{AreTaken, target_in}
 use Rattle.sb_profile.proofs.Followed.PlacesAreFollowed.{stands_filter}
-use Rattle.sb_profile.proofs.Tables.LinksAreNoted.{noted_is_lowest}
+use Rattle.sb_profile.proofs.TablesOfFiles.LinksAreNoted.{noted_is_lowest}
 use Rattle.sb_profile.proofs.LowestOfAList.{lowest_stands}
-use Rattle.sb_profile.proofs.Tables.TablesAreRead.{two_filters, filter_same}
+use Rattle.sb_profile.proofs.TablesOfFiles.TablesAreRead.{two_filters, filter_same}
 
 same_tests : (a b : Bool) → (a ≡ true → b ≡ true) → (b ≡ true → a ≡ true) → a ≡ b
 same_tests true b there back = sym (there refl)

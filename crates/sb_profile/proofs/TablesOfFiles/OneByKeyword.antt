@@ -7,7 +7,7 @@ use Rattle.sb_profile.specs.declared.following.places.Place.TheVariants as place
 use Rattle.sb_profile.specs.Entities.Entity.{rectangle_profile_def, arbitrary_closed_profile_def, arbitrary_profile_def_with_voids, polyline, indexed_poly_curve, material, material_layer_set, material_layer_set_usage}
 use Rattle.sb_profile.specs.Contents.{Contents, Says, is_unfit}
 use Rattle.sb_profile.specs.Following.{Lead, from, to, to_each}
-use Rattle.sb_profile.proofs.Tables.ViewsAreSights.{other_gives_nothing, one_keyword}
+use Rattle.sb_profile.proofs.TablesOfFiles.ViewsAreSights.{other_gives_nothing, one_keyword}
 use Rattle.sb_profile.proofs.Followed.FoundTogether.{IsAlone, first_of_two, second_of_two, first_of_three, second_of_three, third_of_three, first_alone, second_alone, neither, from_nothing, from_none}
 
 abbrev RECTANGLE : List ℕ

@@ -35,7 +35,7 @@ use Rattle.sb_walk.specs.Present.{ArePresent}
 use Rattle.sb_walk.specs.Ways.{normal_of}
 use Rattle.sb_walk.specs.Behind.{label_on, read_on, ends_of}
 use Rattle.sb_walk.specs.WalksInGaps.{IsWalkInGap, positions_after, read_for}
-use Rattle.sb_walk.proofs.Reading.LabelsOfPresent.{label_is}
+use Rattle.sb_walk.proofs.WalksRead.LabelsOfPresent.{label_is}
 use Rattle.sb_walk.proofs.PositionsCounted.{have_heights}
 use Rattle.sb_walk.proofs.SharedGaps.{x_is_way, places_in}
 
