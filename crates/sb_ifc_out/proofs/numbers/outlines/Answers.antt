@@ -2,7 +2,7 @@
 use Rattle.std.proofs.Common.{◌≤◌, ◌∙◌, ap, map, length, arith}
 use Rattle.std.proofs.lemmas.List.{take_all}
 use Rattle.sb_model.specs.declared.boundary.Boundary.{Boundary}
-use Rattle.sb_model.specs.Corners.{corners_of}
+use Rattle.sb_model.specs.Surfaces.Corners.{corners_of}
 use Rattle.sb_ifc_out.proofs.OutlinesOfLists.{one_more_outline}
 use Rattle.sb_ifc_out.proofs.numbers.outlines.Goals as goal
 

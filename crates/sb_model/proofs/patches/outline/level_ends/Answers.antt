@@ -1,7 +1,7 @@
 use Rattle.std.proofs.Common.{rules, w32, FitsSigned, ◌∙◌, ap}
 use Rattle.std.proofs.lemmas.Int.{to_z-of_z}
-use Rattle.sb_model.specs.Corners.{level_corner}
-use Rattle.sb_model.proofs.outline.level_ends.Goals as goal
+use Rattle.sb_model.specs.Surfaces.Corners.{level_corner}
+use Rattle.sb_model.proofs.patches.outline.level_ends.Goals as goal
 
 pub returns-clause-low_lower : goal.returns-clause-low_lower
 returns-clause-low_lower c =

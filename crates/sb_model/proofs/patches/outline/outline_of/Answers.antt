@@ -1,8 +1,8 @@
 use Rattle.std.proofs.Common.{◌≡◌, ◌∙◌, ap, sym, Some, refl, rules, w32, FitsSigned}
 use Rattle.std.proofs.lemmas.Int.{to_z-of_z}
-use Rattle.sb_model.specs.declared.face.FaceKind.TheVariants as kind
-use Rattle.sb_model.specs.Corners.{corners_of_kind}
-use Rattle.sb_model.proofs.outline.outline_of.Goals as goal
+use Rattle.sb_model.specs.declared.faces.face.FaceKind.TheVariants as kind
+use Rattle.sb_model.specs.Surfaces.Corners.{corners_of_kind}
+use Rattle.sb_model.proofs.patches.outline.outline_of.Goals as goal
 
 pub returns-in-Bottom : goal.returns-in-Bottom
 returns-in-Bottom c =

@@ -2,8 +2,8 @@ use Rattle.std.proofs.Common.{◌∙◌, ap, ap₂, ◌-ℤ◌, ◌*ℤ◌}
 use Rattle.sb_fraction.specs.Edges.{edge}
 use Rattle.sb_fraction.specs.Lines.{arrow_along, flat}
 use Rattle.sb_fraction.specs.Directions.{direction_of, offset_of}
-use Rattle.sb_model.specs.Corners.{corners_along}
-use Rattle.sb_model.proofs.outline.over_edge.Goals as goal
+use Rattle.sb_model.specs.Surfaces.Corners.{corners_along}
+use Rattle.sb_model.proofs.patches.outline.over_edge.Goals as goal
 
 pub returns : goal.returns
 unfolding offset_of

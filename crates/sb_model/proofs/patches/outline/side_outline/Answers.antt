@@ -2,7 +2,7 @@ use Rattle.std.proofs.Common.{◌∙◌, ap, sym}
 use Rattle.std.specs.Option.{option_map}
 use Rattle.sb_fraction.specs.Edges.{edge}
 use Rattle.sb_model.proofs.EdgesOfSides.{ends_are_apart}
-use Rattle.sb_model.proofs.outline.side_outline.Goals as goal
+use Rattle.sb_model.proofs.patches.outline.side_outline.Goals as goal
 
 pub over_edge-requires-clause-apart : goal.over_edge-requires-clause-apart
 over_edge-requires-clause-apart c =
